@@ -1,0 +1,92 @@
+-- The published step rules 1a, 1b, 2a, 2b (source document 001, Figures 4 to 6), as document 01 narrows them: a relation, over
+-- whom a body notifies. `RulesDecided` shows that the step of `Machine` takes a frame exactly where this relation does.
+use Prim.Native.Nat.{ℕ, suc, _+_, _<_}
+use mathlib.Core.Path.{_≡_}
+use mathlib.Core.Bool.{Bool, true, false}
+use mathlib.Core.Logic.{_⊎_, _↔_}
+use mathlib.Core.List.{List, [], _∷_}
+use Rattle.machine.specs.Machine.{Place, idle, waiting, due, Monitor, Frame, Config, threads, ahead}
+use Rattle.machine.specs.Table.{Entry, entry}
+
+-- a set of threads to notify: by the state after a body, the places then and the region that ran
+abbrev pub Notices : Type 1
+Notices = ℕ → (ℕ → Place) → ℕ → ℕ → Type 0
+
+module _ (m : Monitor) where
+  -- thread u waits at a region whose guard is g: in the source, one of Events(B, g)
+  unfoldable pub Waits : (ℕ → Place) → ℕ → ℕ → Type 0
+  Waits p g u = (w : ℕ) × (p u ≡ waiting w) × (m .guardOf w ≡ g)
+
+  -- no thread of a set stands ahead of t: the source's min, among those of one guard
+  unfoldable pub First : (ℕ → Place) → (ℕ → Type 0) → ℕ → Type 0
+  First p among t = (u : ℕ) → u < threads → among u → ahead p u t ≡ true → ⊥
+
+  -- Figure 4: whom the plain machine notifies
+  unfoldable pub PlainNotices : Notices
+  PlainNotices s p r u = (g : ℕ) × Waits p g u × (m .holds g s ≡ true)
+
+  -- Figure 6: GetSignals and GetBroadcasts of a table
+  unfoldable pub TableNotices : (ℕ → ℕ → Entry) → Notices
+  TableNotices e s p r u =
+      (g : ℕ) × Waits p g u × (a b : Bool) × (e r g ≡ entry a b)
+      × ((a ≡ true) ⊎ (m .holds g s ≡ true)) × ((b ≡ true) ⊎ First p (Waits p g) u)
+
+  -- where a thread may be next (13), and that nobody else is due
+  unfoldable pub MayBeAt : Place → ℕ → Type 0
+  MayBeAt idle r = (r < m .regions) × (m .begins r ≡ true)
+  MayBeAt (waiting w) r = w ≡ r
+  MayBeAt (due w) r = w ≡ r
+
+  pub record May (p : ℕ → Place) (f : Frame) : Type 0 where
+    pub nobody-due : (u r : ℕ) → u < threads → (u ≡ f .thread → ⊥) → p u ≡ due r → ⊥
+    pub at-region : MayBeAt (p (f .thread)) (f .region)
+
+  unfoldable pub Waiting : Place → Type 0
+  Waiting q = (w : ℕ) × (q ≡ waiting w)
+
+  -- after a frame of thread t, t is at q and nobody else has moved
+  pub record Moved (p p′ : ℕ → Place) (t : ℕ) (q : Place) : Type 0 where
+    pub own-place : p′ t ≡ q
+    pub others : (u : ℕ) → (u ≡ t → ⊥) → p′ u ≡ p u
+
+  -- exactly those of a set are notified
+  unfoldable pub NotifiedAre : (ℕ → Bool) → (ℕ → Type 0) → Type 0
+  NotifiedAre n who = (u : ℕ) → (n u ≡ true) ↔ who u
+
+  -- the other threads that were notified before
+  unfoldable pub OthersOf : (ℕ → Bool) → ℕ → ℕ → Type 0
+  OthersOf n t u = (u ≡ t → ⊥) × (n u ≡ true)
+
+  module _ (notices : Notices) where
+    -- what a body's frame leads to, in 2a and 2b
+    pub record Body (c : Config) (f : Frame) (c′ : Config) : Type 0 where
+      pub state : c′ .state ≡ m .after (f .region) (c .state)
+      pub places : Moved (c .place) (c′ .place) (f .thread) (m .follows (f .region))
+      pub notified :
+          NotifiedAre (c′ .notified)
+          (λ u. OthersOf (c .notified) (f .thread) u ⊎ notices (c′ .state) (c′ .place) (f .region) u)
+
+    pub data Rule (c : Config) (f : Frame) (c′ : Config) : Type 0 where
+      rule-1a :
+          May (c .place) f → f .flag ≡ false → m .holds (m .guardOf (f .region)) (c .state) ≡ false
+          → (Waiting (c .place (f .thread)) → ⊥)
+          → c′ .state ≡ c .state → Moved (c .place) (c′ .place) (f .thread) (waiting (f .region))
+          → NotifiedAre (c′ .notified) (λ u. c .notified u ≡ true) → Rule c f c′
+      rule-1b :
+          May (c .place) f → f .flag ≡ false → m .holds (m .guardOf (f .region)) (c .state) ≡ false
+          → Waiting (c .place (f .thread)) → c .notified (f .thread) ≡ true
+          → c′ .state ≡ c .state → ((u : ℕ) → c′ .place u ≡ c .place u)
+          → NotifiedAre (c′ .notified) (OthersOf (c .notified) (f .thread)) → Rule c f c′
+      rule-2a :
+          May (c .place) f → f .flag ≡ true → m .holds (m .guardOf (f .region)) (c .state) ≡ true
+          → (Waiting (c .place (f .thread)) → ⊥) → Body c f c′ → Rule c f c′
+      rule-2b :
+          May (c .place) f → f .flag ≡ true → m .holds (m .guardOf (f .region)) (c .state) ≡ true
+          → Waiting (c .place (f .thread)) → c .notified (f .thread) ≡ true
+          → First (c .place) (λ u. Waits (c .place) (m .guardOf (f .region)) u × (c .notified u ≡ true)) (f .thread)
+          → Body c f c′ → Rule c f c′
+
+    -- frames allowed one after the other (the source's rule 3 and its closure)
+    pub data Rules : Config → List Frame → Config → Type 0 where
+      no-more : {c : Config} → Rules c [] c
+      one-more : {c d c′ : Config} {f : Frame} {fs : List Frame} → Rule c f d → Rules d fs c′ → Rules c (f ∷ fs) c′

@@ -1,0 +1,9 @@
+pub mod Value
+pub mod State
+pub mod Check
+pub mod Model
+pub mod Trace
+pub mod Calls
+pub mod Lines
+pub mod Accepting
+pub mod Examples

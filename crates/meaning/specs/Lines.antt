@@ -1,0 +1,55 @@
+-- What the programs print ("Program lines").
+use Prim.Native.Nat.{ℕ, _+_, _/_, _%_}
+use mathlib.Core.List.{List, [], _∷_, _++_}
+use lib.ListN.{take}
+use lib.IntN.{ℤ, pos, _+ℤ_, natAbs}
+use Rattle.syntax.specs.Tree.{Monitor}
+use Rattle.machine.specs.Machine.{Place, idle, waiting, due}
+use Rattle.meaning.specs.State.{starts, numberOf}
+use Rattle.meaning.specs.Check.{Answer, Verdict, accepted, refused, check}
+use Rattle.meaning.specs.Model.{vars, model, hex2, tableOf}
+use Rattle.meaning.specs.Calls.{Machine, plain-machine, table-machine, Record, Running, ran, not-run, runFrom}
+
+unfoldable pub hex4 : ℕ → List ℕ
+hex4 n = hex2 (n / 256) ++ hex2 (n % 256)
+
+-- "A refusal line has two, four and four such digits"
+unfoldable pub refusalLine : Answer → List ℕ
+refusalLine a = hex2 (a .number) ++ (hex4 (a .first) ++ (hex4 (a .second) ++ (10 ∷ [])))
+
+-- "FF idle, 00 to 0F waiting at that region, 10 to 1F due at that region plus 16"
+unfoldable pub placeByte : Place → ℕ
+placeByte idle = 255
+placeByte (waiting r) = r
+placeByte (due r) = r + 16
+
+-- "each value plus 128"
+unfoldable pub valueDigits : List ℤ → List ℕ
+valueDigits [] = []
+valueDigits (a ∷ as′) = hex2 (natAbs (a +ℤ pos 128)) ++ valueDigits as′
+
+unfoldable pub placeDigits : List Place → List ℕ
+placeDigits [] = []
+placeDigits (p ∷ ps) = hex2 (placeByte p) ++ placeDigits ps
+
+unfoldable pub recordLine : Record → List ℕ
+recordLine r = hex2 0 ++ (valueDigits (r .values) ++ (placeDigits (r .places) ++ (10 ∷ [])))
+
+unfoldable pub runLine : Running → List ℕ
+runLine (ran r) = recordLine r
+runLine (not-run a) = refusalLine a
+
+-- a machine's line for a trace, from the start values
+unfoldable pub machineLine : Monitor → Machine → List ℕ → List ℕ
+machineLine m w trace = runLine (runFrom m w (numberOf (vars m) (starts (vars m))) trace)
+
+unfoldable pub placer : List ℕ → List ℕ
+placer file = elim (check file) [ accepted m ↦ tableOf (model m) | refused a ↦ refusalLine a ]
+
+-- "it judges a longer trace by its first 65,536 bytes"
+unfoldable pub runner : List ℕ → List ℕ → List ℕ
+runner file trace =
+    elim (check file) [
+      | accepted m ↦ machineLine m plain-machine (take 65536 trace) ++ machineLine m table-machine (take 65536 trace)
+      | refused a ↦ refusalLine a
+    ]

@@ -1,0 +1,140 @@
+-- Guards and when two are one, the monitor of a file freed from its syntax, and the lines of its table.
+use Prim.Native.Nat.{ℕ, zero, suc, _+_, _-_, _/_, _%_}
+use mathlib.Core.Bool.{Bool, true, false, _&&_, _||_}
+use mathlib.Core.List.{List, [], _∷_, _++_}
+use mathlib.Core.Option.{Option, none, some}
+use lib.ListN.{length, getD}
+use lib.Dec.{eqb, ltb, leb}
+use lib.IntN.{ℤ}
+use Rattle.syntax.specs.Bytes.{sameBytes}
+use Rattle.syntax.specs.Token.{Lexeme, name, key, number, mark, isMark, isKey}
+use Rattle.syntax.specs.Tree.{Cond, only, just, constant, end, Region, Method, Var, Monitor, all, spellCond}
+use Rattle.machine.specs.Machine as machine
+use Rattle.machine.specs.Table.{Entry, entry, entryOf}
+use Rattle.machine.specs.Table as table
+use Rattle.meaning.specs.Value.{truth, runBlock}
+use Rattle.meaning.specs.State.{count, stateAt, numberOf}
+use Rattle.meaning.specs.Check.{regionsOf}
+
+unfoldable pub sameLexeme : Lexeme → Lexeme → Bool
+sameLexeme (name x) l = elim l [ name y ↦ sameBytes x y | key k ↦ false | number n ↦ false | mark m ↦ false ]
+sameLexeme (key k) l = isKey k l
+sameLexeme (number n) l = elim l [ name y ↦ false | key k ↦ false | number o ↦ eqb n o | mark m ↦ false ]
+sameLexeme (mark m) l = isMark m l
+
+unfoldable pub sameLexemes : List Lexeme → List Lexeme → Bool
+sameLexemes [] [] = true
+sameLexemes [] (l ∷ ls) = false
+sameLexemes (k ∷ ks) [] = false
+sameLexemes (k ∷ ks) (l ∷ ls) = sameLexeme k l && sameLexemes ks ls
+
+-- "Two guards (a region's condition) are one when their tokens are equal, numbers by value"
+unfoldable pub sameGuard : Cond → Cond → Bool
+sameGuard c d = sameLexemes (spellCond c) (spellCond d)
+
+-- the place of a guard in a list, and the list's length where it is not there
+unfoldable pub placeIn : Cond → List Cond → ℕ
+placeIn c [] = 0
+placeIn c (d ∷ ds) = elim (sameGuard c d) [ true ↦ 0 | false ↦ suc (placeIn c ds) ]
+
+-- "guards are numbered from 0 by first appearance": those found so far, and then those of more regions
+unfoldable pub guardsOf : List Cond → List Region → List Cond
+guardsOf found [] = found
+guardsOf found (r ∷ rs) =
+    elim (ltb (placeIn (r .guard) found) (length found))
+    [ true ↦ guardsOf found rs | false ↦ guardsOf (found ++ (r .guard ∷ [])) rs ]
+
+-- does region r begin a method; does another region follow it in its method
+unfoldable pub beginsIn : List Method → ℕ → Bool
+beginsIn [] r = false
+beginsIn (x ∷ ms) r =
+    eqb r 0 || (leb (length (all (x .regions))) r && beginsIn ms (r - length (all (x .regions))))
+
+unfoldable pub goesOnIn : List Method → ℕ → Bool
+goesOnIn [] r = false
+goesOnIn (x ∷ ms) r =
+    elim (ltb r (length (all (x .regions))))
+    [ true ↦ ltb (r + 1) (length (all (x .regions))) | false ↦ goesOnIn ms (r - length (all (x .regions))) ]
+
+-- what stands for a region and a guard that the file lacks: a guard that never holds
+unfoldable pub noGuard : Cond
+noGuard = only (just (constant false))
+
+unfoldable pub noRegion : Region
+noRegion = record { guard = noGuard; body = end }
+
+-- the number of the state after a body; the state's own where it faults, which an accepted file has at no state that counts
+unfoldable pub numberAfter : List Var → ℕ → Option (List ℤ) → ℕ
+numberAfter vs n none = n
+numberAfter vs n (some as′) = numberOf vs as′
+
+module _ (m : Monitor) where
+  abbrev pub vars : List Var
+  vars = all (m .vars)
+
+  unfoldable pub regions : List Region
+  regions = regionsOf (all (m .methods))
+
+  unfoldable pub guards : List Cond
+  guards = guardsOf [] regions
+
+  unfoldable pub region : ℕ → Region
+  region r = getD regions r noRegion
+
+  unfoldable pub guardOf : ℕ → ℕ
+  guardOf r = placeIn (region r .guard) guards
+
+  unfoldable pub holds : ℕ → ℕ → Bool
+  holds g n = truth (getD guards g noGuard) vars (stateAt vars n)
+
+  -- the kept condition
+  unfoldable pub kept : ℕ → Bool
+  kept n = ltb n (count vars) && truth (m .keep) vars (stateAt vars n)
+
+  unfoldable pub after : ℕ → ℕ → ℕ
+  after r n = numberAfter vars n (runBlock (region r .body) vars (stateAt vars n))
+
+  -- "due at the method's next region, or idle"
+  unfoldable pub follows : ℕ → machine.Place
+  follows r = elim (goesOnIn (all (m .methods)) r) [ true ↦ machine.due (r + 1) | false ↦ machine.idle ]
+
+  unfoldable pub model : machine.Monitor
+  model =
+      record {
+        states = count vars;
+        regions = length regions;
+        guards = length guards;
+        guardOf = guardOf;
+        holds = holds;
+        after = after;
+        kept = kept;
+        begins = beginsIn (all (m .methods));
+        follows = follows;
+      }
+
+-- The table's lines
+
+-- one of the digits 0-9 and A-F
+unfoldable pub hexDigit : ℕ → ℕ
+hexDigit n = elim (ltb n 10) [ true ↦ n + 48 | false ↦ n + 55 ]
+
+unfoldable pub hex2 : ℕ → List ℕ
+hex2 n = hexDigit (n / 16) ∷ hexDigit (n % 16) ∷ []
+
+unfoldable pub hexBool : Bool → List ℕ
+hexBool true = hex2 1
+hexBool false = hex2 0
+
+-- "region, guard, 01 unconditional or 00 conditional, 01 broadcast or 00 signal, two digits each"
+unfoldable pub entryLine : ℕ → ℕ → Entry → List ℕ
+entryLine r g table.none = []
+entryLine r g (entry a b) = hex2 r ++ (hex2 g ++ (hexBool a ++ (hexBool b ++ (10 ∷ []))))
+
+-- what a function gives for each of n numbers from k on, joined
+unfoldable pub forEach : ℕ → ℕ → (ℕ → List ℕ) → List ℕ
+forEach zero k f = []
+forEach (suc n) k f = f k ++ forEach n (k + 1) f
+
+-- "For each region and each guard, in that order"
+unfoldable pub tableOf : machine.Monitor → List ℕ
+tableOf m = forEach (m .regions) 0 (λ r. forEach (m .guards) 0 (λ g. entryLine r g (entryOf m r g)))

@@ -1,0 +1,31 @@
+-- States and their numbers: "A state gives each variable a value in its range. Its number counts mixed-radix, each value less its
+-- lowest, the first variable weighing most."
+use Prim.Native.Nat.{ℕ, zero, suc, _+_, _*_, _/_, _%_}
+use mathlib.Core.List.{List, [], _∷_}
+use lib.IntN.{ℤ, pos, _+ℤ_, _-ℤ_, natAbs}
+use Rattle.syntax.specs.Tree.{Var}
+use Rattle.meaning.specs.Value.{intOf}
+
+-- how many values a range has, where its bounds are in order
+unfoldable pub size : Var → ℕ
+size v = natAbs (intOf (v .high) -ℤ intOf (v .low)) + 1
+
+unfoldable pub count : List Var → ℕ
+count [] = 1
+count (v ∷ vs) = size v * count vs
+
+-- the values of the state with a number
+unfoldable pub stateAt : List Var → ℕ → List ℤ
+stateAt [] n = []
+stateAt (v ∷ vs) n = (intOf (v .low) +ℤ pos (n / count vs)) ∷ stateAt vs (n % count vs)
+
+-- the number of the state with some values
+unfoldable pub numberOf : List Var → List ℤ → ℕ
+numberOf [] as′ = 0
+numberOf (v ∷ vs) [] = 0
+numberOf (v ∷ vs) (a ∷ as′) = natAbs (a -ℤ intOf (v .low)) * count vs + numberOf vs as′
+
+-- the start values
+unfoldable pub starts : List Var → List ℤ
+starts [] = []
+starts (v ∷ vs) = intOf (v .start) ∷ starts vs

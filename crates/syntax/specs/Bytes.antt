@@ -1,0 +1,54 @@
+-- Bytes: the classes that document 01 names, texts as bytes, and what stands at the front of a list of bytes.
+use Prim.Native.Nat.{ℕ, suc, _+_, _*_, _-_}
+use Prim.Native.Char.{Char, code}
+use Prim.Native.String.{String}
+use Prim.Native.String as text
+use mathlib.Core.Bool.{Bool, true, false, _&&_, _||_}
+use mathlib.Core.List.{List, [], _∷_}
+use lib.Dec.{leb, eqb}
+
+-- the bytes of a quoted text
+unfoldable pub bytes : String → List ℕ
+bytes text.[] = []
+bytes (text._∷_ c s) = code c ∷ bytes s
+
+unfoldable pub between : Char → Char → ℕ → Bool
+between a z b = leb (code a) b && leb b (code z)
+
+-- "free between tokens": 09, 0A, 0D, 20
+unfoldable pub blank : ℕ → Bool
+blank b = eqb b 9 || eqb b 10 || eqb b 13 || eqb b 32
+
+-- "a letter (A-Z, a-z)"
+unfoldable pub letter : ℕ → Bool
+letter b = between "A" "Z" b || between "a" "z" b
+
+unfoldable pub digit : ℕ → Bool
+digit b = between "0" "9" b
+
+-- "letters, digits or _"
+unfoldable pub wordByte : ℕ → Bool
+wordByte b = letter b || digit b || eqb b (code "_")
+
+-- how many bytes at the front pass a test
+unfoldable pub leading : (ℕ → Bool) → List ℕ → ℕ
+leading p [] = 0
+leading p (b ∷ bs) = elim (p b) [ true ↦ suc (leading p bs) | false ↦ 0 ]
+
+-- the value of decimal digits, with what stands before them
+unfoldable pub decimal : ℕ → List ℕ → ℕ
+decimal n [] = n
+decimal n (b ∷ bs) = decimal (n * 10 + (b - code "0")) bs
+
+-- "compared byte for byte"
+unfoldable pub sameBytes : List ℕ → List ℕ → Bool
+sameBytes [] [] = true
+sameBytes [] (b ∷ bs) = false
+sameBytes (a ∷ as′) [] = false
+sameBytes (a ∷ as′) (b ∷ bs) = eqb a b && sameBytes as′ bs
+
+-- the first list begins the second
+unfoldable pub startsWith : List ℕ → List ℕ → Bool
+startsWith [] bs = true
+startsWith (a ∷ as′) [] = false
+startsWith (a ∷ as′) (b ∷ bs) = eqb a b && startsWith as′ bs

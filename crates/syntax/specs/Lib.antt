@@ -1,0 +1,4 @@
+pub mod Bytes
+pub mod Token
+pub mod Tree
+pub mod Reading
