@@ -1,3 +1,13 @@
 pub mod Machine
 pub mod Table
 pub mod Rules
+pub mod Sets
+pub mod Line
+pub mod Tests
+pub mod RulesDecided
+pub mod Entries
+pub mod Rechecks
+pub mod Points
+pub mod Simulation
+pub mod Agreement
+pub mod Held

@@ -1,5 +1,8 @@
 -- Tests taken apart: what a true or false conjunction and negation say, and the two cases of a test.
-use mathlib.Core.Path.{_≡_, refl, sym}
+use Prim.Native.Nat.{ℕ}
+use native.Mathlib.Omega.{arith}
+use mathlib.Core.Option.{Option, none, some}
+use mathlib.Core.Path.{_≡_, refl}
 use mathlib.Core.Bool.{Bool, true, false, not, _&&_, true≢false, false≢true}
 
 pub both : (a b : Bool) → a && b ≡ true → (a ≡ true) × (b ≡ true)
@@ -34,3 +37,7 @@ is-false {b = false} h = refl
 pub is-true : {b : Bool} → (b ≡ false → ⊥) → b ≡ true
 is-true {b = true} h = refl
 is-true {b = false} h = absurd (h refl)
+
+-- nothing is not something
+pub no-some {ℓ} : {A : Type 0} {C : Type ℓ} {a : A} → _≡_ {A = Option A} none (some a) → C
+no-some e = absurd (let z : _≡_ {A = ℕ} 0 1 = cc in omega arith)

@@ -1,5 +1,5 @@
--- Refusals 3, 5 and 6 name the first token that offends. One law for a pass that carries a summary of the tokens before, and its three uses.
-use Prim.Native.Nat.{ℕ, suc, _+_, _≤_, _<_}
+-- Refusals 3, 5 and 6 name the first token that offends: one law for a pass that carries a summary of the tokens before, used three times.
+use Prim.Native.Nat.{ℕ, suc, _+_, _≤_}
 use native.Mathlib.Omega.{arith}
 use mathlib.Core.Path.{_≡_, refl, sym, ap, _∙_}
 use mathlib.Core.Bool.{Bool, true, false, _&&_, _||_, not, false≢true, or-assoc}
@@ -13,7 +13,8 @@ use Rattle.syntax.specs.Bytes.{sameBytes}
 use Rattle.syntax.specs.Token.{Lexeme, name, key, number, mark, Keyword, k-monitor, k-var, k-method, k-waituntil, Token, isKey}
 use Rattle.meaning.specs.Check.{opens, closes, tally, crowded, pastLimit, member, misnamed}
 use Rattle.meaning.specs.Accepting.{NoneOffends, FirstOffends, howMany, Crowded, PastLimit, Behind, Declared, Misnamed}
-use Rattle.meaning.specs.Same.{different, Decides, split, clash, untrue, decides-and, decides-or, decides-by, decides-leb, decides-same, decides-key}
+use Rattle.meaning.specs.Bools.{split, clash}
+use Rattle.meaning.specs.Same.{different, Decides, decides-and, decides-or, decides-by, decides-leb, decides-same, decides-key}
 
 -- Two places in one list: the same, or one stands before the other
 
@@ -64,7 +65,8 @@ module _ (Offends : List Token → Token → Type 0) where
   unfolding FirstOffends NoneOffends
   none-or-first ts k n (b, a, t, e, o, p, m) = n b a t e o
 
-  none-more : (before : List Token) (t : Token) → NoneOffends Offends before → (Offends before t → ⊥) → NoneOffends Offends (before ++ (t ∷ []))
+  none-more : (before : List Token) (t : Token) → NoneOffends Offends before → (Offends before t → ⊥)
+      → NoneOffends Offends (before ++ (t ∷ []))
   unfolding NoneOffends
   none-more before t n h b a u e o = ⊎-elim
       (λ p. h (rw (p .0, p .1) o))
@@ -161,7 +163,8 @@ limiting =
       find = λ s ts. pastLimit (s .0) (s .1) (s .2) ts;
       test = λ s t. (isKey k-var (t .lexeme) && leb 6 (s .0)) || (isKey k-method (t .lexeme) && leb 8 (s .1))
           || (isKey k-waituntil (t .lexeme) && leb 16 (s .2));
-      update = λ s t. (tally (isKey k-var (t .lexeme)) (s .0), tally (isKey k-method (t .lexeme)) (s .1), tally (isKey k-waituntil (t .lexeme)) (s .2));
+      update = λ s t.
+          (tally (isKey k-var (t .lexeme)) (s .0), tally (isKey k-method (t .lexeme)) (s .1), tally (isKey k-waituntil (t .lexeme)) (s .2));
       Sums = λ s before. s ≡ (howMany (isKey k-var) before, howMany (isKey k-method) before, howMany (isKey k-waituntil) before);
       at-end = λ s. refl;
       at-token = λ s t ts. refl;
@@ -189,7 +192,10 @@ unfolding Behind
 behind-more k before t = ((λ e. (before, t, refl, e)), back)
   where
     back : (front : List Token) × (u : Token) × (before ++ (t ∷ []) ≡ front ++ (u ∷ [])) × (u .lexeme ≡ key k) → t .lexeme ≡ key k
-    back (front, u, e, h) = ⊎-elim (λ p. ap (λ (v : Token). v .lexeme) (p .1) ∙ h) (λ p. absurd (no-more (p .0) t [] (p .2))) (last-or-before before t front u [] e)
+    back (front, u, e, h) = ⊎-elim
+        (λ p. ap (λ (v : Token). v .lexeme) (p .1) ∙ h)
+        (λ p. absurd (no-more (p .0) t [] (p .2)))
+        (last-or-before before t front u [] e)
 
 declared-more : (k : Keyword) (x : List ℕ) (before : List Token) (t : Token)
     → (Declared k x before ⊎ (Behind k before × (t .lexeme ≡ name x))) ↔ Declared k x (before ++ (t ∷ []))
@@ -306,7 +312,8 @@ finds s at (number n) ts = refl
 finds s at (mark m) ts = refl
 finds s at (name x) ts = picked _ _ _ _ _ (one-keyword (s .0)) (some at) (λ vs ms. misnamed (name x) vs ms ts) x (s .1) (s .2)
 
-judges : (s : Summary) (before : List Token) (t : Token) (l : Lexeme) → Names s before → t .lexeme ≡ l → Decides (wrongly s l) (Misnamed before t)
+judges : (s : Summary) (before : List Token) (t : Token) (l : Lexeme) → Names s before → t .lexeme ≡ l
+    → Decides (wrongly s l) (Misnamed before t)
 unfolding wrongly Misnamed
 judges s before t (name x) n e = decides-by ((λ p. (x, e, p)), λ p. let f = p .1 in let q : p .0 ≡ x = cc in rw q at (p .2))
     (wrong-decides _ _ _ _ _ (n .last k-var) (n .last k-method) (n .last k-monitor) (n .vars x) (n .methods x)

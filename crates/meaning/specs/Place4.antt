@@ -1,9 +1,9 @@
 -- Refusal 4's place: the tokens left where reading stops begin with the first token after which no file of the grammar can follow, and there are none where the file ends early.
-use Prim.Native.Nat.{ℕ, suc, _+_, _-_}
+use Prim.Native.Nat.{ℕ, suc, _-_}
 use native.Mathlib.Omega.{arith}
 use mathlib.Core.Path.{_≡_, refl, sym, ap, _∙_}
 use mathlib.Core.List.{List, [], _∷_, _++_, append-assoc}
-use lib.ListN.{length, length-append, drop, drop-of-length-le}
+use lib.ListN.{length, length-append, drop-of-length-le}
 use lib.Seq.{drop-at}
 use Rattle.syntax.specs.Token.{Lexeme, Token, lexemes}
 use Rattle.syntax.specs.Tree.{Viable}

@@ -1,8 +1,8 @@
 -- Tests that decide: Boolean joins, equal bytes, and a lexeme that is a given keyword or mark. Keywords and marks are found again from their numbers.
-use Prim.Native.Nat.{ℕ, suc, _≤_}
+use Prim.Native.Nat.{ℕ, _≤_}
 use native.Mathlib.Omega.{arith}
-use mathlib.Core.Path.{_≡_, refl, sym, ap, _∙_}
-use mathlib.Core.Bool.{Bool, true, false, _&&_, _||_, not, true≢false, false≢true}
+use mathlib.Core.Path.{_≡_, refl}
+use mathlib.Core.Bool.{Bool, true, false, _&&_, _||_, false≢true}
 use mathlib.Core.Logic.{_⊎_, inl, inr, ⊎-elim, _↔_}
 use mathlib.Core.List.{List, [], _∷_}
 use lib.ListN.{getD}
@@ -18,18 +18,6 @@ different e = absurd (omega arith)
 -- a test is true exactly when something holds
 abbrev pub Decides : Bool → Type 0 → Type 0
 Decides b A = (b ≡ true) ↔ A
-
-pub split {ℓ} : {C : Type ℓ} (b : Bool) → (b ≡ true → C) → (b ≡ false → C) → C
-split true f g = f refl
-split false f g = g refl
-
-pub clash {ℓ} : {C : Type ℓ} {b : Bool} → b ≡ true → b ≡ false → C
-clash {b = true} p q = absurd (true≢false q)
-clash {b = false} p q = absurd (false≢true p)
-
-pub untrue : (b : Bool) → (b ≡ true → ⊥) → b ≡ false
-untrue true h = absurd (h refl)
-untrue false h = refl
 
 pub decides-and : {A B : Type 0} (a b : Bool) → Decides a A → Decides b B → Decides (a && b) (A × B)
 decides-and true b f g = (λ h. (f .0 refl, g .0 h), λ p. g .1 (p .1))

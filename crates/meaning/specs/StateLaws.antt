@@ -1,11 +1,11 @@
 -- States and their numbers match one to one, by induction on the variables: below the count of states each number has its state, and each state a number.
-use Prim.Native.Nat.{ℕ, zero, suc, _+_, _*_, _/_, _%_, _<_, _≤_}
+use Prim.Native.Nat.{ℕ, _+_, _*_, _/_, _%_, _<_}
 use native.Mathlib.Omega.{arith}
 use native.Mathlib.Nat.{div-add-mod', mod-lt, div-lt-iff-lt-mul, mul-add-div-right, mul-add-mod-self-right, mod-eq-of-lt, div-eq-of-lt, mul-pos, mul-le-mul-right, suc-mul, add-zero}
-use mathlib.Core.Path.{_≡_, refl, sym, ap, ap₂, _∙_}
+use mathlib.Core.Path.{_≡_, refl, ap₂, _∙_}
 use mathlib.Core.Bool.{true, false}
 use mathlib.Core.List.{List, [], _∷_}
-use lib.IntN.{ℤ, pos, natAbs, _+ℤ_, _-ℤ_}
+use lib.IntN.{ℤ, natAbs, _-ℤ_}
 use Rattle.syntax.specs.Tree.{Var}
 use Rattle.meaning.specs.Value.{intOf, inRange, less}
 use Rattle.meaning.specs.State.{size, count, stateAt, numberOf, starts}
@@ -55,8 +55,15 @@ unfolding stateAt numberOf
 state-at-number no-vars no-values = refl
 state-at-number (one-var {v} {vs} g gs) (one-value {a = a} {as′ = as′} r s) =
     let below = number-below gs s in
-    rw (mul-add-div-right (count-pos vs), div-eq-of-lt below, add-zero, mul-add-mod-self-right, mod-eq-of-lt below,
-    ← up-of-in-range v (low-to-high g) a r, state-at-number gs s)
+    rw (
+      mul-add-div-right (count-pos vs),
+      div-eq-of-lt below,
+      add-zero,
+      mul-add-mod-self-right,
+      mod-eq-of-lt below,
+      ← up-of-in-range v (low-to-high g) a r,
+      state-at-number gs s,
+    )
 
 start-in-range : (v : Var) → GoodRange v → inRange v (intOf (v .start)) ≡ true
 unfolding AtMost inRange

@@ -1,0 +1,143 @@
+-- The table's entries are those of Algorithm 1 (source document 001): each entry stands, is unconditional and is a signal exactly
+-- where the algorithm's triples say so, over every state that meets the kept condition. By the laws of `any` over state numbers.
+use Prim.Native.Nat.{ℕ, _<_}
+use native.Mathlib.Omega.{arith}
+use mathlib.Core.Path.{_≡_, sym, ap, _∙_}
+use mathlib.Core.Bool.{Bool, true, false, not, _&&_, _||_, and-eq-true-iff}
+use mathlib.Core.Logic.{_↔_, ⊎-elim, Iff·rfl, Iff·trans}
+use lib.Dec.{eqb}
+use borrow.Author.Tests.{not-true}
+use Rattle.machine.specs.Machine.{Monitor}
+use Rattle.machine.specs.Table.{none, entry, runs, someMove, everyMove, stands, unconditional, broadcast, entryOf}
+use Rattle.machine.specs.Sets.{split, clash, not-true-false, either, or-left, or-right, both-iff, not-iff, eq-iff, any-iff}
+
+module _ (m : Monitor) where
+  -- a guard's truth in a state, as a condition
+  unfoldable pub Holds : ℕ → ℕ → Type 0
+  Holds g s = m .holds g s ≡ true
+
+  unfoldable pub Fails : ℕ → ℕ → Type 0
+  Fails g s = m .holds g s ≡ false
+
+  -- the body of region r may run from state s
+  pub record Runs (r s : ℕ) : Type 0 where
+    pub is-kept : m .kept s ≡ true
+    pub guard : Holds (m .guardOf r) s
+
+  -- {kept condition ∧ Guard(r) ∧ P} Body(r) {Q}
+  unfoldable pub Triple : ℕ → (ℕ → Type 0) → (ℕ → Type 0) → Type 0
+  Triple r P Q = (s : ℕ) → Runs r s → P s → Q (m .after r s)
+
+  -- "from some state with the region's guard true and the other guard false, the body makes the other guard true"
+  pub record Stands (r g : ℕ) : Type 0 where
+    pub from : ℕ
+    pub may-run : Runs r from
+    pub before : Fails g from
+    pub after : Holds g (m .after r from)
+
+  -- "every region having that guard leaves it false from every state where it was true"
+  unfoldable pub Signals : ℕ → Type 0
+  Signals g = (w : ℕ) → w < m .regions → m .guardOf w ≡ g → Triple w (Holds g) (Fails g)
+
+  module _ (below : (s : ℕ) → m .kept s ≡ true → s < m .states) where
+    runs-iff : (r s : ℕ) → (runs m r s ≡ true) ↔ Runs r s
+    unfolding runs Holds
+    runs-iff r s =
+        Iff·trans (and-eq-true-iff (m .kept s) (m .holds (m .guardOf r) s))
+        (λ h. record { is-kept = h .0; guard = h .1 }, λ h. (h .is-kept, h .guard))
+
+    -- some move of region r, from s to s′, of those that a test tells
+    module _ (r : ℕ) (test : ℕ → ℕ → Bool) {P : ℕ → Type 0} (tells : (s : ℕ) → (test s (m .after r s) ≡ true) ↔ P s) where
+      some-move-iff : (someMove m r test ≡ true) ↔ ((s : ℕ) × Runs r s × P s)
+      unfolding someMove
+      some-move-iff =
+          Iff·trans
+          (any-iff (m .states) (λ s. runs m r s && test s (m .after r s))
+          (λ s. both-iff (runs m r s) (test s (m .after r s)) (runs-iff r s) (tells s)))
+          (λ x. (x .0, x .2 .0, x .2 .1), λ x. (x .0, below (x .0) (x .1 .is-kept), (x .1, x .2)))
+
+    every-move-iff : (r : ℕ) (test : ℕ → ℕ → Bool)
+        → (everyMove m r test ≡ true) ↔ ((s : ℕ) → Runs r s → test s (m .after r s) ≡ true)
+    unfolding everyMove
+    every-move-iff r test =
+        Iff·trans (not-iff (someMove m r (λ s s′. not (test s s′)))
+        (some-move-iff r (λ s s′. not (test s s′)) (λ s. not-iff (test s (m .after r s)) Iff·rfl))) (
+          λ h s x. split (test s (m .after r s)) (λ q. q) (λ q. absurd (h (s, x, λ k. clash k q))),
+          λ h x. x .2 (h (x .0) (x .1)),
+        )
+
+    stands-iff : (r g : ℕ) → (stands m r g ≡ true) ↔ Stands r g
+    unfolding stands Holds Fails
+    stands-iff r g =
+        Iff·trans
+        (some-move-iff r (λ s s′. not (m .holds g s) && m .holds g s′)
+        (λ s. both-iff (not (m .holds g s)) (m .holds g (m .after r s)) (not-true (m .holds g s), ap not) Iff·rfl)) (
+          λ x. record { from = x .0; may-run = x .1; before = x .2 .0; after = x .2 .1 },
+          λ x. (x .from, x .may-run, (x .before, x .after)),
+        )
+
+    unconditional-iff : (r g : ℕ) → (unconditional m r g ≡ true) ↔ Triple r (Fails g) (Holds g)
+    unfolding unconditional Triple Holds Fails
+    unconditional-iff r g =
+        Iff·trans (every-move-iff r (λ s s′. m .holds g s || m .holds g s′)) (
+          λ h s x k. ⊎-elim (λ y. clash y k) (λ y. y) (either (m .holds g s) (m .holds g (m .after r s)) (h s x)),
+          λ h s x. split (m .holds g s) (or-left (m .holds g s) (m .holds g (m .after r s)))
+              (λ q. or-right (m .holds g s) (m .holds g (m .after r s)) (h s x q)),
+        )
+
+    broadcast-iff : (g : ℕ)
+        → (broadcast m g ≡ true) ↔ ((w : ℕ) × (w < m .regions) × ((m .guardOf w ≡ g) × ((s : ℕ) × Runs w s × Holds g (m .after w s))))
+    unfolding broadcast Holds
+    broadcast-iff g =
+        any-iff (m .regions) (λ w. eqb (m .guardOf w) g && someMove m w (λ s s′. m .holds g s′))
+        (λ w. both-iff (eqb (m .guardOf w) g) (someMove m w (λ s s′. m .holds g s′)) (eq-iff (m .guardOf w) g)
+        (some-move-iff w (λ s s′. m .holds g s′) (λ s. Iff·rfl)))
+
+    pub signal-iff : (g : ℕ) → (broadcast m g ≡ false) ↔ Signals g
+    unfolding Signals Triple Holds Fails
+    signal-iff g = (
+      λ h w l e s x k. not-true-false (λ q. clash (broadcast-iff g .1 (w, l, (e, (s, x, q)))) h),
+      λ h. not-true-false (λ q.
+          let x = broadcast-iff g .0 q in
+          let y = x .2 .1 in
+          clash (y .2) (h (x .0) (x .1) (x .2 .0) (y .0) (y .1) (ap (λ (k : ℕ). m .holds k (y .0)) (sym (x .2 .0)) ∙ y .1 .guard))),
+    )
+
+    -- The entry of region r and guard g
+
+    pub entry-where : (r g : ℕ) → Stands r g → entryOf m r g ≡ entry (unconditional m r g) (broadcast m g)
+    unfolding entryOf
+    entry-where r g h = rw (stands-iff r g .1 h, entryOf)
+
+    none-where : (r g : ℕ) → (Stands r g → ⊥) → entryOf m r g ≡ none
+    unfolding entryOf
+    none-where r g h = let e : stands m r g ≡ false = not-true-false (λ q. h (stands-iff r g .0 q)) in rw (e, entryOf)
+
+    stands-where : (r g : ℕ) (a b : Bool) → entryOf m r g ≡ entry a b → Stands r g
+    stands-where r g a b e = split (stands m r g) (stands-iff r g .0) (λ q.
+        let z : _≡_ {A = ℕ} 0 1 = cc (none-where r g (λ h. clash (stands-iff r g .1 h) q)) in absurd (omega arith))
+
+    pub entry-stands : (r g : ℕ) → ((a b : Bool) × (entryOf m r g ≡ entry a b)) ↔ Stands r g
+    entry-stands r g = (λ x. stands-where r g (x .0) (x .1) (x .2), λ h. (unconditional m r g, broadcast m g, entry-where r g h))
+
+    pub entry-none : (r g : ℕ) → (entryOf m r g ≡ none) ↔ Triple r (Fails g) (Fails g)
+    unfolding Triple Holds Fails
+    entry-none r g = (
+      λ e s x k. not-true-false (λ q.
+          let h : Stands r g = record { from = s; may-run = x; before = k; after = q } in
+          let z : _≡_ {A = ℕ} 0 1 = cc (entry-where r g h) in absurd (omega arith)),
+      λ h. none-where r g (λ x. clash (x .after) (h (x .from) (x .may-run) (x .before))),
+    )
+
+    entry-parts : (r g : ℕ) (a b : Bool) → entryOf m r g ≡ entry a b → (a ≡ unconditional m r g) × (b ≡ broadcast m g)
+    entry-parts r g a b e = let k = entry-where r g (stands-where r g a b e) in (cc, cc)
+
+    pub entry-unconditional : (r g : ℕ) (a b : Bool) → entryOf m r g ≡ entry a b → (a ≡ true) ↔ Triple r (Fails g) (Holds g)
+    entry-unconditional r g a b e =
+        let k = entry-parts r g a b e .0 in
+        (λ h. unconditional-iff r g .0 (sym k ∙ h), λ h. k ∙ unconditional-iff r g .1 h)
+
+    pub entry-signal : (r g : ℕ) (a b : Bool) → entryOf m r g ≡ entry a b → (b ≡ false) ↔ Signals g
+    entry-signal r g a b e =
+        let k = entry-parts r g a b e .1 in
+        (λ h. signal-iff g .0 (sym k ∙ h), λ h. k ∙ signal-iff g .1 h)
