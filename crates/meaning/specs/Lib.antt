@@ -14,10 +14,14 @@ pub mod Digits
 pub mod TraceLaws
 pub mod TableLines
 pub mod Integers
+pub mod RangeLaws
 pub mod StateLaws
 pub mod BodyLaws
+pub mod Faults
 pub mod Refused
 pub mod SameLexemes
 pub mod Soundness
+pub mod MethodLaws
 pub mod ModelLaws
+pub mod Place7
 pub mod Examples
