@@ -24,4 +24,5 @@ pub mod Soundness
 pub mod MethodLaws
 pub mod ModelLaws
 pub mod Place7
+pub mod Printing
 pub mod Examples

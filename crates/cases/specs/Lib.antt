@@ -1,0 +1,12 @@
+pub mod Cases00
+pub mod Cases01
+pub mod Cases02
+pub mod Cases03
+pub mod Cases04
+pub mod Cases05
+pub mod Cases06
+pub mod Cases07
+pub mod Cases08
+pub mod Cases09
+pub mod Cases10
+pub mod Cases11

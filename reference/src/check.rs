@@ -1,0 +1,49 @@
+//! The check of a file: refusals 1 to 9 in number order, each over the whole
+//! file ("The refusals").
+
+use crate::answer::Answer;
+use crate::monitor::Monitor;
+use crate::{grammar, limits, names, ranges, tokens};
+
+/// The monitor that a file gives, or the first refusal.
+pub fn check(file: &[u8]) -> Result<Monitor, Answer> {
+    limits::bytes(file)?;
+    let tokens = tokens::tokens(file)?;
+    limits::tokens_and_depth(&tokens)?;
+    let tree = grammar::read(&tokens, file.len())?;
+    limits::declarations(&tokens)?;
+    names::names(&tokens)?;
+    ranges::ranges(&tree.variables)?;
+    let keep_place = tree.keep_place;
+    let monitor = Monitor::of(tree);
+    start_is_kept(&monitor, keep_place)?;
+    bodies_stay(&monitor)?;
+    Ok(monitor)
+}
+
+/// Refusal 8: the kept condition is false at the start values.
+fn start_is_kept(monitor: &Monitor, keep_place: usize) -> Result<(), Answer> {
+    if monitor.is_kept(&monitor.start_values()) {
+        Ok(())
+    } else {
+        Err(Answer::at(8, keep_place))
+    }
+}
+
+/// Refusal 9: lowest region, then lowest state meeting kept condition and guard,
+/// whose body leaves a range at any moment or ends with the kept condition false.
+fn bodies_stay(monitor: &Monitor) -> Result<(), Answer> {
+    let kept = monitor.kept_states();
+    for (number, region) in monitor.regions.iter().enumerate() {
+        for (state, values) in &kept {
+            if !monitor.guard_holds(region.guard, values) {
+                continue;
+            }
+            let after = monitor.after_body(number, values);
+            if !after.is_some_and(|after| monitor.is_kept(&after)) {
+                return Err(Answer::at_both(9, number, *state));
+            }
+        }
+    }
+    Ok(())
+}

@@ -1,0 +1,39 @@
+//! Panel monitors by brute force: the second program.
+//!
+//! Everything here is rendered from document 01 alone, as plainly as it goes,
+//! so that its results can be laid beside those of the first program. The
+//! modules stand in the order of the document.
+
+pub mod answer;
+
+// The monitor file and the refusals 1 to 7.
+pub mod tokens;
+pub mod grammar;
+pub mod limits;
+pub mod names;
+pub mod ranges;
+
+// What the file means, and the refusals 8 and 9.
+pub mod evaluation;
+pub mod monitor;
+pub mod check;
+
+// The table and refusal 10.
+pub mod table;
+
+// Traces, the two machines, and the refusals 11 to 14.
+pub mod frames;
+pub mod machines;
+
+// What the programs print.
+pub mod lines;
+
+// Cases for comparing programs, and a count of what they hold.
+pub mod cases;
+pub mod tally;
+
+pub use answer::Answer;
+pub use check::check;
+pub use machines::{run, Machine, Place, Record};
+pub use monitor::Monitor;
+pub use table::place;

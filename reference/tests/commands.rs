@@ -1,0 +1,68 @@
+//! The commands as they are called.
+
+mod common;
+use common::BOX;
+use std::fs;
+use std::io::Write;
+use std::path::{Path, PathBuf};
+use std::process::{Command, Stdio};
+
+fn command(arguments: &[&str], input: &[u8]) -> String {
+    let mut child = Command::new(env!("CARGO_BIN_EXE_reference"))
+        .args(arguments)
+        .stdin(Stdio::piped())
+        .stdout(Stdio::piped())
+        .spawn()
+        .unwrap();
+    child.stdin.take().unwrap().write_all(input).unwrap();
+    let output = child.wait_with_output().unwrap();
+    assert!(output.status.success());
+    String::from_utf8(output.stdout).unwrap()
+}
+
+/// A new empty directory for one test.
+fn directory(name: &str) -> PathBuf {
+    let directory = Path::new(env!("CARGO_TARGET_TMPDIR")).join(name);
+    let _ = fs::remove_dir_all(&directory);
+    fs::create_dir_all(&directory).unwrap();
+    directory
+}
+
+#[test]
+fn placer_reads_standard_input() {
+    assert_eq!(command(&["placer"], BOX.as_bytes()), "00010100\n01000100\n");
+    assert_eq!(command(&["placer"], b""), "0400000000\n");
+    assert_eq!(command(&["placer"], &[0xFF; 9000]), "0100000000\n");
+}
+
+#[test]
+fn runner_reads_a_directory() {
+    let at = directory("runner");
+    let run = || command(&["runner", at.to_str().unwrap()], b"");
+    // Missing files read as empty ones.
+    assert_eq!(run(), "0400000000\n");
+    fs::write(at.join("monitor.txt"), BOX).unwrap();
+    assert_eq!(run(), format!("0080{}\n", "FF".repeat(16)).repeat(2));
+    fs::write(at.join("trace.txt"), "000100\n010001\n").unwrap();
+    assert_eq!(run(), format!("008101{}\n", "FF".repeat(15)).repeat(2));
+    fs::write(at.join("trace.txt"), "000100\n010100\n020001\n030101\n010100\n").unwrap();
+    assert_eq!(run(), format!("00800101{}\n0E00040000\n", "FF".repeat(14)));
+    fs::remove_file(at.join("monitor.txt")).unwrap();
+    assert_eq!(run(), "0400000000\n");
+}
+
+#[test]
+fn cases_hold_what_the_programs_print() {
+    let at = directory("cases");
+    command(&["cases", "1", "40", at.to_str().unwrap(), "small"], b"");
+    for number in 0..40 {
+        let case = at.join(format!("{number:05}"));
+        let monitor = fs::read(case.join("monitor.txt")).unwrap();
+        let placed = fs::read_to_string(case.join("placer.txt")).unwrap();
+        assert_eq!(command(&["placer"], &monitor), placed);
+        let ran = fs::read_to_string(case.join("runner.txt")).unwrap();
+        assert_eq!(command(&["runner", case.to_str().unwrap()], b""), ran);
+    }
+    let tally = command(&["tally", at.to_str().unwrap()], b"");
+    assert!(tally.starts_with("cases 40\n"));
+}
