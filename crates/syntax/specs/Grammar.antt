@@ -490,3 +490,18 @@ pub stuck-at-end : (ls : List Lexeme) → read ls ≡ stuck [] → Viable ls × 
 stuck-at-end ls e =
     let s = stuck-viable ls [] e in
     (subst Viable (sym (s .1 ∙ append-nil (s .0))) (s .2), stuck-not-in-grammar ls [] e)
+
+-- A condition as the kept condition of a file
+keeping : Cond → Monitor
+keeping c =
+    record {
+      title = [];
+      vars = record { head = record { title = []; start = plain 0; low = plain 0; high = plain 0 }; more = [] };
+      keep = c;
+      methods = record { head = record { title = []; regions = record { head = record { guard = c; body = end }; more = [] } }; more = [] };
+    }
+
+-- no two conditions spell one list
+pub one-cond : (c d : Cond) → spellCond c ≡ spellCond d → c ≡ d
+unfolding keeping spell spellMethod each spellRegion
+one-cond c d e = ap (λ (m : Monitor). m .keep) (one-tree (keeping c) (keeping d) (rw e))
