@@ -24,5 +24,10 @@ pub mod Soundness
 pub mod MethodLaws
 pub mod ModelLaws
 pub mod Place7
+pub mod Verdicts
+pub mod Sizes
+pub mod Demands
+pub mod Placement
+pub mod Notified
 pub mod Printing
 pub mod Examples

@@ -30,11 +30,11 @@ upTo m before = key k-monitor ∷ name (m .title) ∷ mark lbrace ∷ each spell
 
 -- How often a keyword stands among some lexemes
 
-times : Keyword → List Lexeme → ℕ
+unfoldable pub times : Keyword → List Lexeme → ℕ
 times k [] = 0
 times k (l ∷ ls) = elim (isKey k l) [ true ↦ suc (times k ls) | false ↦ times k ls ]
 
-times-append : (k : Keyword) (as′ bs : List Lexeme) → times k (as′ ++ bs) ≡ times k as′ + times k bs
+pub times-append : (k : Keyword) (as′ bs : List Lexeme) → times k (as′ ++ bs) ≡ times k as′ + times k bs
 unfolding times
 times-append k [] bs = sym (zero-add (times k bs))
 times-append k (l ∷ as′) bs =
@@ -92,7 +92,7 @@ keep-never : (v : Var) → times k-keep (spellVar v) ≡ 0
 unfolding spellVar times isKey keywordNumber
 keep-never v = simp (times-append, times-int)
 
-vars-times : (vs : List Var) → times k-var (each spellVar vs) ≡ length vs
+pub vars-times : (vs : List Var) → times k-var (each spellVar vs) ≡ length vs
 unfolding each times
 vars-times [] = refl
 vars-times (v ∷ vs) =
@@ -110,7 +110,7 @@ keeps-times (v ∷ vs) =
     let c = keeps-times vs in
     omega arith
 
-each-append : {A : Type 0} (f : A → List Lexeme) (as′ bs : List A) → each f (as′ ++ bs) ≡ each f as′ ++ each f bs
+pub each-append : {A : Type 0} (f : A → List Lexeme) (as′ bs : List A) → each f (as′ ++ bs) ≡ each f as′ ++ each f bs
 unfolding each
 each-append f [] bs = refl
 each-append f (a ∷ as′) bs = rw (each-append f as′ bs) (sym (append-assoc (f a) (each f as′) (each f bs)))
@@ -130,10 +130,10 @@ unfolding each spellVar
 begins v after rest = refl
 
 -- a file up to some variables, and what is behind
-behindKeep : Monitor → List Lexeme
+unfoldable pub behindKeep : Monitor → List Lexeme
 behindKeep m = spellCond (m .keep) ++ (mark semicolon ∷ (each spellMethod (all (m .methods)) ++ (mark rbrace ∷ [])))
 
-spell-from : (m : Monitor) (before after : List Var) → all (m .vars) ≡ before ++ after
+pub spell-from : (m : Monitor) (before after : List Var) → all (m .vars) ≡ before ++ after
     → spell m ≡ upTo m before ++ (each spellVar after ++ (key k-keep ∷ behindKeep m))
 unfolding upTo spell behindKeep
 spell-from m before after e =

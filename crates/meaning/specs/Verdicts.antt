@@ -1,6 +1,7 @@
 -- The verdict of a file, for all bytes, in the words of document 01: what it is to be accepted, and what each refusal from 1 to 9 names.
 -- `accepted-iff` and `refused-iff` say that `check` gives exactly these.
 use Prim.Native.Nat.{ℕ, _≤_, _<_}
+use native.Mathlib.Omega.{arith}
 use mathlib.Core.Path.{_≡_, refl, sym, subst, ap, _∙_}
 use mathlib.Core.Bool.{true, false}
 use mathlib.Core.Logic.{_⊎_, inl, inr, _↔_}
@@ -97,6 +98,18 @@ pub data Refusal (file : List ℕ) : Answer → Type 0 where
   broken :
       {ts : List Token} {m : Monitor} {k n : ℕ} → Past7 file ts m → truth (m .keep) (all (m .vars)) (starts (all (m .vars))) ≡ true
       → FirstBroken m k n → Refusal file (answer 9 k n)
+
+pub refusal-number : {file : List ℕ} {a : Answer} → Refusal file a → (1 ≤ a .number) × (a .number ≤ 9)
+refusal-number (too-long h) = (omega arith, omega arith)
+refusal-number (no-token h s) = (omega arith, omega arith)
+refusal-number (too-many p f) = (omega arith, omega arith)
+refusal-number (no-file p f) = (omega arith, omega arith)
+refusal-number (ends-early p v n) = (omega arith, omega arith)
+refusal-number (past-limit p f) = (omega arith, omega arith)
+refusal-number (wrong-name p f) = (omega arith, omega arith)
+refusal-number (ill-ranged p t s) = (omega arith, omega arith)
+refusal-number (start-not-kept p f s) = (omega arith, omega arith)
+refusal-number (broken p t b) = (omega arith, omega arith)
 
 -- What a verdict says of a file
 abbrev pub Says : List ℕ → Verdict → Type 0
