@@ -12,16 +12,16 @@ use Rattle.meaning.specs.Trace.{isHex, hexValue}
 use Rattle.meaning.specs.Bools.{split}
 use Rattle.meaning.specs.Same.{Decides, decides-and, decides-or, decides-leb}
 
-decides-hex : (b : ℕ) → Decides (isHex b) (((48 ≤ b) × (b ≤ 57)) ⊎ ((65 ≤ b) × (b ≤ 70)))
+pub decides-hex : (b : ℕ) → Decides (isHex b) (((48 ≤ b) × (b ≤ 57)) ⊎ ((65 ≤ b) × (b ≤ 70)))
 unfolding isHex
 decides-hex b =
     decides-or _ _ (decides-and _ _ (decides-leb 48 b) (decides-leb b 57)) (decides-and _ _ (decides-leb 65 b) (decides-leb b 70))
 
-low-value : (b : ℕ) → b ≤ 57 → hexValue b ≡ b - 48
+pub low-value : (b : ℕ) → b ≤ 57 → hexValue b ≡ b - 48
 unfolding hexValue
 low-value b h = rw (le-leb b 57 h, hexValue)
 
-high-value : (b : ℕ) → 57 < b → hexValue b ≡ b - 55
+pub high-value : (b : ℕ) → 57 < b → hexValue b ≡ b - 55
 unfolding hexValue
 high-value b h = rw (lt-leb b 57 h, hexValue)
 

@@ -146,10 +146,10 @@ line-digits : (f : Frame) (more : List ℕ) → frameLine f ++ more ≡ digits f
 unfolding frameLine digits six
 line-digits f more = simp (bit-digits, append-assoc)
 
-frameAt : List ℕ → Frame
+unfoldable pub frameAt : List ℕ → Frame
 frameAt bs = record { thread = pairAt bs 0; region = pairAt bs 2; flag = eqb (pairAt bs 4) 1 }
 
-is-frame : (bs : List ℕ) → isFrame bs ≡ true → frameOf (ended bs) ≡ some (frameAt bs)
+pub is-frame : (bs : List ℕ) → isFrame bs ≡ true → frameOf (ended bs) ≡ some (frameAt bs)
 unfolding frameOf frameAt
 is-frame bs h = rw (h, frameOf)
 

@@ -1,0 +1,31 @@
+-- What the code finds at a byte of a trace, and in a whole trace, by the definitions of frames.
+use Prim.Native.Nat.{ℕ}
+use mathlib.Core.List.{List, [], _∷_}
+use mathlib.Core.Option.{Option, none, some}
+use lib.ListN.{length, drop}
+use Rattle.machine.specs.Machine as machine
+use Rattle.meaning.specs.Trace.{linesFrom, frameOf, Frames, frames, none-at, framesOf}
+use Rattle.meaning.specs.Trace as meaning
+use Rattle.trace.specs.declared.Line as code
+use Rattle.trace.specs.declared.Line.the-variants as line
+use Rattle.trace.specs.declared.Counted as counted
+use Rattle.trace.specs.declared.Counted.the-variants.{Frames as Counting, BadAt}
+
+unfoldable pub lineFor : Option machine.Frame → code.Line
+lineFor none = line.Bad
+lineFor (some f) = line.Frame (f .thread) (f .region) (f .flag)
+
+-- the first of some lines
+unfoldable pub firstOf : List meaning.Line → code.Line
+firstOf [] = line.End
+firstOf (l ∷ ls) = lineFor (frameOf l)
+
+unfoldable pub lineAt : List ℕ → ℕ → code.Line
+lineAt trace at = firstOf (linesFrom [] (drop at trace))
+
+unfoldable pub countedAs : Frames → counted.Counted
+countedAs (frames fs) = Counting (length fs)
+countedAs (none-at k) = BadAt k
+
+unfoldable pub countedOf : List ℕ → counted.Counted
+countedOf trace = countedAs (framesOf trace)

@@ -1,0 +1,83 @@
+// Reads the frames of a trace: the line at a byte, and how many frames a whole trace has or its first line that is none (12).
+ghost use mathlib.Core.Path.{_≡_};
+ghost use Rattle.trace.specs.Lined.{lineAt, countedOf};
+ghost use Rattle.trace.specs.Pairs.{digitOf, pairOf};
+
+// A frame with its thread, region and flag; a line that is no frame; or the trace's end.
+pub enum Line {
+    Frame(u8, u8, bool),
+    Bad,
+    End,
+}
+
+// How many frames there are, or the number of the first line that is none.
+pub enum Counted {
+    Frames(usize),
+    BadAt(usize),
+}
+
+// Bytes in a frame's line, with its 0A.
+const FRAME: usize = 7;
+
+// The value of a digit 0-9 or A-F, and 16 of any other byte.
+fn hex_value(b: u8) -> u8
+    ensures { λ r. ⌜ r ≡ digitOf b ⌝ }
+{
+    if 48 <= b && b <= 57 {
+        b - 48
+    } else if 65 <= b && b <= 70 {
+        b - 55
+    } else {
+        16
+    }
+}
+
+// The value of two digits, and 256 where one is none.
+fn pair(a: u8, b: u8) -> u16
+    ensures { λ r. ⌜ r ≡ pairOf a b ⌝ }
+{
+    let high = hex_value(a);
+    let low = hex_value(b);
+    if 15 < high || 15 < low {
+        return 256;
+    }
+    high as u16 * 16 + low as u16
+}
+
+// The line that begins at a byte.
+pub fn line_at(trace: &[u8], at: usize) -> Line
+    ensures { λ r. ⌜ r ≡ lineAt (now (trace .entry)) at ⌝ }
+{
+    if trace.len() <= at {
+        return Line::End;
+    }
+    if trace.len() - at < FRAME || trace[at + 6] != 10 {
+        return Line::Bad;
+    }
+    let thread = pair(trace[at], trace[at + 1]);
+    let region = pair(trace[at + 2], trace[at + 3]);
+    let flag = pair(trace[at + 4], trace[at + 5]);
+    if 15 < thread || 255 < region || 1 < flag {
+        return Line::Bad;
+    }
+    Line::Frame(thread as u8, region as u8, flag == 1)
+}
+
+// The frames of a whole trace, counted.
+pub fn count(trace: &[u8]) -> Counted
+    ensures { λ r. ⌜ r ≡ countedOf (now (trace .entry)) ⌝ }
+{
+    let mut at: usize = 0;
+    let mut n: usize = 0;
+    while at < trace.len() {
+        match line_at(trace, at) {
+            Line::Frame(_, _, _) => {
+                at += FRAME;
+                n += 1;
+            }
+            Line::Bad => return Counted::BadAt(n),
+            Line::End => return Counted::Frames(n),
+        }
+    }
+    Counted::Frames(n)
+}
