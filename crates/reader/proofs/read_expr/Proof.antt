@@ -1,0 +1,13 @@
+-- `reader::read_expr` meets its contract. Assumes nothing.
+use Rattle.reader.proofs.Laws.{then, done}
+use Rattle.syntax.specs.Reading.{readExpr}
+use Rattle.reader.proofs.read_expr.Statement.{statement}
+use Rattle.reader.proofs.read_expr.Tie as tie
+
+returns : tie.Need-returns
+unfolding readExpr
+returns c =
+    then (c .before .read-atom .ensures) λ _. then (c .read-terms .ensures) λ _. done _
+
+pub read-expr-spec : {M : Type 1} → statement M
+read-expr-spec = tie.close (tie.spec (λ c κs. tt) (λ c κs. tt) returns)

@@ -1,0 +1,5 @@
+pub mod Laws
+pub mod Marks
+pub mod Scanning
+pub mod Coding
+pub mod Tokens

@@ -1,0 +1,19 @@
+-- `scanner::is_word_byte` meets its contract, from those of the two classes.
+-- Assumes nothing.
+use borrow.Author.Needs.{needs}
+use Rattle.syntax.specs.Bytes.{wordByte}
+use Rattle.scanner.proofs.is_word_byte.Statement.{statement}
+use Rattle.scanner.proofs.is_word_byte.Tie as tie
+
+is-letter-requires : tie.Need-is-letter-requires
+is-letter-requires c κs = search needs
+
+is-digit-requires : tie.Need-is-digit-requires
+is-digit-requires c κs = search needs
+
+returns : tie.Need-returns
+unfolding wordByte
+returns c = simp (c .before .is-letter .ensures, c .is-digit .ensures)
+
+pub is-word-byte-spec : {M : Type 1} → statement M
+is-word-byte-spec = tie.close (tie.spec is-letter-requires is-digit-requires returns)

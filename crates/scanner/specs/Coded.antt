@@ -1,0 +1,49 @@
+-- How tokens are held as numbers: of each token its kind, a value and its place.
+use Prim.Native.Nat.{ℕ, _+_, _-_, _≤_}
+use mathlib.Core.Path.{_≡_}
+use mathlib.Core.Bool.{true, false}
+use mathlib.Core.List.{List, map}
+use lib.ListN.{length, take, drop}
+use lib.Dec.{ltb}
+use Rattle.syntax.specs.Kind.{kindOf, valueOf}
+use Rattle.syntax.specs.Token.{Lexeme, number, Token, Tokens, tokens, none-at, tokenize, wordOf, keywords}
+use Rattle.scanner.specs.declared.Token as token
+use Rattle.scanner.specs.declared.Token.the-variants.{Word, Number, Mark, None}
+use Rattle.scanner.specs.declared.Code.{Code}
+use Rattle.scanner.specs.declared.Scanned.{Scanned}
+use Rattle.scanner.specs.declared.Scanned.the-variants as scanned
+
+abbrev pub lexemeCode : Lexeme → Code
+lexemeCode l = record { kind = kindOf l; value = valueOf l }
+
+-- a token of the cursor as it is held, and 0 where there is none
+unfoldable pub codeOf : List ℕ → token.Token → Code
+codeOf file (Word f e) = lexemeCode (wordOf keywords (take (e - f) (drop f file)))
+codeOf file (Number v) = lexemeCode (number v)
+codeOf file (Mark m) = record { kind = m; value = 0 }
+codeOf file None = record { kind = 0; value = 0 }
+
+-- a word lies in the file, and is short
+unfoldable pub Within : List ℕ → token.Token → Type 0
+Within file (Word f e) = (f ≤ e) × (e ≤ length file) × (e ≤ f + 16)
+Within file (Number v) = Unit
+Within file (Mark m) = Unit
+Within file None = Unit
+
+pub record Coded (ts : List Token) (kinds values places : List ℕ) : Type 0 where
+  pub by-kind : take (length ts) kinds ≡ map (λ t. kindOf (t .lexeme)) ts
+  pub by-value : take (length ts) values ≡ map (λ t. valueOf (t .lexeme)) ts
+  pub by-place : take (length ts) places ≡ map (λ t. t .at) ts
+
+-- what a scan of a file answers (1, 2)
+unfoldable pub scannedAs : Tokens → Scanned
+scannedAs (tokens ts) = scanned.Tokens (length ts)
+scannedAs (none-at k) = scanned.Bad k
+
+unfoldable pub scannedOf : List ℕ → Scanned
+scannedOf file = elim (ltb 8192 (length file)) [ true ↦ scanned.TooLong | false ↦ scannedAs (tokenize file) ]
+
+-- the whole promise of a scan: its answer, and the tokens where it answers with their count
+pub record Scans (file : List ℕ) (r : Scanned) (kinds values places : List ℕ) : Type 0 where
+  pub answer : r ≡ scannedOf file
+  pub coded : (ts : List Token) → scannedOf file ≡ scanned.Tokens (length ts) → tokenize file ≡ tokens ts → Coded ts kinds values places

@@ -1,0 +1,415 @@
+// Cuts a file into tokens: a cursor by value whose method hands out the token and the advanced cursor, and the tokens of a
+// whole file as numbers in lent arrays. Each promise cites the definitions of `syntax`.
+ghost use mathlib.Core.Path.{_≡_};
+ghost use mathlib.Core.List.{[], _∷_};
+ghost use Prim.Native.Nat.{_+_, _-_, _≤_, _<_};
+ghost use lib.ListN.{take, drop, getD, length};
+ghost use Rattle.syntax.specs.Bytes.{blank, letter, digit, wordByte, leading, decimal, sameBytes};
+ghost use Rattle.syntax.specs.Token.{markOf, marks, wordOf, keywords, nothing};
+ghost use Rattle.syntax.specs.Token.{scan as scanned};
+ghost use Rattle.scanner.specs.Step.{passes, marked, keyCode, wordAt, numberAt, stepOf, stepTo, stepAt};
+ghost use Rattle.scanner.specs.Coded.{lexemeCode, Within, codeOf, Scans};
+
+// A token: a word with its offsets, a number with its value, a mark with its kind, or none.
+pub enum Token {
+    Word(usize, usize),
+    Number(u16),
+    Mark(u8),
+    None,
+}
+
+pub struct Cursor {
+    pub at: usize,
+}
+
+// A token, the byte at which it begins, and the cursor past it. Where no token begins, the cursor stays there.
+pub struct Step {
+    pub token: Token,
+    pub start: usize,
+    pub next: Cursor,
+}
+
+// How many tokens a file has; the first byte that begins none (2); or that it is over 8,192 bytes (1).
+pub enum Scanned {
+    Tokens(usize),
+    Bad(usize),
+    TooLong,
+}
+
+// A mark's number and how many bytes it has: 0 where there is none.
+struct Marked(u8, usize);
+
+// How a token is held: a mark's number, 19 and a keyword's number, 29 for a number, 30 for a name; with a number's value or a name's
+// length.
+struct Code {
+    kind: u8,
+    value: u16,
+}
+
+// The classes of bytes, by number, for `run_end`.
+const BLANK: u8 = 0;
+
+const WORD: u8 = 1;
+
+const DIGIT: u8 = 2;
+
+// What stands for a keyword where there is none.
+const NO_KEYWORD: u8 = 10;
+
+// The kinds behind those of marks.
+const KEYWORD: u8 = 19;
+
+const NUMBER: u8 = 29;
+
+const NAME: u8 = 30;
+
+fn is_blank(b: u8) -> bool
+    ensures { λ r. ⌜ r ≡ blank b ⌝ }
+{
+    (b == 9) | (b == 10) | (b == 13) | (b == 32)
+}
+
+fn is_letter(b: u8) -> bool
+    ensures { λ r. ⌜ r ≡ letter b ⌝ }
+{
+    ((65 <= b) & (b <= 90)) | ((97 <= b) & (b <= 122))
+}
+
+fn is_digit(b: u8) -> bool
+    ensures { λ r. ⌜ r ≡ digit b ⌝ }
+{
+    (48 <= b) & (b <= 57)
+}
+
+fn is_word_byte(b: u8) -> bool
+    ensures { λ r. ⌜ r ≡ wordByte b ⌝ }
+{
+    is_letter(b) | is_digit(b) | (b == 95)
+}
+
+fn in_class(b: u8, class: u8) -> bool
+    ensures { λ r. ⌜ r ≡ passes class b ⌝ }
+{
+    if class == BLANK {
+        is_blank(b)
+    } else if class == WORD {
+        is_word_byte(b)
+    } else {
+        is_digit(b)
+    }
+}
+
+// Where a run of bytes of one class ends.
+fn run_end(file: &[u8], at: usize, class: u8) -> usize
+    ensures { λ r. ⌜ r ≡ at + leading (passes class) (drop at (now (file .entry))) ⌝ }
+{
+    let mut i = at;
+    while i < file.len() {
+        if !in_class(file[i], class) {
+            return i;
+        }
+        i += 1;
+    }
+    i
+}
+
+// The mark that two bytes begin with, and how many bytes it has; the second byte is 0 at the end of a file.
+fn mark_of(a: u8, b: u8) -> Marked
+    ensures { λ r. ⌜ r ≡ marked (markOf marks (a ∷ b ∷ [])) ⌝ }
+{
+    match a {
+        b'{' => Marked(0, 1),
+        b'}' => Marked(1, 1),
+        b'(' => Marked(2, 1),
+        b')' => Marked(3, 1),
+        b';' => Marked(4, 1),
+        b'=' => if b == b'=' {
+            Marked(8, 2)
+        } else {
+            Marked(5, 1)
+        },
+        b'.' => if b == b'.' {
+            Marked(6, 2)
+        } else {
+            Marked(0, 0)
+        },
+        b':' => if b == b'=' {
+            Marked(7, 2)
+        } else {
+            Marked(0, 0)
+        },
+        b'!' => if b == b'=' {
+            Marked(9, 2)
+        } else {
+            Marked(16, 1)
+        },
+        b'<' => if b == b'=' {
+            Marked(11, 2)
+        } else {
+            Marked(10, 1)
+        },
+        b'>' => if b == b'=' {
+            Marked(13, 2)
+        } else {
+            Marked(12, 1)
+        },
+        b'+' => Marked(14, 1),
+        b'-' => Marked(15, 1),
+        b'&' => if b == b'&' {
+            Marked(17, 2)
+        } else {
+            Marked(0, 0)
+        },
+        b'|' => if b == b'|' {
+            Marked(18, 2)
+        } else {
+            Marked(0, 0)
+        },
+        _ => Marked(0, 0),
+    }
+}
+
+// Whether a part of the file is a fixed word, byte for byte.
+fn is_word(part: &[u8], word: &[u8]) -> bool
+    ensures { λ r. ⌜ r ≡ sameBytes (now (word .entry)) (now (part .entry)) ⌝ }
+{
+    if part.len() != word.len() {
+        return false;
+    }
+    let mut i = 0;
+    while i < part.len() {
+        if part[i] != word[i] {
+            return false;
+        }
+        i += 1;
+    }
+    true
+}
+
+// The number of the reserved word of regions and conditions that a part of the file is.
+fn inner_keyword_of(part: &[u8]) -> u8
+    ensures { λ r. ⌜ r ≡ keyCode (wordOf (drop 5 keywords) (now (part .entry))) ⌝ }
+{
+    if is_word(part, b"waituntil") {
+        5
+    } else if is_word(part, b"if") {
+        6
+    } else if is_word(part, b"else") {
+        7
+    } else if is_word(part, b"true") {
+        8
+    } else if is_word(part, b"false") {
+        9
+    } else {
+        NO_KEYWORD
+    }
+}
+
+// The number of the reserved word that a part of the file is.
+fn keyword_of(part: &[u8]) -> u8
+    ensures { λ r. ⌜ r ≡ keyCode (wordOf keywords (now (part .entry))) ⌝ }
+{
+    if is_word(part, b"monitor") {
+        0
+    } else if is_word(part, b"var") {
+        1
+    } else if is_word(part, b"in") {
+        2
+    } else if is_word(part, b"keep") {
+        3
+    } else if is_word(part, b"method") {
+        4
+    } else {
+        inner_keyword_of(part)
+    }
+}
+
+// The value of at most three digits.
+fn value_of(part: &[u8]) -> u16
+    requires { ⌜ (length (now part) ≤ 3) × (leading digit (now part) ≡ length (now part)) ⌝ }
+    ensures { λ r. ⌜ r ≡ decimal 0 (now (part .entry)) ⌝ }
+{
+    let mut n: u16 = 0;
+    let mut i = 0;
+    while i < part.len() {
+        n = n * 10 + (part[i] as u16 - 48);
+        i += 1;
+    }
+    n
+}
+
+// A byte of a file, or 0 past its end.
+fn byte_at(file: &[u8], at: usize) -> u8
+    ensures { λ r. ⌜ r ≡ getD (now (file .entry)) at 0 ⌝ }
+{
+    if at < file.len() { file[at] } else { 0 }
+}
+
+fn none_at(start: usize) -> Step
+    ensures { λ r. ⌜ r ≡ stepOf start nothing ⌝ }
+{
+    Step {
+        token: Token::None,
+        start: start,
+        next: Cursor { at: start },
+    }
+}
+
+fn found(token: Token, start: usize, end: usize) -> Step
+    ensures { λ r. ⌜ r ≡ stepTo token start end ⌝ }
+{
+    Step {
+        token: token,
+        start: start,
+        next: Cursor { at: end },
+    }
+}
+
+fn word_at(file: &[u8], start: usize) -> Step
+    ensures { λ r. ⌜ r ≡ stepOf start (wordAt (drop start (now (file .entry)))) ⌝ }
+{
+    let end = run_end(file, start, WORD);
+    if 16 < end - start {
+        none_at(start)
+    } else {
+        found(Token::Word(start, end), start, end)
+    }
+}
+
+fn number_at(file: &[u8], start: usize) -> Step
+    requires { ⌜ start ≤ length (now file) ⌝ }
+    ensures { λ r. ⌜ r ≡ stepOf start (numberAt (drop start (now (file .entry)))) ⌝ }
+{
+    let end = run_end(file, start, DIGIT);
+    if 3 < end - start {
+        none_at(start)
+    } else {
+        found(Token::Number(value_of(&file[start..end])), start, end)
+    }
+}
+
+fn mark_at(file: &[u8], start: usize) -> Step
+    requires { ⌜ start < length (now file) ⌝ }
+    ensures { λ r. ⌜ r ≡ stepOf start (markOf marks (drop start (now (file .entry)))) ⌝ }
+{
+    let m = mark_of(file[start], byte_at(file, start + 1));
+    if m.1 == 0 {
+        none_at(start)
+    } else {
+        found(Token::Mark(m.0), start, start + m.1)
+    }
+}
+
+// The token that begins at a byte.
+fn token_at(file: &[u8], start: usize) -> Step
+    ensures { λ r. ⌜ r ≡ stepOf start (scanned (drop start (now (file .entry)))) ⌝ }
+{
+    if file.len() <= start {
+        return none_at(start);
+    }
+    let first = file[start];
+    if is_letter(first) {
+        word_at(file, start)
+    } else if is_digit(first) {
+        number_at(file, start)
+    } else {
+        mark_at(file, start)
+    }
+}
+
+impl Cursor {
+    pub fn new() -> Self
+        ensures { λ r. ⌜ r .at ≡ 0 ⌝ }
+    {
+        Cursor { at: 0 }
+    }
+
+    // The next token behind blanks.
+    pub fn next(self, file: &[u8]) -> Step
+        ensures { λ r. ⌜ r ≡ stepAt (now (file .entry)) (self .at) ⌝ }
+    {
+        let at = self.at;
+        token_at(file, run_end(file, at, BLANK))
+    }
+}
+
+// How a word of the file is held.
+fn word_code(file: &[u8], from: usize, end: usize) -> Code
+    requires { ⌜ (from ≤ end) × (end ≤ length (now file)) × (end ≤ from + 16) ⌝ }
+    ensures { λ r. ⌜ r ≡ lexemeCode (wordOf keywords (take (end - from) (drop from (now (file .entry))))) ⌝ }
+{
+    let key = keyword_of(&file[from..end]);
+    if key == NO_KEYWORD {
+        Code {
+            kind: NAME,
+            value: (end - from) as u16,
+        }
+    } else {
+        Code {
+            kind: KEYWORD + key,
+            value: 0,
+        }
+    }
+}
+
+// How a token is held: its kind, and a number's value or a name's length.
+fn code_of(file: &[u8], token: Token) -> Code
+    requires { ⌜ Within (now file) token ⌝ }
+    ensures { λ r. ⌜ r ≡ codeOf (now (file .entry)) token ⌝ }
+{
+    match token {
+        Token::Word(from, end) => word_code(file, from, end),
+        Token::Number(value) => Code {
+            kind: NUMBER,
+            value: value,
+        },
+        Token::Mark(mark) => Code {
+            kind: mark,
+            value: 0,
+        },
+        Token::None => Code { kind: 0, value: 0 },
+    }
+}
+
+// The tokens of a file, into slices that are long enough.
+fn scan_into(file: &[u8], kinds: &mut [u8], values: &mut [u16], places: &mut [u16]) -> Scanned
+    requires { ⌜ (length (now kinds) ≡ 8192) × (length (now values) ≡ 8192) × (length (now places) ≡ 8192) ⌝ }
+    ensures { λ r. ⌜ Scans (now (file .entry)) r (now (kinds .exit)) (now (values .exit)) (now (places .exit)) ⌝ }
+{
+    if 8192 < file.len() {
+        return Scanned::TooLong;
+    }
+    let mut cursor = Cursor::new();
+    let mut n: usize = 0;
+    while n < 8192 {
+        let step = cursor.next(file);
+        let start = step.start;
+        let next = step.next;
+        if next.at == start {
+            if start < file.len() {
+                return Scanned::Bad(start);
+            }
+            return Scanned::Tokens(n);
+        }
+        let token = step.token;
+        let code = code_of(file, token);
+        kinds[n] = code.kind;
+        values[n] = code.value;
+        places[n] = start as u16;
+        n += 1;
+        cursor = next;
+    }
+    Scanned::Tokens(n)
+}
+
+// The tokens of a file of at most 8,192 bytes: each token's kind, a number's value or a name's length, and its place.
+pub fn scan(
+    file: &[u8],
+    kinds: &mut [u8; 8192],
+    values: &mut [u16; 8192],
+    places: &mut [u16; 8192],
+) -> Scanned
+    ensures { λ r. ⌜ Scans (now (file .entry)) r (now (kinds .exit)) (now (values .exit)) (now (places .exit)) ⌝ }
+{
+    scan_into(file, kinds, values, places)
+}
