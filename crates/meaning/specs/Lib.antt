@@ -5,6 +5,7 @@ pub mod Model
 pub mod Trace
 pub mod Calls
 pub mod Lines
+pub mod Biased
 pub mod Accepting
 pub mod Bools
 pub mod Same

@@ -1,0 +1,234 @@
+-- The proof of the cycle of calls {eval_cond, eval_conj, eval_simple}. The measure is three times the count of tokens left, with a rank for calls at the same place.
+-- Each return is a law on conditions, by the kind at the place or behind the first part.
+use borrow.Author.Needs.{needs}
+use Prim.Native.Nat.{ℕ, _+_, _-_, _*_, _<_}
+use native.Mathlib.Omega.{arith}
+use mathlib.Core.Path.{sym, refl, _∙_}
+use mathlib.Core.Bool.{true, false}
+use lib.ListN.{length}
+use Rattle.evaluator.proofs.Places.{kind-within}
+use Rattle.evaluator.proofs.Readings.{simple-not, simple-bracketed, simple-constant, constantKind, simple-compare, conj-one, conj-more, cond-one, cond-more}
+use borrow.Fn.Kinds.{In}
+use borrow.Fn.PlainCycle.{Measures, is, falls, and}
+use Rattle.evaluator.proofs.eval_cond.Reads as eval-cond
+use Rattle.evaluator.proofs.eval_cond.Kinds as eval-cond-kinds
+use Rattle.evaluator.proofs.+eval_cond+eval_conj+eval_simple.Lts-eval_cond as eval-cond-lts
+use Rattle.evaluator.proofs.eval_conj.Reads as eval-conj
+use Rattle.evaluator.proofs.eval_conj.Kinds as eval-conj-kinds
+use Rattle.evaluator.proofs.+eval_cond+eval_conj+eval_simple.Lts-eval_conj as eval-conj-lts
+use Rattle.evaluator.proofs.eval_simple.Reads as eval-simple
+use Rattle.evaluator.proofs.eval_simple.Kinds as eval-simple-kinds
+use Rattle.evaluator.proofs.+eval_cond+eval_conj+eval_simple.Lts-eval_simple as eval-simple-lts
+use Rattle.evaluator.proofs.after.Reads as after-reads
+use Rattle.evaluator.proofs.eval_compare.Reads as eval-compare-reads
+use Rattle.evaluator.proofs.kind_at.Reads as kind-at-reads
+use Rattle.evaluator.proofs.+eval_cond+eval_conj+eval_simple.{statement}
+use Rattle.evaluator.proofs.+eval_cond+eval_conj+eval_simple.Tie.{close}
+
+abbrev μ-eval-cond : Measures 2 eval-cond-kinds.ps ℕ
+μ-eval-cond κs a = 3 * (length (a .0 .now) - a .1 .1 .1 .0) + 2
+
+abbrev μ-eval-conj : Measures 2 eval-conj-kinds.ps ℕ
+μ-eval-conj κs a = 3 * (length (a .0 .now) - a .1 .1 .1 .0) + 1
+
+abbrev μ-eval-simple : Measures 2 eval-simple-kinds.ps ℕ
+μ-eval-simple κs a = 3 * (length (a .0 .now) - a .1 .1 .1 .0)
+
+abbrev eval-cond-at : ℕ → In 2 eval-cond-kinds.ps
+eval-cond-at t = and 2 eval-cond-kinds.ps (is 2 eval-cond-kinds.ps μ-eval-cond t) eval-cond.Pre
+
+abbrev eval-cond-below : ℕ → In 2 eval-cond-kinds.ps
+eval-cond-below t =
+    and 2 eval-cond-kinds.ps (falls 2 eval-cond-kinds.ps _<_ μ-eval-cond t) eval-cond.Pre
+
+abbrev eval-conj-at : ℕ → In 2 eval-conj-kinds.ps
+eval-conj-at t = and 2 eval-conj-kinds.ps (is 2 eval-conj-kinds.ps μ-eval-conj t) eval-conj.Pre
+
+abbrev eval-conj-below : ℕ → In 2 eval-conj-kinds.ps
+eval-conj-below t =
+    and 2 eval-conj-kinds.ps (falls 2 eval-conj-kinds.ps _<_ μ-eval-conj t) eval-conj.Pre
+
+abbrev eval-simple-at : ℕ → In 2 eval-simple-kinds.ps
+eval-simple-at t =
+    and 2 eval-simple-kinds.ps (is 2 eval-simple-kinds.ps μ-eval-simple t) eval-simple.Pre
+
+abbrev eval-simple-below : ℕ → In 2 eval-simple-kinds.ps
+eval-simple-below t =
+    and 2 eval-simple-kinds.ps (falls 2 eval-simple-kinds.ps _<_ μ-eval-simple t) eval-simple.Pre
+
+-- what each asks of its callees and learns from them, those of the cycle below the measure t
+abbrev eval-cond-calls : ℕ → eval-cond-lts.Claims
+eval-cond-calls t =
+    (eval-conj-below t, eval-conj.Post, kind-at-reads.Asked, kind-at-reads.Learnt, after-reads.Asked, after-reads.Learnt, eval-cond-below t, eval-cond.Post)
+
+abbrev eval-conj-calls : ℕ → eval-conj-lts.Claims
+eval-conj-calls t =
+    (eval-simple-below t, eval-simple.Post, kind-at-reads.Asked, kind-at-reads.Learnt, after-reads.Asked, after-reads.Learnt, eval-conj-below t, eval-conj.Post)
+
+abbrev eval-simple-calls : ℕ → eval-simple-lts.Claims
+eval-simple-calls t =
+    (kind-at-reads.Asked, kind-at-reads.Learnt, after-reads.Asked, after-reads.Learnt, eval-simple-below t, eval-simple.Post, eval-cond-below t, eval-cond.Post, eval-compare-reads.Asked, eval-compare-reads.Learnt)
+
+eval-cond-eval-conj-requires : (t : ℕ) → eval-cond-lts.Need-eval-conj-requires (eval-cond-calls t) (eval-cond-at t) eval-cond.Post
+eval-cond-eval-conj-requires t c κs = (omega (arith, c .before .before .pre .0), c .before .before .pre .1)
+
+eval-cond-kind-at-requires : (t : ℕ) → eval-cond-lts.Need-kind-at-requires (eval-cond-calls t) (eval-cond-at t) eval-cond.Post
+eval-cond-kind-at-requires t c κs = search needs
+
+eval-cond-after-requires : (t : ℕ) → eval-cond-lts.Need-after-requires (eval-cond-calls t) (eval-cond-at t) eval-cond.Post
+eval-cond-after-requires t c κs = search needs
+
+eval-cond-eval-cond-requires : (t : ℕ) → eval-cond-lts.Need-eval-cond-requires (eval-cond-calls t) (eval-cond-at t) eval-cond.Post
+eval-cond-eval-cond-requires t c κs =
+    let conj = c .before .before .before in
+    let start = conj .before .before .before in
+    let step = kind-within 18 (c .after .ensures) (sym (c .before .before .kind-at .ensures) ∙ c .before .if1 .taken) refl in
+    (omega (arith, step, conj .eval-conj .ensures .from, start .pre .0), record { within = c .after .ensures .to; short = start .pre .1 .short })
+
+eval-cond-returns : (t : ℕ) → eval-cond-lts.Need-returns (eval-cond-calls t) (eval-cond-at t) eval-cond.Post
+eval-cond-returns t c =
+    let after = c .before .before .before in
+    cond-more (after .before .before .before .eval-conj .ensures) (sym (after .before .before .kind-at .ensures) ∙ after .before .if1 .taken) (after .after .ensures) (c .before .before .eval-cond .ensures)
+
+eval-cond-returns-2 : (t : ℕ) → eval-cond-lts.Need-returns-2 (eval-cond-calls t) (eval-cond-at t) eval-cond.Post
+eval-cond-returns-2 t c = cond-one (c .before .before .eval-conj .ensures) (λ e. c .if1 .left (c .before .kind-at .ensures ∙ e))
+
+eval-conj-eval-simple-requires : (t : ℕ) → eval-conj-lts.Need-eval-simple-requires (eval-conj-calls t) (eval-conj-at t) eval-conj.Post
+eval-conj-eval-simple-requires t c κs = (omega (arith, c .before .before .pre .0), c .before .before .pre .1)
+
+eval-conj-kind-at-requires : (t : ℕ) → eval-conj-lts.Need-kind-at-requires (eval-conj-calls t) (eval-conj-at t) eval-conj.Post
+eval-conj-kind-at-requires t c κs = search needs
+
+eval-conj-after-requires : (t : ℕ) → eval-conj-lts.Need-after-requires (eval-conj-calls t) (eval-conj-at t) eval-conj.Post
+eval-conj-after-requires t c κs = search needs
+
+eval-conj-eval-conj-requires : (t : ℕ) → eval-conj-lts.Need-eval-conj-requires (eval-conj-calls t) (eval-conj-at t) eval-conj.Post
+eval-conj-eval-conj-requires t c κs =
+    let simple = c .before .before .before in
+    let start = simple .before .before .before in
+    let step = kind-within 17 (c .after .ensures) (sym (c .before .before .kind-at .ensures) ∙ c .before .if1 .taken) refl in
+    (omega (arith, step, simple .eval-simple .ensures .from, start .pre .0), record { within = c .after .ensures .to; short = start .pre .1 .short })
+
+eval-conj-returns : (t : ℕ) → eval-conj-lts.Need-returns (eval-conj-calls t) (eval-conj-at t) eval-conj.Post
+eval-conj-returns t c =
+    let after = c .before .before .before in
+    conj-more (after .before .before .before .eval-simple .ensures) (sym (after .before .before .kind-at .ensures) ∙ after .before .if1 .taken) (after .after .ensures) (c .before .before .eval-conj .ensures)
+
+eval-conj-returns-2 : (t : ℕ) → eval-conj-lts.Need-returns-2 (eval-conj-calls t) (eval-conj-at t) eval-conj.Post
+eval-conj-returns-2 t c = conj-one (c .before .before .eval-simple .ensures) (λ e. c .if1 .left (c .before .kind-at .ensures ∙ e))
+
+eval-simple-kind-at-requires : (t : ℕ) → eval-simple-lts.Need-kind-at-requires (eval-simple-calls t) (eval-simple-at t) eval-simple.Post
+eval-simple-kind-at-requires t c κs = search needs
+
+eval-simple-after-requires : (t : ℕ) → eval-simple-lts.Need-after-requires (eval-simple-calls t) (eval-simple-at t) eval-simple.Post
+eval-simple-after-requires t c κs = search needs
+
+eval-simple-eval-simple-requires : (t : ℕ) → eval-simple-lts.Need-eval-simple-requires (eval-simple-calls t) (eval-simple-at t) eval-simple.Post
+eval-simple-eval-simple-requires t c κs =
+    let start = c .before .before .before .before .before in
+    let step = kind-within 16 (c .before .after .ensures) (sym (c .before .before .kind-at .ensures) ∙ c .if1 .taken) refl in
+    (omega (arith, step, start .pre .0), record { within = c .before .after .ensures .to; short = start .pre .1 .short })
+
+eval-simple-returns : (t : ℕ) → eval-simple-lts.Need-returns (eval-simple-calls t) (eval-simple-at t) eval-simple.Post
+eval-simple-returns t c =
+    let after = c .before .before .before in
+    simple-not (sym (after .before .kind-at .ensures) ∙ c .before .before .if1 .taken) (after .after .ensures) (c .before .eval-simple .ensures)
+
+eval-simple-eval-cond-requires : (t : ℕ) → eval-simple-lts.Need-eval-cond-requires (eval-simple-calls t) (eval-simple-at t) eval-simple.Post
+eval-simple-eval-cond-requires t c κs =
+    let after = c .before .before in
+    let start = after .before .before .before .before in
+    let step = kind-within 2 (after .after .ensures) (sym (after .before .kind-at .ensures) ∙ c .if2 .taken) refl in
+    (omega (arith, step, start .pre .0), record { within = after .after .ensures .to; short = start .pre .1 .short })
+
+eval-simple-after-requires-2 : (t : ℕ) → eval-simple-lts.Need-after-requires-2 (eval-simple-calls t) (eval-simple-at t) eval-simple.Post
+eval-simple-after-requires-2 t c κs = search needs
+
+eval-simple-returns-2 : (t : ℕ) → eval-simple-lts.Need-returns-2 (eval-simple-calls t) (eval-simple-at t) eval-simple.Post
+eval-simple-returns-2 t c =
+    let after = c .before .before .before .before in
+    simple-bracketed (sym (after .before .kind-at .ensures) ∙ c .before .before .if2 .taken) (after .after .ensures) (c .before .eval-cond .ensures) (c .after2 .ensures)
+
+eval-simple-returns-3 : (t : ℕ) → eval-simple-lts.Need-returns-3 (eval-simple-calls t) (eval-simple-at t) eval-simple.Post
+unfolding constantKind
+eval-simple-returns-3 t c =
+    let after = c .before .before .before in
+    simple-constant true (sym (after .before .kind-at .ensures) ∙ c .if3 .taken) (after .after .ensures)
+
+eval-simple-returns-4 : (t : ℕ) → eval-simple-lts.Need-returns-4 (eval-simple-calls t) (eval-simple-at t) eval-simple.Post
+unfolding constantKind
+eval-simple-returns-4 t c =
+    let after = c .before .before .before .before in
+    simple-constant false (sym (after .before .kind-at .ensures) ∙ c .if4 .taken) (after .after .ensures)
+
+eval-simple-eval-compare-requires : (t : ℕ) → eval-simple-lts.Need-eval-compare-requires (eval-simple-calls t) (eval-simple-at t) eval-simple.Post
+eval-simple-eval-compare-requires t c κs = search needs
+
+eval-simple-returns-5 : (t : ℕ) → eval-simple-lts.Need-returns-5 (eval-simple-calls t) (eval-simple-at t) eval-simple.Post
+eval-simple-returns-5 t c =
+    let kind = c .before .before .before .before .before .before .kind-at .ensures in
+    simple-compare (λ e. c .before .before .before .before .if1 .left (kind ∙ e)) (λ e. c .before .before .before .if2 .left (kind ∙ e)) (λ e. c .before .before .if3 .left (kind ∙ e)) (λ e. c .before .if4 .left (kind ∙ e)) (c .eval-compare .ensures)
+
+pub +eval-cond+eval-conj+eval-simple-spec : {M : Type 1} → statement M
++eval-cond+eval-conj+eval-simple-spec =
+    close μ-eval-cond μ-eval-conj μ-eval-simple (λ t. eval-cond-lts.spec (
+      eval-conj-below t,
+      eval-conj.Post,
+      kind-at-reads.Asked,
+      kind-at-reads.Learnt,
+      after-reads.Asked,
+      after-reads.Learnt,
+      eval-cond-below t,
+      eval-cond.Post,
+    )
+    (eval-cond-at t)
+    eval-cond.Post
+    (eval-cond-eval-conj-requires t)
+    (eval-cond-kind-at-requires t)
+    (eval-cond-after-requires t)
+    (eval-cond-eval-cond-requires t)
+    (eval-cond-returns t)
+    (eval-cond-returns-2 t))
+    (λ t. eval-conj-lts.spec (
+      eval-simple-below t,
+      eval-simple.Post,
+      kind-at-reads.Asked,
+      kind-at-reads.Learnt,
+      after-reads.Asked,
+      after-reads.Learnt,
+      eval-conj-below t,
+      eval-conj.Post,
+    )
+    (eval-conj-at t)
+    eval-conj.Post
+    (eval-conj-eval-simple-requires t)
+    (eval-conj-kind-at-requires t)
+    (eval-conj-after-requires t)
+    (eval-conj-eval-conj-requires t)
+    (eval-conj-returns t)
+    (eval-conj-returns-2 t))
+    λ t. eval-simple-lts.spec (
+      kind-at-reads.Asked,
+      kind-at-reads.Learnt,
+      after-reads.Asked,
+      after-reads.Learnt,
+      eval-simple-below t,
+      eval-simple.Post,
+      eval-cond-below t,
+      eval-cond.Post,
+      eval-compare-reads.Asked,
+      eval-compare-reads.Learnt,
+    )
+    (eval-simple-at t)
+    eval-simple.Post
+    (eval-simple-kind-at-requires t)
+    (eval-simple-after-requires t)
+    (eval-simple-eval-simple-requires t)
+    (eval-simple-returns t)
+    (eval-simple-eval-cond-requires t)
+    (eval-simple-after-requires-2 t)
+    (eval-simple-returns-2 t)
+    (eval-simple-returns-3 t)
+    (eval-simple-returns-4 t)
+    (eval-simple-eval-compare-requires t)
+    (eval-simple-returns-5 t)

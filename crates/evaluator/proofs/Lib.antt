@@ -1,0 +1,6 @@
+pub mod Numbers
+pub mod Places
+pub mod Slots
+pub mod Readings
+pub mod Runs
+pub mod Braces

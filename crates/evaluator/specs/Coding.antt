@@ -1,0 +1,45 @@
+-- How a file's lexemes, its variables' values and their ranges are held as numbers for the evaluator.
+use Prim.Native.Nat.{ℕ, suc, _<_, _≤_}
+use mathlib.Core.Path.{_≡_}
+use mathlib.Core.Bool.{Bool, true, false}
+use mathlib.Core.List.{List, [], _∷_, _++_, map}
+use mathlib.Core.Logic.{_⊎_}
+use mathlib.Core.Option.{Option, none, some}
+use lib.ListN.{length, getD, drop, getElem?}
+use lib.IntN.{ℤ, pos, _-ℤ_}
+use Rattle.syntax.specs.Bytes.{sameBytes}
+use Rattle.syntax.specs.Token.{Lexeme, name, number, mark, lbrace, rbrace, semicolon}
+use Rattle.syntax.specs.Kind.{kindOf}
+use Rattle.syntax.specs.Tree.{Var, Block, spellBlock}
+use Rattle.meaning.specs.Biased.{Biased}
+use Rattle.evaluator.specs.declared.Ran.{Ran}
+
+-- the place of the first variable of a name, and their count where there is none
+unfoldable pub slotOf : List Var → List ℕ → ℕ
+slotOf [] x = 0
+slotOf (v ∷ vs) x = elim (sameBytes (v .title) x) [ true ↦ 0 | false ↦ suc (slotOf vs x) ]
+
+unfoldable pub Kinds : List Lexeme → List ℕ → Type 0
+Kinds ls kinds = map kindOf ls ≡ kinds
+
+-- kinds, and at its place each number's value, each name's slot, and for each brace that opens a block the place of the one that closes it
+pub record Codes (vs : List Var) (ls : List Lexeme) (kinds values : List ℕ) : Type 0 where
+  pub by-kind : Kinds ls kinds
+  pub as-long : length values ≡ length kinds
+  pub by-number : (i n : ℕ) → getElem? ls i ≡ some (number n) → getD values i 0 ≡ n
+  pub by-name : (i : ℕ) (x : List ℕ) → getElem? ls i ≡ some (name x) → getD values i 0 ≡ slotOf vs x
+  pub by-brace :
+      (i : ℕ) (b : Block) (us : List Lexeme) → drop i ls ≡ mark lbrace ∷ (spellBlock b ++ (mark rbrace ∷ us))
+      → drop (getD values i 0) ls ≡ mark rbrace ∷ us
+
+-- what stands behind a condition in a file: a closing bracket or a semicolon
+unfoldable pub EndsCond : List Lexeme → Type 0
+EndsCond us = (rest : List Lexeme) × (l : Lexeme) × (us ≡ l ∷ rest) × ((kindOf l ≡ 3) ⊎ (kindOf l ≡ 4))
+
+-- a body's run, as the code answers it: whether it stayed in its ranges, and the values held after it
+unfoldable pub RunAs : List Var → Bool → List ℕ → Option (List ℤ) → Type 0
+RunAs vs ok held none = ok ≡ false
+RunAs vs ok held (some bs) = (ok ≡ true) × Biased vs bs held
+
+unfoldable pub RanAs : List Var → Ran → Option (List ℤ) → Type 0
+RanAs vs r o = RunAs vs (r .ok) (r .values) o

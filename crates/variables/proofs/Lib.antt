@@ -1,0 +1,5 @@
+pub mod Laws
+pub mod Spelled
+pub mod Slots
+pub mod States
+pub mod Walk

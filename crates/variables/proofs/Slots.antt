@@ -1,0 +1,125 @@
+-- Variables in slots: none, one more, and what a good range says of the numbers that hold it. Assumes nothing.
+use Prim.Native.Nat.{ℕ, zero, suc, _+_, _-_, _*_, _<_, _≤_}
+use native.Mathlib.Omega.{arith}
+use native.Mathlib.Nat.{mul-assoc, mul-one, one-mul, mul-comm, le-mul-of-pos-right}
+use mathlib.Core.Path.{_≡_, refl, ap, _∙_}
+use mathlib.Core.Logic.{⊎-elim}
+use mathlib.Core.List.{List, [], _∷_, _++_}
+use mathlib.Core.Option.{some, Option·some-injective}
+use lib.ListN.{length, drop, set, getElem?, replicate, length-append, length-set}
+use lib.IntN.{ℤ}
+use Rattle.syntax.specs.Tree.{Var}
+use Rattle.meaning.specs.Value.{intOf}
+use Rattle.meaning.specs.State.{size, count}
+use Rattle.meaning.specs.Accepting.{AtMost, GoodRange, GoodRanges, no-vars, one-var}
+use Rattle.meaning.specs.Bools.{no-some}
+use Rattle.variables.specs.Offsets.{Shifted, shifted-le, shifted-distance, le-shifted, pos-shifted, neg-shifted, rebased}
+use Rattle.variables.specs.Reading.{TripleOf, Good, Slots, Loaded, WithVar}
+use Rattle.variables.specs.declared.Bounds.{Bounds}
+use Rattle.variables.specs.declared.Triple.{Triple}
+use Rattle.variables.proofs.Laws.{elem-inside, elem-snoc, set-each, six-at, six-at-most}
+
+module _ (f : Var → ℤ) (e : ℕ) where
+  pub slots-none : e ≤ 255 → Slots f e [] (replicate 6 e)
+  slots-none h =
+      record {
+        six = refl;
+        held = λ k v q. no-some q;
+        small = six-at-most e 255 h;
+        unused = λ k l q. six-at e k l;
+      }
+
+  module _ (vs : List Var) (xs : List ℕ) (s : Slots f e vs xs) (room : length vs < 6) (v : Var) (n : ℕ)
+      (h : Shifted 128 (f v) n) (low : n ≤ 255) where
+    pub slots-one : Slots f e (vs ++ (v ∷ [])) (set xs (length vs) n)
+    slots-one =
+        let more = length-append vs (v ∷ []) in
+        let six = s .six in
+        record {
+          six = length-set xs (length vs) n ∙ six;
+          held = set-each (λ k x. (u : Var) → getElem? (vs ++ (v ∷ [])) k ≡ some u → Shifted 128 (f u) x) xs (length vs) n (omega arith)
+              (λ u q. ⊎-elim (λ t. absurd (omega (arith, elem-inside vs (length vs) u t))) (λ t. rw (t .1) h) (elem-snoc vs v (length vs) u q))
+              (λ k d u q. ⊎-elim (λ t. s .held k u t) (λ t. absurd (d (t .0))) (elem-snoc vs v k u q));
+          small = set-each (λ k x. x ≤ 255) xs (length vs) n (omega arith) low (λ k _. s .small k);
+          unused = set-each (λ k x. k < 6 → length (vs ++ (v ∷ [])) ≤ k → x ≡ e) xs (length vs) n (omega arith)
+              (λ _ q. absurd (omega arith)) (λ k _ l q. s .unused k l (omega arith));
+        }
+
+-- the size of a range
+pub size-is : (v : Var) {b l h : ℕ} → Shifted b (intOf (v .low)) l → Shifted b (intOf (v .high)) h → l ≤ h → size v ≡ h - l + 1
+unfolding size
+size-is v el eh o = ap (λ (n : ℕ). n + 1) (shifted-distance el eh o)
+
+module _ (v : Var) (t : Triple) (h : TripleOf v t) where
+  pub good-range : (n : ℕ) → Good n t → GoodRange v
+  unfolding AtMost
+  good-range n g =
+      record {
+        ordered = shifted-le (h .low) (h .high) (g .ordered);
+        low-bound = shifted-le (neg-shifted 65536 128 (omega arith)) (h .low) (g .low-bound);
+        high-bound = shifted-le (h .high) (pos-shifted 65536 127) (g .high-bound);
+        start-above = shifted-le (h .low) (h .start) (g .start-above);
+        start-below = shifted-le (h .start) (h .high) (g .start-below);
+      }
+
+  pub range-good : (n : ℕ) → GoodRange v → n * size v ≤ 4096 → Good n t
+  unfolding AtMost
+  range-good n g few =
+      let ordered = le-shifted (h .low) (h .high) (g .ordered) in
+      record {
+        ordered = ordered;
+        low-bound = le-shifted (neg-shifted 65536 128 (omega arith)) (h .low) (g .low-bound);
+        high-bound = le-shifted (h .high) (pos-shifted 65536 127) (g .high-bound);
+        start-above = le-shifted (h .low) (h .start) (g .start-above);
+        start-below = le-shifted (h .start) (h .high) (g .start-below);
+        few = rw (size-is v (h .low) (h .high) ordered) at few;
+      }
+
+-- good ranges, and the count of states, of one variable more
+pub good-snoc : {vs : List Var} {v : Var} → GoodRanges vs → GoodRange v → GoodRanges (vs ++ (v ∷ []))
+good-snoc no-vars g = one-var g no-vars
+good-snoc (one-var f fs) g = one-var f (good-snoc fs g)
+
+pub count-snoc : (vs : List Var) (v : Var) → count (vs ++ (v ∷ [])) ≡ count vs * size v
+unfolding count
+count-snoc [] v = rw (mul-one, one-mul)
+count-snoc (u ∷ vs) v = rw (count-snoc vs v, mul-assoc)
+
+-- a number that is held with 65,536 added, held with 128 added
+rebased-slot : {a : ℤ} {n : ℕ} → Shifted 65536 a n → 65408 ≤ n → Shifted 128 a (n - 65408)
+rebased-slot {a} {n} e h =
+    let same : n - 65408 + 65408 ≡ n = omega arith in
+    rebased 128 65408 (n - 65408) (rw same e)
+
+pub loaded-one : (vs : List Var) (v : Var) (b r : Bounds) (t : Triple) → Loaded vs b → length vs < 6 → TripleOf v t
+    → Good (b .states) t → WithVar b t r → Loaded (vs ++ (v ∷ [])) r
+loaded-one vs v b r t l room h g w =
+    let c = l .counted in
+    let i : b .count < 6 = omega arith in
+    record {
+      counted = w .counted i ∙ simp length-append (omega arith);
+      states = w .states i ∙ rw (count-snoc, size-is v (h .low) (h .high) (g .ordered), l .states);
+      lows = rw (w .lows i, c) (slots-one _ _ vs (b .lows) (l .lows) room v (t .low - 65408) (rebased-slot (h .low) (omega arith)) (omega arith));
+      highs = rw (w .highs i, c) (slots-one _ _ vs (b .highs) (l .highs) room v (t .high - 65408) (rebased-slot (h .high) (omega arith)) (omega arith));
+      starts = rw (w .starts i, c) (slots-one _ _ vs (b .starts) (l .starts) room v (t .start - 65408) (rebased-slot (h .start) (omega arith)) (omega arith));
+    }
+
+-- Good ranges, by index
+
+pub good-at : {vs : List Var} → GoodRanges vs → (k : ℕ) (v : Var) → getElem? vs k ≡ some v → GoodRange v
+good-at no-vars k v e = no-some e
+good-at (one-var {v = u} g gs) zero v e = rw (← Option·some-injective u v e) g
+good-at (one-var g gs) (suc k) v e = good-at gs k v e
+
+size-pos : (v : Var) → 0 < size v
+unfolding size
+size-pos v = omega arith
+
+-- the states of what is left from an index
+pub count-drop : (vs : List Var) (k : ℕ) → count (drop k vs) ≤ count vs
+unfolding count
+count-drop [] zero = omega arith
+count-drop [] (suc k) = omega arith
+count-drop (v ∷ vs) zero = omega arith
+count-drop (v ∷ vs) (suc k) =
+    omega (arith, count-drop vs k, le-mul-of-pos-right (count vs) (size-pos v), mul-comm (count vs) (size v))

@@ -1,0 +1,298 @@
+// The variables of a file: their bounds and start values from its tokens (7), and states as values and as numbers.
+// Values are held with 128 added.
+ghost use mathlib.Core.Path.{_≡_};
+ghost use mathlib.Core.List.{List, [], _++_};
+ghost use Prim.Native.Nat.{ℕ, _+_, _^_, _<_, _≤_};
+ghost use lib.ListN.{drop, length, getD};
+ghost use lib.IntN.{ℤ};
+ghost use Rattle.syntax.specs.Token.{Lexeme};
+ghost use Rattle.syntax.specs.Tree.{Var, each, spellVar};
+ghost use Rattle.meaning.specs.State.{stateAt, numberOf, count};
+ghost use Rattle.meaning.specs.Accepting.{State};
+ghost use Rattle.variables.specs.Bounded.{Numbers, EndsVars, Ranged, Bounded};
+ghost use Rattle.meaning.specs.Biased.{Biased};
+ghost use Rattle.variables.specs.Reading.{IntAt, TripleAt, Good, Fitting, WithVar, Loaded, SizeOf, Weights, Weighed, DigitOf, ShareOf};
+
+// At most six variables: bounds, start values, sizes of ranges, and weights in a state's number.
+pub struct Bounds {
+    pub lows: [u16; 6],
+    pub highs: [u16; 6],
+    pub starts: [u16; 6],
+    pub weights: [u16; 6],
+    pub count: usize,
+    pub states: usize,
+}
+
+// The variables, with the token behind them; or the token of the first variable with a bad range (7).
+pub struct Declared {
+    pub ok: bool,
+    pub token: usize,
+    pub bounds: Bounds,
+}
+
+// The kinds of - and of var.
+const MINUS: u8 = 15;
+
+const VAR: u8 = 20;
+
+// What is added to an integer so that it is never below 0.
+const OFFSET: u32 = 65536;
+
+// -128 and 127, with that added.
+const LOWEST: u32 = 65408;
+
+const HIGHEST: u32 = 65663;
+
+// An integer with 65,536 added, and the token behind it.
+struct Integer {
+    value: u32,
+    next: usize,
+}
+
+// The start value and the bounds of a variable, each with 65,536 added, and the token behind it.
+struct Triple {
+    start: u32,
+    low: u32,
+    high: u32,
+    next: usize,
+}
+
+// The kind of a token, 0 past the end.
+fn kind_at(kinds: &[u8], at: usize) -> u8
+    ensures { λ r. ⌜ r ≡ getD (now (kinds .entry)) at 0 ⌝ }
+{
+    if at < kinds.len() { kinds[at] } else { 0 }
+}
+
+// The value of a token, 0 past the end.
+fn value_at(values: &[u16], at: usize) -> u16
+    ensures { λ r. ⌜ r ≡ getD (now (values .entry)) at 0 ⌝ }
+{
+    if at < values.len() { values[at] } else { 0 }
+}
+
+// The integer that begins at a token.
+fn int_at(kinds: &[u8], values: &[u16], at: usize) -> Integer
+    requires { ⌜ at < 2 ^ 63 + 16 ⌝ }
+    ensures { λ r. ⌜ IntAt (now (kinds .entry)) (now (values .entry)) at r ⌝ }
+{
+    if kind_at(kinds, at) == MINUS {
+        Integer {
+            value: OFFSET - value_at(values, at + 1) as u32,
+            next: at + 2,
+        }
+    } else {
+        Integer {
+            value: OFFSET + value_at(values, at) as u32,
+            next: at + 1,
+        }
+    }
+}
+
+// The variable that begins at a token: var NAME = start in low .. high ;
+fn triple_at(kinds: &[u8], values: &[u16], at: usize) -> Triple
+    requires { ⌜ at < 2 ^ 63 ⌝ }
+    ensures { λ r. ⌜ TripleAt (now (kinds .entry)) (now (values .entry)) at r ⌝ }
+{
+    let start = int_at(kinds, values, at + 3);
+    let low = int_at(kinds, values, start.next + 1);
+    let high = int_at(kinds, values, low.next + 1);
+    Triple {
+        start: start.value,
+        low: low.value,
+        high: high.value,
+        next: high.next + 1,
+    }
+}
+
+// Whether a variable's bounds and start value are good and leave at most 4,096 states.
+fn fits(states: usize, v: Triple) -> bool
+    requires { ⌜ states ≤ 4096 ⌝ }
+    ensures { λ r. ⌜ Fitting states v r ⌝ }
+{
+    if v.high < v.low {
+        return false;
+    }
+    if v.low < LOWEST {
+        return false;
+    }
+    if HIGHEST < v.high {
+        return false;
+    }
+    if v.start < v.low {
+        return false;
+    }
+    if v.high < v.start {
+        return false;
+    }
+    states * ((v.high - v.low) as usize + 1) <= 4096
+}
+
+// No variables: slots without a variable have an empty range, and 0 as their start value.
+fn no_bounds() -> Bounds
+    ensures { λ r. ⌜ Loaded [] r ⌝ }
+{
+    Bounds {
+        lows: [1u16; 6],
+        highs: [0u16; 6],
+        starts: [128u16; 6],
+        weights: [1u16; 6],
+        count: 0,
+        states: 1,
+    }
+}
+
+// One good variable more.
+fn with_var(bounds: Bounds, v: Triple) -> Bounds
+    requires { ⌜ Good (bounds .states) v ⌝ }
+    requires { ⌜ (bounds .count ≤ 6) × (bounds .states ≤ 4096) ⌝ }
+    ensures { λ r. ⌜ WithVar bounds v r ⌝ }
+{
+    let mut next = bounds;
+    let at = bounds.count;
+    if at < 6 {
+        next.lows[at] = (v.low - LOWEST) as u16;
+        next.highs[at] = (v.high - LOWEST) as u16;
+        next.starts[at] = (v.start - LOWEST) as u16;
+        next.count = at + 1;
+        next.states = bounds.states * ((v.high - v.low) as usize + 1);
+    }
+    next
+}
+
+// How many values a range has.
+fn size_of(low: u16, high: u16) -> usize
+    ensures { λ r. ⌜ SizeOf low high r ⌝ }
+{
+    if low <= high {
+        (high - low) as usize + 1
+    } else {
+        0
+    }
+}
+
+// The weights of the variables, the last one weighing 1. The remainder keeps the product small for any bounds.
+fn weights_of(lows: [u16; 6], highs: [u16; 6], count: usize) -> [u16; 6]
+    requires { ⌜ count ≤ 6 ⌝ }
+    ensures { λ r. ⌜ Weights lows highs count r ⌝ }
+{
+    let mut weights = [1u16; 6];
+    let mut weight: usize = 1;
+    let mut k = count;
+    while 0 < k {
+        k -= 1;
+        weights[k] = weight as u16;
+        weight = weight * size_of(lows[k], highs[k]) % 65536;
+    }
+    weights
+}
+
+// Bounds with their weights.
+fn weighed(bounds: Bounds) -> Bounds
+    requires { ⌜ bounds .count ≤ 6 ⌝ }
+    ensures { λ r. ⌜ Weighed bounds r ⌝ }
+{
+    let mut next = bounds;
+    let lows = bounds.lows;
+    let highs = bounds.highs;
+    let weights = weights_of(lows, highs, bounds.count);
+    next.weights = weights;
+    next
+}
+
+// The variables that begin at a token.
+pub fn read(kinds: &[u8], values: &[u16], at: usize) -> Declared
+    ensures { λ r. ⌜ ((vs : List Var) (ls us : List Lexeme) → Numbers ls (now (kinds .entry)) (now (values .entry))
+        → drop at ls ≡ each spellVar vs ++ us → EndsVars us → length vs ≤ 6 → length ls ≤ 8192
+        → Ranged vs ls us at r) ⌝ }
+{
+    let mut bounds = no_bounds();
+    let mut i = at;
+    while kind_at(kinds, i) == VAR {
+        let v = triple_at(kinds, values, i);
+        if !fits(bounds.states, v) {
+            return Declared {
+                ok: false,
+                token: i,
+                bounds: bounds,
+            };
+        }
+        bounds = with_var(bounds, v);
+        i = v.next;
+    }
+    let all = weighed(bounds);
+    Declared {
+        ok: true,
+        token: i,
+        bounds: all,
+    }
+}
+
+// A value, and the number that is left for the variables behind it.
+struct Digit {
+    value: u16,
+    rest: usize,
+}
+
+// The value that a number says at a weight. The remainders keep the sum small for any number.
+fn digit_of(low: u16, weight: u16, rest: usize) -> Digit
+    ensures { λ r. ⌜ DigitOf low weight rest r ⌝ }
+{
+    if weight == 0 {
+        return Digit {
+            value: low,
+            rest: rest,
+        };
+    }
+    let w = weight as usize;
+    Digit {
+        value: ((low as usize + rest / w % 65536) % 65536) as u16,
+        rest: rest % w,
+    }
+}
+
+// The values of the state with a number.
+pub fn values_of(bounds: Bounds, state: usize) -> [u16; 6]
+    ensures { λ r. ⌜ ((vs : List Var) → Bounded vs bounds → state < count vs → Biased vs (stateAt vs state) r) ⌝ }
+{
+    let mut values = [128u16; 6];
+    let mut rest = state;
+    let mut k = 0;
+    while k < 6 {
+        if bounds.count <= k {
+            return values;
+        }
+        let digit = digit_of(bounds.lows[k], bounds.weights[k], rest);
+        values[k] = digit.value;
+        rest = digit.rest;
+        k += 1;
+    }
+    values
+}
+
+// What a value adds to a state's number.
+fn share_of(value: u16, low: u16, weight: u16) -> usize
+    ensures { λ r. ⌜ ShareOf value low weight r ⌝ }
+{
+    if low <= value {
+        (value - low) as usize * weight as usize
+    } else {
+        0
+    }
+}
+
+// The number of the state with some values.
+pub fn number_of(bounds: Bounds, values: [u16; 6]) -> usize
+    ensures { λ r. ⌜ ((vs : List Var) (as′ : List ℤ) → Bounded vs bounds → Biased vs as′ values → State vs as′ → r ≡ numberOf vs as′) ⌝ }
+{
+    let mut number: usize = 0;
+    let mut k = 0;
+    while k < 6 {
+        if bounds.count <= k {
+            return number;
+        }
+        number += share_of(values[k], bounds.lows[k], bounds.weights[k]);
+        k += 1;
+    }
+    number
+}
