@@ -1,7 +1,9 @@
--- How a lexeme is held as two numbers, its kind and a value: for the code, which walks tokens as numbers.
-use Prim.Native.Nat.{ℕ, _+_}
+-- How tokens are held as numbers, for the code: of each its kind, a value and its place.
+use Prim.Native.Nat.{ℕ, _+_, _≤_}
+use mathlib.Core.Path.{_≡_}
+use mathlib.Core.List.{List, map}
 use lib.ListN.{length}
-use Rattle.syntax.specs.Token.{Lexeme, name, key, number, mark, markNumber, keywordNumber}
+use Rattle.syntax.specs.Token.{Lexeme, name, key, number, mark, markNumber, keywordNumber, Token, tokens, tokenize}
 
 -- a mark's number, 19 and a keyword's, 29 for a number, 30 for a name
 unfoldable pub kindOf : Lexeme → ℕ
@@ -16,3 +18,11 @@ valueOf (name x) = length x
 valueOf (key k) = 0
 valueOf (number n) = n
 valueOf (mark m) = 0
+
+-- the tokens of a file of at most 8,192 bytes
+pub record Words (file : List ℕ) (ts : List Token) (kinds values places : List ℕ) : Type 0 where
+  pub short : length file ≤ 8192
+  pub cut : tokenize file ≡ tokens ts
+  pub by-kind : kinds ≡ map (λ t. kindOf (t .lexeme)) ts
+  pub by-value : values ≡ map (λ t. valueOf (t .lexeme)) ts
+  pub by-place : places ≡ map (λ t. t .at) ts

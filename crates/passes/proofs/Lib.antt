@@ -1,0 +1,4 @@
+pub mod Laws
+pub mod Naming
+pub mod Listing
+pub mod Misnaming

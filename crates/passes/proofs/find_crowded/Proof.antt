@@ -1,0 +1,114 @@
+-- `passes::find_crowded` answers `crowded`: at each turn `crowded` of the whole file is `crowded` of the tokens that are left, with the counts so far.
+use Prim.Native.Nat.{ℕ, _≤_, _-_}
+use native.Mathlib.Omega.{arith}
+use mathlib.Core.Path.{_≡_, sym, _∙_}
+use mathlib.Core.List.{List}
+use lib.ListN.{length, drop}
+use borrow.Author.Needs.{needs}
+use Rattle.syntax.specs.Token.{Token}
+use Rattle.meaning.specs.Check.{crowded}
+use Rattle.syntax.specs.Kind.{Words}
+use Rattle.passes.specs.Kinds.{kind-opens, kind-closes}
+use Rattle.passes.proofs.Laws.{tokenAt, kind-at, places-long, tally-up, offends, goes-on, ends, crowding}
+use Rattle.passes.proofs.find_crowded.Statement.{statement}
+use Rattle.passes.proofs.find_crowded.Tie as tie
+
+abbrev Inv-loop : tie.InvT-loop
+Inv-loop kinds places opened₀ closed₀ i₀ opened closed i =
+    (i ≤ length kinds) × (opened ≤ i) × (closed ≤ i)
+    × ((file : List ℕ) (ts : List Token) (values : List ℕ) → Words file ts kinds values places
+    → crowded 0 0 0 ts ≡ crowded i opened closed (drop i ts))
+
+abbrev μ-loop : tie.MeasureT-loop
+μ-loop kinds places opened₀ closed₀ i₀ opened closed i = length kinds - i
+
+returns : tie.Need-returns Inv-loop μ-loop
+returns c file ts values h = absurd (c .if1 .taken (places-long h))
+
+loop-holds : tie.Need-loop-holds Inv-loop μ-loop
+loop-holds c = search needs
+
+shared-slice-read-kind : tie.Need-shared-slice-read-kind Inv-loop μ-loop
+shared-slice-read-kind c = omega arith
+
+crowds-requires : tie.Need-crowds-requires Inv-loop μ-loop
+crowds-requires c κs = omega arith
+
+mul-t15 : tie.Need-mul-t15 Inv-loop μ-loop
+mul-t15 c = search needs
+
+shared-slice-read-t17 : tie.Need-shared-slice-read-t17 Inv-loop μ-loop
+shared-slice-read-t17 c = omega arith
+
+returns-2 : tie.Need-returns-2 Inv-loop μ-loop
+returns-2 c file ts values h =
+    let a = c .before .before .before .before .before .loop in
+    let t = c .before .before .crowds .ensures (tokenAt ts (a .i) .lexeme) (kind-at h (a .i)) in
+    offends crowding h (0, 0, 0) (a .i, a .opened, a .closed) (a .i) (a .inv .3 file ts values h) (omega arith) (sym t ∙ c .before .if2 .taken)
+
+either-requires : tie.Need-either-requires Inv-loop μ-loop
+either-requires c κs = search needs
+
+more-requires : tie.Need-more-requires Inv-loop μ-loop
+more-requires c κs = omega arith
+
+either-requires-2 : tie.Need-either-requires-2 Inv-loop μ-loop
+either-requires-2 c κs = search needs
+
+more-requires-2 : tie.Need-more-requires-2 Inv-loop μ-loop
+more-requires-2 c κs = omega arith
+
+add-i : tie.Need-add-i Inv-loop μ-loop
+add-i c = omega arith
+
+loop-less : tie.Need-loop-less Inv-loop μ-loop
+loop-less c = omega arith
+
+loop-again : tie.Need-loop-again Inv-loop μ-loop
+loop-again c = (
+  omega arith,
+  tally-up _ _ _ _ (c .before .before .more .ensures) (omega arith),
+  tally-up _ _ _ _ (c .more2 .ensures) (omega arith),
+  λ file ts values h.
+      let a = c .before .before .before .before .before .before .before .before .loop in
+      let l = tokenAt ts (a .i) .lexeme in
+      let k = kind-at h (a .i) in
+      let t = c .before .before .before .before .before .crowds .ensures l k in
+      rw (
+        c .before .before .more .ensures,
+        c .more2 .ensures,
+        c .before .before .before .either .ensures,
+        c .before .either2 .ensures,
+        k,
+        ← kind-opens,
+        ← kind-closes,
+      )
+      (goes-on crowding h (0, 0, 0) (a .i, a .opened, a .closed) (a .i) (a .inv .3 file ts values h) (omega arith) (sym t ∙ c .before .before .before .before .if2 .left)),
+)
+
+returns-3 : tie.Need-returns-3 Inv-loop μ-loop
+returns-3 c file ts values h =
+    let a = c .before .loop in
+    ends crowding h (0, 0, 0) (a .i, a .opened, a .closed) (a .i) (a .inv .3 file ts values h) (omega arith)
+
+pub find-crowded-spec : {M : Type 1} → statement M
+find-crowded-spec =
+    tie.close
+    (tie.spec
+    Inv-loop
+    μ-loop
+    returns
+    loop-holds
+    shared-slice-read-kind
+    crowds-requires
+    mul-t15
+    shared-slice-read-t17
+    returns-2
+    either-requires
+    more-requires
+    either-requires-2
+    more-requires-2
+    add-i
+    loop-less
+    loop-again
+    returns-3)

@@ -1,0 +1,104 @@
+-- `passes::find_past_limit` answers `pastLimit`: at each turn `pastLimit` of the whole file is `pastLimit` of the tokens that are left, with the counts so far.
+use Prim.Native.Nat.{ℕ, _≤_, _-_}
+use native.Mathlib.Omega.{arith}
+use mathlib.Core.Path.{_≡_, sym, _∙_}
+use mathlib.Core.List.{List}
+use lib.ListN.{length, drop}
+use borrow.Author.Needs.{needs}
+use Rattle.syntax.specs.Token.{Token, k-var, k-method, k-waituntil, keywordNumber}
+use Rattle.meaning.specs.Check.{pastLimit}
+use Rattle.syntax.specs.Kind.{Words}
+use Rattle.passes.specs.Kinds.{kind-key}
+use Rattle.passes.proofs.Laws.{tokenAt, kind-at, places-long, tally-up, offends, goes-on, ends, limiting}
+use Rattle.passes.proofs.find_past_limit.Statement.{statement}
+use Rattle.passes.proofs.find_past_limit.Tie as tie
+
+abbrev Inv-loop : tie.InvT-loop
+Inv-loop kinds places vars₀ methods₀ regions₀ i₀ vars methods regions i =
+    (i ≤ length kinds) × (vars ≤ i) × (methods ≤ i) × (regions ≤ i)
+    × ((file : List ℕ) (ts : List Token) (values : List ℕ) → Words file ts kinds values places
+    → pastLimit 0 0 0 ts ≡ pastLimit vars methods regions (drop i ts))
+
+abbrev μ-loop : tie.MeasureT-loop
+μ-loop kinds places vars₀ methods₀ regions₀ i₀ vars methods regions i = length kinds - i
+
+returns : tie.Need-returns Inv-loop μ-loop
+returns c file ts values h = absurd (c .if1 .taken (places-long h))
+
+loop-holds : tie.Need-loop-holds Inv-loop μ-loop
+loop-holds c = search needs
+
+shared-slice-read-kind : tie.Need-shared-slice-read-kind Inv-loop μ-loop
+shared-slice-read-kind c = omega arith
+
+mul-place : tie.Need-mul-place Inv-loop μ-loop
+mul-place c = search needs
+
+shared-slice-read-place : tie.Need-shared-slice-read-place Inv-loop μ-loop
+shared-slice-read-place c = omega arith
+
+exceeds-requires : tie.Need-exceeds-requires Inv-loop μ-loop
+exceeds-requires c κs = search needs
+
+returns-2 : tie.Need-returns-2 Inv-loop μ-loop
+returns-2 c file ts values h =
+    let a = c .before .before .before .before .before .loop in
+    let t = c .before .exceeds .ensures (tokenAt ts (a .i) .lexeme) (kind-at h (a .i)) in
+    offends limiting h (0, 0, 0) (a .vars, a .methods, a .regions) (a .i) (a .inv .4 file ts values h) (omega arith) (sym t ∙ c .if2 .taken)
+
+more-requires : tie.Need-more-requires Inv-loop μ-loop
+more-requires c κs = omega arith
+
+more-requires-2 : tie.Need-more-requires-2 Inv-loop μ-loop
+more-requires-2 c κs = omega arith
+
+more-requires-3 : tie.Need-more-requires-3 Inv-loop μ-loop
+more-requires-3 c κs = omega arith
+
+add-i : tie.Need-add-i Inv-loop μ-loop
+add-i c = omega arith
+
+loop-less : tie.Need-loop-less Inv-loop μ-loop
+loop-less c = omega arith
+
+loop-again : tie.Need-loop-again Inv-loop μ-loop
+unfolding keywordNumber
+loop-again c = (
+  omega arith,
+  tally-up _ _ _ _ (c .before .before .more .ensures) (omega arith),
+  tally-up _ _ _ _ (c .before .more2 .ensures) (omega arith),
+  tally-up _ _ _ _ (c .more3 .ensures) (omega arith),
+  λ file ts values h.
+      let a = c .before .before .before .before .before .before .before .before .loop in
+      let l = tokenAt ts (a .i) .lexeme in
+      let k = kind-at h (a .i) in
+      let t = c .before .before .before .before .exceeds .ensures l k in
+      rw (c .before .before .more .ensures, c .before .more2 .ensures, c .more3 .ensures, k, ← kind-key k-var, ← kind-key k-method, ← kind-key k-waituntil)
+      (goes-on limiting h (0, 0, 0) (a .vars, a .methods, a .regions) (a .i) (a .inv .4 file ts values h) (omega arith) (sym t ∙ c .before .before .before .if2 .left)),
+)
+
+returns-3 : tie.Need-returns-3 Inv-loop μ-loop
+returns-3 c file ts values h =
+    let a = c .before .loop in
+    ends limiting h (0, 0, 0) (a .vars, a .methods, a .regions) (a .i) (a .inv .4 file ts values h) (omega arith)
+
+pub find-past-limit-spec : {M : Type 1} → statement M
+find-past-limit-spec =
+    tie.close
+    (tie.spec
+    Inv-loop
+    μ-loop
+    returns
+    loop-holds
+    shared-slice-read-kind
+    mul-place
+    shared-slice-read-place
+    exceeds-requires
+    returns-2
+    more-requires
+    more-requires-2
+    more-requires-3
+    add-i
+    loop-less
+    loop-again
+    returns-3)

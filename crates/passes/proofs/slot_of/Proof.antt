@@ -1,0 +1,101 @@
+-- `passes::slot_of` answers `slotIn`: at each turn the slot among all names is the number passed and the slot among those that are left.
+use Prim.Native.Nat.{ℕ, _+_, _-_, _≤_, _<_}
+use native.Mathlib.Omega.{arith}
+use mathlib.Core.Path.{_≡_, sym, _∙_}
+use mathlib.Core.List.{List, []}
+use lib.ListN.{length, drop, getD}
+use borrow.Author.Needs.{needs}
+use borrow.Author.Tests.{ltb-true, ltb-false}
+use Rattle.passes.specs.Tokens.{slotIn, Stands, Titles}
+use Rattle.passes.proofs.Naming.{slot-hit, slot-miss, slot-end}
+use Rattle.passes.proofs.slot_of.Statement.{statement}
+use Rattle.passes.proofs.slot_of.Tie as tie
+
+abbrev Inv-loop : tie.InvT-loop
+Inv-loop file start len names i₀ i =
+    (i ≤ 8)
+    × ((titles : List (List ℕ)) (x : List ℕ) → Titles file titles names → Stands file x start len → slotIn titles x ≡ i + slotIn (drop i titles) x)
+
+abbrev μ-loop : tie.MeasureT-loop
+μ-loop file start len names i₀ i = 8 - i
+
+loop-holds : tie.Need-loop-holds Inv-loop μ-loop
+loop-holds c = (omega arith, λ titles x t s. omega arith)
+
+mul-same-part : tie.Need-mul-same-part Inv-loop μ-loop
+mul-same-part c = search needs
+
+element-copy-out-same-part : tie.Need-element-copy-out-same-part Inv-loop μ-loop
+element-copy-out-same-part c = omega (arith, ltb-true)
+
+mul-same-part-2 : tie.Need-mul-same-part-2 Inv-loop μ-loop
+mul-same-part-2 c = search needs
+
+element-copy-out-same-part-2 : tie.Need-element-copy-out-same-part-2 Inv-loop μ-loop
+element-copy-out-same-part-2 c = omega (arith, ltb-true)
+
+same-part-requires : tie.Need-same-part-requires Inv-loop μ-loop
+same-part-requires c κs = search needs
+
+returns : tie.Need-returns Inv-loop μ-loop
+returns c = (
+  omega arith,
+  λ titles x t s.
+      let a = c .before .before .before .before .before .before .loop in
+      let l : a .i < length titles = omega (arith, t .counted) in
+      let e = slot-hit titles x (a .i) l (sym (c .before .same-part .ensures (getD titles (a .i) []) x (t .held (a .i) l) s) ∙ c .if2 .taken) in
+      omega (arith, a .inv .1 titles x t s),
+)
+
+add-i : tie.Need-add-i Inv-loop μ-loop
+add-i c = omega arith
+
+loop-less : tie.Need-loop-less Inv-loop μ-loop
+loop-less c = omega (arith, ltb-true)
+
+loop-again : tie.Need-loop-again Inv-loop μ-loop
+loop-again c = (
+  omega (arith, ltb-true),
+  λ titles x t s.
+      let a = c .before .before .before .before .before .before .loop in
+      let l : a .i < length titles = omega (arith, t .counted) in
+      let e = slot-miss titles x (a .i) l (sym (c .before .same-part .ensures (getD titles (a .i) []) x (t .held (a .i) l) s) ∙ c .if2 .left) in
+      omega (arith, a .inv .1 titles x t s),
+)
+
+returns-2 : tie.Need-returns-2 Inv-loop μ-loop
+returns-2 c = (
+  omega arith,
+  λ titles x t s.
+      let a = c .before .before .loop in
+      let e = slot-end titles x (a .i) (omega (arith, ltb-false, t .room)) in
+      omega (arith, a .inv .1 titles x t s),
+)
+
+returns-3 : tie.Need-returns-3 Inv-loop μ-loop
+returns-3 c = (
+  omega arith,
+  λ titles x t s.
+      let a = c .before .loop in
+      let e = slot-end titles x (a .i) (omega (arith, t .counted)) in
+      omega (arith, a .inv .1 titles x t s),
+)
+
+pub slot-of-spec : {M : Type 1} → statement M
+slot-of-spec =
+    tie.close
+    (tie.spec
+    Inv-loop
+    μ-loop
+    loop-holds
+    mul-same-part
+    element-copy-out-same-part
+    mul-same-part-2
+    element-copy-out-same-part-2
+    same-part-requires
+    returns
+    add-i
+    loop-less
+    loop-again
+    returns-2
+    returns-3)

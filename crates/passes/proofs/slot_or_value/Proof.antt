@@ -1,0 +1,25 @@
+-- `passes::slot_or_value` answers `slotOrValue`, by the kind.
+use mathlib.Core.Path.{sym, _∙_}
+use borrow.Author.Needs.{needs}
+use Rattle.passes.specs.Tokens.{slotOrValue}
+use Rattle.passes.proofs.Naming.{a-name, value-other}
+use Rattle.passes.proofs.slot_or_value.Statement.{statement}
+use Rattle.passes.proofs.slot_or_value.Tie as tie
+
+slot-of-requires : tie.Need-slot-of-requires
+slot-of-requires c κs = search needs
+
+cast-result : tie.Need-cast-result
+cast-result c = search needs
+
+returns : tie.Need-returns
+unfolding slotOrValue
+returns c titles l t k v s =
+    let n = a-name l (sym k ∙ c .before .if1 .taken) in
+    rw (n .1) (c .slot-of .ensures .1 titles (n .0) t (s (n .0) (n .1)))
+
+returns-2 : tie.Need-returns-2
+returns-2 c titles l t k v s = v ∙ sym (value-other titles l (λ e. c .if1 .left (k ∙ e)))
+
+pub slot-or-value-spec : {M : Type 1} → statement M
+slot-or-value-spec = tie.close (tie.spec slot-of-requires cast-result returns returns-2)

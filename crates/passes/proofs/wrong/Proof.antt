@@ -1,0 +1,55 @@
+-- `passes::wrong` answers `wrongly`: the kind tells a name, and the kind before it which names it is looked for among.
+use mathlib.Core.Path.{sym, ap, _∙_}
+use mathlib.Core.Bool.{not}
+use borrow.Author.Needs.{needs}
+use borrow.Author.Tests.{ne-eqb}
+use Rattle.passes.specs.Tokens.{wrongBy}
+use Rattle.passes.proofs.Naming.{a-name, wrong-other, wrong-name}
+use Rattle.passes.proofs.wrong.Statement.{statement}
+use Rattle.passes.proofs.wrong.Tie as tie
+
+returns : tie.Need-returns
+returns c vs ms l last t u k b s = sym (wrong-other last l vs ms (λ e. c .if1 .taken (k ∙ e)))
+
+among-requires : tie.Need-among-requires
+among-requires c κs = search needs
+
+returns-2 : tie.Need-returns-2
+unfolding wrongBy
+returns-2 c vs ms l last t u k b s =
+    let n = a-name l (sym k ∙ c .before .before .if1 .left) in
+    rw (n .1, wrong-name last vs ms (n .0), ← b, c .before .if2 .taken) (c .among .ensures ms (n .0) u (s (n .0) (n .1)))
+
+returns-3 : tie.Need-returns-3
+unfolding wrongBy
+returns-3 c vs ms l last t u k b s =
+    let n = a-name l (sym k ∙ c .before .before .if1 .left) in
+    rw (n .1, wrong-name last vs ms (n .0), ← b, c .if3 .taken)
+
+among-requires-2 : tie.Need-among-requires-2
+among-requires-2 c κs = search needs
+
+returns-4 : tie.Need-returns-4
+unfolding wrongBy
+returns-4 c vs ms l last t u k b s =
+    let n = a-name l (sym k ∙ c .before .before .before .before .if1 .left) in
+    rw (n .1, wrong-name last vs ms (n .0), ← b, c .if4 .taken) (c .before .among2 .ensures vs (n .0) t (s (n .0) (n .1)))
+
+returns-5 : tie.Need-returns-5
+unfolding wrongBy
+returns-5 c vs ms l last t u k b s =
+    let n = a-name l (sym k ∙ c .before .before .before .before .if1 .left) in
+    rw (
+      n .1,
+      wrong-name last vs ms (n .0),
+      ← b,
+      ne-eqb _ 20 (c .if4 .left),
+      ne-eqb _ 23 (c .before .before .before .if2 .left),
+      ne-eqb _ 19 (c .before .before .if3 .left),
+    )
+    (ap not (c .before .among2 .ensures vs (n .0) t (s (n .0) (n .1))))
+
+pub wrong-spec : {M : Type 1} → statement M
+wrong-spec =
+    tie.close
+    (tie.spec returns among-requires returns-2 returns-3 among-requires-2 returns-4 returns-5)

@@ -1,0 +1,332 @@
+// The passes over a file's tokens that answer 3, 5 and 6, and the pass that gives each name its slot among the variables.
+ghost use mathlib.Core.Path.{_≡_};
+ghost use mathlib.Core.Bool.{_&&_, _||_};
+ghost use Prim.Native.Nat.{ℕ, _+_, _≤_, _<_};
+ghost use mathlib.Core.List.{List, []};
+ghost use mathlib.Core.Option.{none};
+ghost use lib.Dec.{leb, eqb};
+ghost use Rattle.syntax.specs.Bytes.{sameBytes};
+ghost use Rattle.syntax.specs.Token.{Token, Lexeme, name, number, k-var, k-method, k-waituntil, isKey};
+ghost use Rattle.syntax.specs.Kind.{kindOf, valueOf, Words};
+ghost use Rattle.meaning.specs.Check.{opens, tally, crowded, pastLimit, member, misnamed};
+ghost use Rattle.passes.specs.Tokens.{foundOf, titlesOf, slotIn, slotOrValue, Resolved, Stands, Titles, Grows, Judges};
+
+// The place of the first token that offends, or that there is none.
+pub enum Found {
+    At(u16),
+    Nothing,
+}
+
+const LBRACE: u8 = 0;
+
+const RBRACE: u8 = 1;
+
+const LPAREN: u8 = 2;
+
+const RPAREN: u8 = 3;
+
+const MONITOR: u8 = 19;
+
+const VAR: u8 = 20;
+
+const METHOD: u8 = 23;
+
+const WAITUNTIL: u8 = 24;
+
+// Also the kind before the first token, which declares nothing.
+const NUMBER: u8 = 29;
+
+const NAME: u8 = 30;
+
+// Is a kind one of two?
+fn either(kind: u8, a: u8, b: u8) -> bool
+    ensures { λ r. ⌜ r ≡ (eqb kind a || eqb kind b) ⌝ }
+{
+    kind == a || kind == b
+}
+
+// A count, with one more where the test holds.
+fn more(n: usize, one: bool) -> usize
+    requires { ⌜ n < 9223372036854775808 ⌝ }
+    ensures { λ r. ⌜ r ≡ tally one n ⌝ }
+{
+    if one {
+        return n + 1;
+    }
+    n
+}
+
+// Is this token past the 1,024th, or one that opens the thirteenth level?
+fn crowds(kind: u8, passed: usize, opened: usize, closed: usize) -> bool
+    requires { ⌜ closed ≤ passed ⌝ }
+    ensures { λ r. ⌜ ((l : Lexeme) → kind ≡ kindOf l → r ≡ (leb 1024 passed || (opens l && leb (closed + 12) opened))) ⌝ }
+{
+    if 1024 <= passed {
+        return true;
+    }
+    if either(kind, LBRACE, LPAREN) {
+        return closed + 12 <= opened;
+    }
+    false
+}
+
+// 3: more than 1,024 tokens, or brackets and braces nested deeper than 12.
+pub fn find_crowded(kinds: &[u8], places: &[u16]) -> Found
+    ensures { λ r. ⌜ ((file : List ℕ) (ts : List Token) (values : List ℕ)
+        → Words file ts (now (kinds .entry)) values (now (places .entry)) → r ≡ foundOf (crowded 0 0 0 ts)) ⌝ }
+{
+    if places.len() != kinds.len() {
+        return Found::Nothing;
+    }
+    let mut opened: usize = 0;
+    let mut closed: usize = 0;
+    let mut i = 0;
+    while i < kinds.len() {
+        let kind = kinds[i];
+        if crowds(kind, i, opened, closed) {
+            return Found::At(places[i]);
+        }
+        opened = more(opened, either(kind, LBRACE, LPAREN));
+        closed = more(closed, either(kind, RBRACE, RPAREN));
+        i += 1;
+    }
+    Found::Nothing
+}
+
+// Is this token a var past 6, a method past 8 or a waituntil past 16?
+fn exceeds(kind: u8, vars: usize, methods: usize, regions: usize) -> bool
+    ensures { λ r. ⌜ ((l : Lexeme) → kind ≡ kindOf l → r ≡ ((isKey k-var l && leb 6 vars) || (isKey k-method l && leb 8 methods)
+        || (isKey k-waituntil l && leb 16 regions))) ⌝ }
+{
+    if kind == VAR {
+        return 6 <= vars;
+    }
+    if kind == METHOD {
+        return 8 <= methods;
+    }
+    if kind == WAITUNTIL {
+        return 16 <= regions;
+    }
+    false
+}
+
+// 5: a var past 6, a method past 8 or a waituntil past 16.
+pub fn find_past_limit(kinds: &[u8], places: &[u16]) -> Found
+    ensures { λ r. ⌜ ((file : List ℕ) (ts : List Token) (values : List ℕ)
+        → Words file ts (now (kinds .entry)) values (now (places .entry)) → r ≡ foundOf (pastLimit 0 0 0 ts)) ⌝ }
+{
+    if places.len() != kinds.len() {
+        return Found::Nothing;
+    }
+    let mut vars: usize = 0;
+    let mut methods: usize = 0;
+    let mut regions: usize = 0;
+    let mut i = 0;
+    while i < kinds.len() {
+        let kind = kinds[i];
+        let place = places[i];
+        if exceeds(kind, vars, methods, regions) {
+            return Found::At(place);
+        }
+        vars = more(vars, kind == VAR);
+        methods = more(methods, kind == METHOD);
+        regions = more(regions, kind == WAITUNTIL);
+        i += 1;
+    }
+    Found::Nothing
+}
+
+// Up to eight declared names: where each begins in the file, and its length.
+pub struct Names {
+    pub starts: [u16; 8],
+    pub lens: [u16; 8],
+    pub count: usize,
+}
+
+fn no_names() -> Names
+    ensures { λ r. ⌜ ((file : List ℕ) → Titles file [] r) ⌝ }
+{
+    Names {
+        starts: [0u16; 8],
+        lens: [0u16; 8],
+        count: 0,
+    }
+}
+
+// Whether two parts of the file are the same bytes.
+fn same_part(file: &[u8], a: u16, a_len: u16, b: u16, b_len: u16) -> bool
+    ensures { λ r. ⌜ ((x y : List ℕ) → Stands (now (file .entry)) x a «a_len» → Stands (now (file .entry)) y b «b_len» → r ≡ sameBytes x y) ⌝ }
+{
+    let s = a as usize;
+    let e = s + a_len as usize;
+    let t = b as usize;
+    let f = t + b_len as usize;
+    if file.len() < e {
+        return false;
+    }
+    if file.len() < f {
+        return false;
+    }
+    check::same(&file[s..e], &file[t..f])
+}
+
+// The slot of a name among the declared ones, or their count.
+fn slot_of(file: &[u8], names: Names, start: u16, len: u16) -> usize
+    ensures within { λ r. ⌜ r ≤ 8 ⌝ }
+    ensures slot { λ r. ⌜ ((titles : List (List ℕ)) (x : List ℕ) → Titles (now (file .entry)) titles names
+        → Stands (now (file .entry)) x start len → r ≡ slotIn titles x) ⌝ }
+{
+    let mut i = 0;
+    while i < names.count && i < 8 {
+        if same_part(file, names.starts[i], names.lens[i], start, len) {
+            return i;
+        }
+        i += 1;
+    }
+    i
+}
+
+// Is a name among the declared ones?
+fn among(file: &[u8], names: Names, start: u16, len: u16) -> bool
+    ensures { λ r. ⌜ ((titles : List (List ℕ)) (x : List ℕ) → Titles (now (file .entry)) titles names
+        → Stands (now (file .entry)) x start len → r ≡ member x titles) ⌝ }
+{
+    slot_of(file, names, start, len) < names.count
+}
+
+// Is this a name behind the keyword?
+fn declares(kind: u8, before: u8, keyword: u8) -> bool
+    ensures { λ r. ⌜ r ≡ (eqb kind 30 && eqb before keyword) ⌝ }
+{
+    kind == NAME && before == keyword
+}
+
+// One name more, where it is to be added and there are not eight.
+fn declared(names: Names, adds: bool, start: u16, len: u16) -> Names
+    ensures { λ r. ⌜ Grows names adds start len r ⌝ }
+{
+    let at = names.count;
+    if !adds {
+        return names;
+    }
+    if 8 <= at {
+        return names;
+    }
+    let mut more = names;
+    more.starts[at] = start;
+    more.lens[at] = len;
+    more.count = at + 1;
+    more
+}
+
+// Is this token a name declared twice among its kind, or a variable used that is not declared?
+fn wrong(
+    file: &[u8],
+    vars: Names,
+    methods: Names,
+    kind: u8,
+    before: u8,
+    start: u16,
+    len: u16,
+) -> bool
+    ensures { λ r. ⌜ Judges (now (file .entry)) vars methods kind before start len r ⌝ }
+{
+    if kind != NAME {
+        return false;
+    }
+    if before == METHOD {
+        return among(file, methods, start, len);
+    }
+    if before == MONITOR {
+        return false;
+    }
+    let known = among(file, vars, start, len);
+    if before == VAR {
+        return known;
+    }
+    !known
+}
+
+// 6: a name declared twice among its kind, or a variable used that is not declared. (With at most six variables and eight methods.)
+pub fn find_misnamed(file: &[u8], kinds: &[u8], values: &[u16], places: &[u16]) -> Found
+    ensures { λ r. ⌜ ((ts : List Token) → Words (now (file .entry)) ts (now (kinds .entry)) (now (values .entry)) (now (places .entry))
+        → pastLimit 0 0 0 ts ≡ none → r ≡ foundOf (misnamed (number 0) [] [] ts)) ⌝ }
+{
+    if values.len() != kinds.len() {
+        return Found::Nothing;
+    }
+    if places.len() != kinds.len() {
+        return Found::Nothing;
+    }
+    let mut vars = no_names();
+    let mut methods = no_names();
+    let mut before = NUMBER;
+    let mut i = 0;
+    while i < kinds.len() {
+        let kind = kinds[i];
+        let start = places[i];
+        let len = values[i];
+        if wrong(file, vars, methods, kind, before, start, len) {
+            return Found::At(start);
+        }
+        vars = declared(vars, declares(kind, before, VAR), start, len);
+        methods = declared(methods, declares(kind, before, METHOD), start, len);
+        before = kind;
+        i += 1;
+    }
+    Found::Nothing
+}
+
+// The variables of a file, in order.
+pub fn variables(kinds: &[u8], values: &[u16], places: &[u16]) -> Names
+    ensures { λ r. ⌜ ((file : List ℕ) (ts : List Token) → Words file ts (now (kinds .entry)) (now (values .entry)) (now (places .entry))
+        → pastLimit 0 0 0 ts ≡ none → Titles file (titlesOf ts) r) ⌝ }
+{
+    let mut vars = no_names();
+    if values.len() != kinds.len() {
+        return vars;
+    }
+    if places.len() != kinds.len() {
+        return vars;
+    }
+    let mut before = NUMBER;
+    let mut i = 0;
+    while i < kinds.len() {
+        let kind = kinds[i];
+        vars = declared(vars, declares(kind, before, VAR), places[i], values[i]);
+        before = kind;
+        i += 1;
+    }
+    vars
+}
+
+// A name's slot, and any other token's value.
+fn slot_or_value(file: &[u8], vars: Names, kind: u8, start: u16, value: u16) -> u16
+    ensures { λ r. ⌜ ((titles : List (List ℕ)) (l : Lexeme) → Titles (now (file .entry)) titles vars → kind ≡ kindOf l → value ≡ valueOf l
+        → ((x : List ℕ) → l ≡ name x → Stands (now (file .entry)) x start value) → r ≡ slotOrValue titles l) ⌝ }
+{
+    if kind == NAME {
+        return slot_of(file, vars, start, value) as u16;
+    }
+    value
+}
+
+// Each name's slot takes the place of its length.
+pub fn resolve(file: &[u8], kinds: &[u8], values: &mut [u16], places: &[u16])
+    ensures { λ _. ⌜ ((ts : List Token) → Words (now (file .entry)) ts (now (kinds .entry)) (now (values .entry)) (now (places .entry))
+        → pastLimit 0 0 0 ts ≡ none → misnamed (number 0) [] [] ts ≡ none → Resolved ts (now (values .exit))) ⌝ }
+{
+    if values.len() != kinds.len() {
+        return;
+    }
+    if places.len() != kinds.len() {
+        return;
+    }
+    let vars = variables(kinds, values, places);
+    let mut i = 0;
+    while i < kinds.len() {
+        let value = values[i];
+        values[i] = slot_or_value(file, vars, kinds[i], places[i], value);
+        i += 1;
+    }
+}
