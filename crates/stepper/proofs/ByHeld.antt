@@ -1,0 +1,271 @@
+-- The monitor of the lent slices answers and moves as the monitor that they hold: from what the code does to what the machine does.
+use Prim.Native.Nat.{ℕ, zero, suc, _+_, _*_, _%_, _<_}
+use mathlib.Core.Path.{_≡_, refl, sym, ap, ap₂, _∙_, subst}
+use mathlib.Core.Bool.{Bool, true, false, not, _&&_, _||_, Bool·beq}
+use mathlib.Core.List.{List, []}
+use native.Mathlib.Nat.{mod-eq-of-lt}
+use native.Mathlib.Decide.{decLt}
+use native.Mathlib.Omega.{arith}
+use lib.Dec.{eqb, ltb}
+use lib.ListN.{getD}
+use borrow.Author.Tests.{le-ltb}
+use Rattle.machine.specs.Machine.{Place, idle, waiting, due, Monitor, Config, Frame, Outcome, threads, put, leave, beginWait, without, isDue, isWaiting, mayBeAt, may, firstNotified, ran, waited, rechecked, step}
+use Rattle.machine.specs.Table.{Entry, none, entry, runs, entryOf}
+use Rattle.machine.specs.Held.{bit, followsBy, codeOf, Held, HeldPlaces, HeldEntries}
+use Rattle.stepper.specs.declared.Run.{Run}
+use Rattle.stepper.specs.Shown.{Shows, Within, Steps, toldOn}
+use Rattle.stepper.specs.Slices.{guardAt, holdsAt, afterAt, beginsAt, followsAt, entryBy, entryAt, slices, truths, toldAt, placesOf, configOf}
+use Rattle.stepper.specs.Parts.{verdictOf, nextBy, nextOf, outcome, step-parts}
+use Rattle.stepper.specs.StepLaws.{PlaceWithin, places-within, put-within, follows-within, taken-there, taken-runs, there-below}
+use Rattle.stepper.proofs.Laws.{any-same}
+use Rattle.stepper.proofs.Judged.{same-verdict, absent}
+use Rattle.stepper.proofs.Agree.{first-same, plain-same, table-same}
+
+-- two points that no run tells apart
+pub record Alike (d c : Config) : Type 0 where
+  pub state : d .state ≡ c .state
+  pub places : (u : ℕ) → u < 16 → d .place u ≡ c .place u
+  pub notices : (u : ℕ) → u < 16 → d .notified u ≡ c .notified u
+
+pub shows-alike : (r : Run) (d c : Config) → Alike d c → Shows r d → Shows r c
+shows-alike r d c a h = record {
+  state = h .state ∙ a .state;
+  places = λ u l. h .places u l ∙ a .places u l;
+  notices = λ u l. h .notices u l ∙ a .notices u l;
+}
+
+put-same : (p′ p : ℕ → Place) (t : ℕ) (q′ q : Place) (u : ℕ) → p′ u ≡ p u → q′ ≡ q → put p′ t q′ u ≡ put p t q u
+unfolding put
+put-same p′ p t q′ q u e d = go (eqb u t)
+  where
+    go : (b : Bool) → _≡_ {A = Place} (elim b [ true ↦ q′ | false ↦ p′ u ]) (elim b [ true ↦ q | false ↦ p u ])
+    go true = d
+    go false = e
+
+-- an outcome of the code, where the number that answers the frame is known
+steps-refused : (r : Run) (k n : ℕ) (d : Config) → k ≡ n → (k ≡ 0 → ⊥) → Steps r (record { number = k; run = r }) (outcome n d)
+unfolding Steps outcome
+steps-refused r k zero d e l = absurd (l e)
+steps-refused r k (suc n) d e l = (e, refl)
+
+steps-moved : (r next : Run) (n : ℕ) (d : Config) → n ≡ 0 → Shows next d → Steps r (record { number = 0; run = next }) (outcome n d)
+unfolding Steps outcome
+steps-moved r next zero d e s = (refl, s)
+steps-moved r next (suc n) d e s = absurd (omega arith)
+
+-- ---- one look-up each
+
+bit-test : (b : Bool) → eqb (bit b) 1 ≡ b
+unfolding bit
+bit-test true = refl
+bit-test false = refl
+
+entry-back : (e : Entry) → entryBy (codeOf e) ≡ e
+unfolding entryBy codeOf bit
+entry-back none = refl
+entry-back (entry true true) = refl
+entry-back (entry true false) = refl
+entry-back (entry false true) = refl
+entry-back (entry false false) = refl
+
+module _ (m : Monitor) (kept hs as′ gs : List ℕ) (held : Held m kept hs as′ gs) where
+  pub guard-held : (w : ℕ) → w < m .regions → guardAt gs w ≡ m .guardOf w
+  unfolding guardAt
+  guard-held w h =
+      let small : w < 16 = omega (arith, held .few-regions) in
+      let known : getD gs (w % 16) 0 ≡ m .guardOf w = ap (λ (k : ℕ). getD gs k 0) (mod-eq-of-lt small) ∙ held .by-guard w h in
+      ap (λ (g : ℕ). g % 16) known ∙ mod-eq-of-lt (omega (arith, held .guard-below w h, held .few-guards))
+
+  pub holds-held : (g s : ℕ) → g < m .guards → s < m .states → holdsAt hs g s ≡ m .holds g s
+  unfolding holdsAt
+  holds-held g s h l =
+      let small : g % 16 ≡ g = mod-eq-of-lt (omega (arith, held .few-guards)) in
+      let low : s % 4096 ≡ s = mod-eq-of-lt (omega (arith, held .few-states)) in
+      ap₂ (λ (x y : ℕ). eqb (getD hs (x * 4096 + y) 0) 1) small low
+      ∙ ap (λ (n : ℕ). eqb n 1) (held .by-holds g s h l) ∙ bit-test (m .holds g s)
+
+  pub after-held : (r s : ℕ) → r < m .regions → s < m .states → runs m r s ≡ true → afterAt as′ r s ≡ m .after r s
+  unfolding afterAt
+  after-held r s h l e =
+      let small : r % 16 ≡ r = mod-eq-of-lt (omega (arith, held .few-regions)) in
+      let low : s % 4096 ≡ s = mod-eq-of-lt (omega (arith, held .few-states)) in
+      ap₂ (λ (x y : ℕ). getD as′ (x * 4096 + y) 0) small low ∙ held .by-after r s h e
+
+  pub entry-held : (es : List ℕ) → HeldEntries m es → (r g : ℕ) → r < m .regions → g < m .guards → entryAt es r g ≡ entryOf m r g
+  unfolding entryAt HeldEntries
+  entry-held es all r g h l =
+      let small : r % 16 ≡ r = mod-eq-of-lt (omega (arith, held .few-regions)) in
+      let low : g % 16 ≡ g = mod-eq-of-lt (omega (arith, held .few-guards)) in
+      ap₂ (λ (x y : ℕ). entryBy (getD es (x * 16 + y) 0)) small low ∙ ap entryBy (all r g h l) ∙ entry-back (entryOf m r g)
+
+  module _ (bs os : List ℕ) (places : HeldPlaces m bs os) where
+    pub begins-held : (r : ℕ) → r < m .regions → beginsAt bs r ≡ m .begins r
+    unfolding beginsAt
+    begins-held r h =
+        ap (λ (k : ℕ). eqb (getD bs k 0) 1) (mod-eq-of-lt (omega (arith, held .few-regions)))
+        ∙ ap (λ (n : ℕ). eqb n 1) (places .by-begins r h) ∙ bit-test (m .begins r)
+
+    pub follows-held : (r : ℕ) → r < m .regions → followsAt os r ≡ m .follows r
+    unfolding followsAt
+    follows-held r h =
+        ap (λ (k : ℕ). followsBy k (getD os k 0)) (mod-eq-of-lt (omega (arith, held .few-regions))) ∙ sym (places .by-follows r h)
+
+    at-same : (n : ℕ) → m .regions ≡ n → (q : Place) (r : ℕ) → mayBeAt (slices hs [] gs bs [] n) q r ≡ mayBeAt m q r
+    unfolding mayBeAt
+    at-same n e idle r = ap (λ (k : ℕ). ltb r k && beginsAt bs r) (sym e) ∙ go (decLt r (m .regions))
+      where
+        go : Dec (r < m .regions) → ltb r (m .regions) && beginsAt bs r ≡ ltb r (m .regions) && m .begins r
+        go (yes l) = ap (λ (b : Bool). ltb r (m .regions) && b) (begins-held r l)
+        go (no l) =
+            let past = le-ltb r (m .regions) (omega arith) in
+            ap (λ (b : Bool). b && beginsAt bs r) past ∙ sym (ap (λ (b : Bool). b && m .begins r) past)
+    at-same n e (waiting w) r = refl
+    at-same n e (due w) r = refl
+
+    -- ---- a whole frame
+    module _ (c : Config) (f : Frame) (run : Run) (thread : f .thread < 16) (within : Within m c)
+        (keeps : m .kept (c .state) ≡ true) (shows : Shows run c) where
+      state-below : c .state < m .states
+      state-below = held .kept-below (c .state) keeps
+
+      place-same : (u : ℕ) → u < 16 → configOf run .place u ≡ c .place u
+      unfolding configOf placesOf
+      place-same u h = shows .places u h
+
+      notice-same : (u : ℕ) → u < 16 → configOf run .notified u ≡ c .notified u
+      unfolding configOf
+      notice-same u h = shows .notices u h
+
+      state-same : configOf run .state ≡ c .state
+      unfolding configOf
+      state-same = shows .state
+
+      waiter-below : (u w : ℕ) → c .place u ≡ waiting w → w < m .regions
+      waiter-below u w e = within .waits-within u w e
+
+      module _ (n : ℕ) (e : m .regions ≡ n) where
+        abbrev read : Monitor
+        read = slices hs [] gs bs [] n
+
+        there-same : may read (configOf run .place) f ≡ may m (c .place) f
+        unfolding may threads
+        there-same =
+            ap₂ (λ (x y : Bool). not x && y)
+            (any-same 16 (λ u. not (eqb u (f .thread)) && isDue (configOf run .place u)) (λ u. not (eqb u (f .thread)) && isDue (c .place u))
+            (λ u h. ap (λ (q : Place). not (eqb u (f .thread)) && isDue q) (place-same u h)))
+            (ap (λ (q : Place). mayBeAt read q (f .region)) (place-same (f .thread) thread) ∙ at-same n e (c .place (f .thread)) (f .region))
+
+        taken-alike : f .region < m .regions → verdictOf read (configOf run) f ≡ verdictOf m c f
+        unfolding verdictOf
+        taken-alike below =
+            let guard : guardAt gs (f .region) ≡ m .guardOf (f .region) = guard-held (f .region) below in
+            let truth : holdsAt hs (guardAt gs (f .region)) (configOf run .state) ≡ m .holds (m .guardOf (f .region)) (c .state) =
+            ap₂ (λ (g s : ℕ). holdsAt hs g s) guard state-same
+            ∙ holds-held (m .guardOf (f .region)) (c .state) (held .guard-below (f .region) below) state-below in
+            same-verdict there-same (ap (Bool·beq (f .flag)) truth) (ap isWaiting (place-same (f .thread) thread)) refl
+            (notice-same (f .thread) thread)
+            (ap (λ (g : ℕ). firstNotified read (configOf run .place) (configOf run .notified) g (f .thread)) guard
+            ∙ first-same read m (configOf run .place) (c .place) place-same (λ u w h q. guard-held w (waiter-below u w q))
+            (configOf run .notified) (c .notified) notice-same (m .guardOf (f .region)) (f .thread))
+
+        pub verdict-held : verdictOf read (configOf run) f ≡ verdictOf m c f
+        verdict-held = go (may m (c .place) f) refl
+          where
+            go : (b : Bool) → may m (c .place) f ≡ b → verdictOf read (configOf run) f ≡ verdictOf m c f
+            go true q = taken-alike (there-below m c f within q)
+            go false q = absent read (configOf run) f (there-same ∙ q) ∙ sym (absent m c f q)
+
+      module _ (es : List ℕ) (table : Bool) (entries : table ≡ true → HeldEntries m es) (taken : verdictOf m c f ≡ 0) where
+        abbrev moves : Monitor
+        moves = slices hs as′ gs [] os 0
+
+        below : f .region < m .regions
+        below = there-below m c f within (taken-there m c f taken)
+
+        -- the places after a body
+        abbrev left-of : ℕ → Place
+        left-of = put (c .place) (f .thread) (m .follows (f .region))
+
+        abbrev left-read : ℕ → Place
+        left-read = put (configOf run .place) (f .thread) (followsAt os (f .region))
+
+        left-same : (u : ℕ) → u < 16 → left-read u ≡ left-of u
+        left-same u h = put-same (configOf run .place) (c .place) (f .thread) (followsAt os (f .region)) (m .follows (f .region)) u (place-same u h) (follows-held (f .region) below)
+
+        left-below : (u w : ℕ) → left-of u ≡ waiting w → w < m .regions
+        unfolding PlaceWithin
+        left-below u w q =
+            put-within m (c .place) (f .thread) (m .follows (f .region)) (places-within m c within)
+            (follows-within m bs os (f .region) places below) u .0 w q
+
+        module _ (flag : f .flag ≡ true) where
+          runs-now : runs m (f .region) (c .state) ≡ true
+          runs-now = taken-runs m c f taken keeps flag
+
+          abbrev to : ℕ
+          to = m .after (f .region) (c .state)
+
+          to-below : to < m .states
+          to-below = held .after-below (f .region) (c .state) below runs-now
+
+          to-same : afterAt as′ (f .region) (configOf run .state) ≡ to
+          to-same = ap (afterAt as′ (f .region)) state-same ∙ after-held (f .region) (c .state) below state-below runs-now
+
+          told-on : (t : Bool) → (t ≡ true → HeldEntries m es) → (u : ℕ) → u < 16
+              → toldAt hs gs es t to left-read (f .region) u ≡ toldOn m t to left-of (f .region) u
+          unfolding toldAt toldOn
+          told-on true all u h =
+              table-same (truths hs gs) m left-read left-of left-same (λ v w l q. guard-held w (left-below v w q)) to
+              (λ v w l q. holds-held (m .guardOf w) to (held .guard-below w (left-below v w q)) to-below) (entryAt es) (entryOf m) (f .region)
+              (λ v w l q. entry-held es (all refl) (f .region) (m .guardOf w) below (held .guard-below w (left-below v w q))) u h
+          told-on false all u h =
+              plain-same (truths hs gs) m left-read left-of left-same (λ v w l q. guard-held w (left-below v w q)) to
+              (λ v w l q. holds-held (m .guardOf w) to (held .guard-below w (left-below v w q)) to-below) (f .region) u h
+
+          ran-alike : Alike (ran moves (toldAt hs gs es table) (configOf run) f) (ran m (toldOn m table) c f)
+          unfolding ran leave without
+          ran-alike = record {
+            state = to-same;
+            places = left-same;
+            notices = λ u h.
+                ap₂ (λ (x y : Bool). (not (eqb u (f .thread)) && x) || y) (notice-same u h)
+                (ap (λ (s : ℕ). toldAt hs gs es table s left-read (f .region) u) to-same ∙ told-on table entries u h);
+          }
+
+        alike : (flag waits : Bool) → f .flag ≡ flag
+            → Alike (nextBy moves (toldAt hs gs es table) (configOf run) f flag waits) (nextBy m (toldOn m table) c f flag waits)
+        unfolding nextBy rechecked waited without beginWait
+        alike true waits q = ran-alike q
+        alike false true q = record {
+          state = state-same;
+          places = place-same;
+          notices = λ u h. ap (λ (x : Bool). not (eqb u (f .thread)) && x) (notice-same u h);
+        }
+        alike false false q = record {
+          state = state-same;
+          places = λ u h. put-same (configOf run .place) (c .place) (f .thread) (waiting (f .region)) (waiting (f .region)) u (place-same u h) refl;
+          notices = notice-same;
+        }
+
+        pub next-held : Alike (nextOf moves (toldAt hs gs es table) (configOf run) f) (nextOf m (toldOn m table) c f)
+        unfolding nextOf
+        next-held =
+            subst (λ (w : Bool). Alike (nextBy moves (toldAt hs gs es table) (configOf run) f (f .flag) w) (nextOf m (toldOn m table) c f))
+            (sym (ap isWaiting (place-same (f .thread) thread))) (alike (f .flag) (isWaiting (c .place (f .thread))) refl)
+
+      -- ---- the code's two answers against the machine's step
+      module _ (n : ℕ) (e : m .regions ≡ n) (es : List ℕ) (table : Bool) (entries : table ≡ true → HeldEntries m es) where
+        pub refuses : (k : ℕ) → k ≡ verdictOf (slices hs [] gs bs [] n) (configOf run) f → (k ≡ 0 → ⊥)
+            → Steps run (record { number = k; run = run }) (step m (toldOn m table) c f)
+        refuses k q l =
+            subst (λ (o : Outcome). Steps run (record { number = k; run = run }) o) (sym (step-parts m (toldOn m table) c f))
+            (steps-refused run k (verdictOf m c f) (nextOf m (toldOn m table) c f) (q ∙ verdict-held n e) l)
+
+        pub takes : (k : ℕ) (next : Run) → k ≡ verdictOf (slices hs [] gs bs [] n) (configOf run) f → k ≡ 0
+            → Shows next (nextOf (slices hs as′ gs [] os 0) (toldAt hs gs es table) (configOf run) f)
+            → Steps run (record { number = 0; run = next }) (step m (toldOn m table) c f)
+        takes k next q l shown =
+            let taken : verdictOf m c f ≡ 0 = sym (q ∙ verdict-held n e) ∙ l in
+            subst (λ (o : Outcome). Steps run (record { number = 0; run = next }) o) (sym (step-parts m (toldOn m table) c f))
+            (steps-moved run next (verdictOf m c f) (nextOf m (toldOn m table) c f) taken
+            (shows-alike next _ (nextOf m (toldOn m table) c f) (next-held es table entries taken) shown))

@@ -1,0 +1,104 @@
+-- What number answers a frame, by what the code has tested: a law for each answer. Each is the verdict at the Booleans that the tests give.
+use Prim.Native.Nat.{ℕ, _≤_, _<_}
+use mathlib.Core.Path.{_≡_, refl, sym, ap, ap₂, _∙_}
+use mathlib.Core.Bool.{Bool, true, false, not, _&&_, Bool·beq, and-false}
+use mathlib.Core.List.{List, []}
+use native.Mathlib.Decide.{decLt}
+use native.Mathlib.Omega.{arith}
+use lib.Dec.{eqb, ltb}
+use borrow.Author.Tests.{lt-ltb, le-ltb}
+use Rattle.sets.specs.Set.{member}
+use Rattle.machine.specs.Machine.{Place, idle, waiting, due, Monitor, Config, Frame, any, threads, isDue, isWaiting, mayBeAt, may, firstNotified}
+use Rattle.stepper.specs.Slices.{slices}
+use Rattle.stepper.specs.Parts.{verdict, verdictOf}
+use Rattle.stepper.proofs.Laws.{any-true, any-false, any-below}
+
+-- a look-up asks nothing of the other slices
+pub begins-alone : (hs as′ gs bs os : List ℕ) (n : ℕ) (q : Place) (r : ℕ)
+    → mayBeAt (slices hs as′ gs bs os n) q r ≡ mayBeAt (slices [] [] [] bs [] n) q r
+unfolding mayBeAt
+begins-alone hs as′ gs bs os n idle r = refl
+begins-alone hs as′ gs bs os n (waiting w) r = refl
+begins-alone hs as′ gs bs os n (due w) r = refl
+
+-- a lowest member below t is a member below t
+pub lowest-below : (s low t : ℕ) (f : ℕ → Bool) → t ≤ 16 → ((v : ℕ) → v < 16 → member s v ≡ f v)
+    → ((u : ℕ) → u < low → member s u ≡ true → ⊥) → (low < 16 → member s low ≡ true)
+    → any 16 (λ v. f v && ltb v t) ≡ ltb low t
+lowest-below s low t f h e least found = any-below 16 t f h ∙ go (decLt low t)
+  where
+    none : (k : ℕ) → k < low → (b : Bool) → member s k ≡ b → b ≡ false
+    none k l true q = absurd (least k l q)
+    none k l false q = refl
+
+    go : Dec (low < t) → any t f ≡ ltb low t
+    go (yes l) = any-true t low f l (sym (e low (omega arith)) ∙ found (omega arith)) ∙ sym (lt-ltb low t l)
+    go (no l) =
+        any-false t f (λ k q. sym (e k (omega arith)) ∙ none k (omega arith) (member s k) refl) ∙ sym (le-ltb low t (omega arith))
+
+as-is : (b : Bool) → b ≡ b
+as-is b = refl
+
+pub same-verdict : {a a′ b b′ w w′ f f′ n n′ k k′ : Bool} → a ≡ a′ → b ≡ b′ → w ≡ w′ → f ≡ f′ → n ≡ n′ → k ≡ k′
+    → verdict a b w f n k ≡ verdict a′ b′ w′ f′ n′ k′
+same-verdict p q r s t u = cc
+
+module _ (m : Monitor) (c : Config) (f : Frame) where
+  abbrev there : Bool
+  there = may m (c .place) f
+
+  abbrev same : Bool
+  same = Bool·beq (f .flag) (m .holds (m .guardOf (f .region)) (c .state))
+
+  abbrev waits : Bool
+  waits = isWaiting (c .place (f .thread))
+
+  abbrev notice : Bool
+  notice = c .notified (f .thread)
+
+  abbrev first : Bool
+  first = firstNotified m (c .place) (c .notified) (m .guardOf (f .region)) (f .thread)
+
+  abbrev others : Bool
+  others = any 16 (λ u. not (eqb u (f .thread)) && isDue (c .place u))
+
+  -- the thread may be at the region
+  pub may-be : others ≡ false → mayBeAt m (c .place (f .thread)) (f .region) ≡ true → there ≡ true
+  unfolding may threads
+  may-be o b = ap₂ (λ (x y : Bool). not x && y) o b
+
+  pub absent : there ≡ false → verdictOf m c f ≡ 13
+  unfolding verdictOf verdict
+  absent t = same-verdict t (as-is same) (as-is waits) (as-is (f .flag)) (as-is notice) (as-is first)
+
+  pub other-is-due : others ≡ true → verdictOf m c f ≡ 13
+  unfolding may threads
+  other-is-due o = absent (ap (λ (x : Bool). not x && mayBeAt m (c .place (f .thread)) (f .region)) o)
+
+  pub not-there : mayBeAt m (c .place (f .thread)) (f .region) ≡ false → verdictOf m c f ≡ 13
+  unfolding may threads
+  not-there b = absent (ap (λ (x : Bool). not others && x) b ∙ and-false (not others))
+
+  pub other-flag : there ≡ true → same ≡ false → verdictOf m c f ≡ 14
+  unfolding verdictOf verdict
+  other-flag t s = same-verdict t s (as-is waits) (as-is (f .flag)) (as-is notice) (as-is first)
+
+  pub not-waiting : there ≡ true → same ≡ true → waits ≡ false → verdictOf m c f ≡ 0
+  unfolding verdictOf verdict
+  not-waiting t s w = same-verdict t s w (as-is (f .flag)) (as-is notice) (as-is first)
+
+  pub no-notice : there ≡ true → same ≡ true → waits ≡ true → notice ≡ false → verdictOf m c f ≡ 14
+  unfolding verdictOf verdict
+  no-notice t s w n = same-verdict t s w (as-is (f .flag)) n (as-is first)
+
+  pub recheck : there ≡ true → same ≡ true → waits ≡ true → notice ≡ true → f .flag ≡ false → verdictOf m c f ≡ 0
+  unfolding verdictOf verdict
+  recheck t s w n l = same-verdict t s w l n (as-is first)
+
+  pub resumes : there ≡ true → same ≡ true → waits ≡ true → notice ≡ true → f .flag ≡ true → first ≡ true → verdictOf m c f ≡ 0
+  unfolding verdictOf verdict
+  resumes t s w n l p = same-verdict t s w l n p
+
+  pub not-first : there ≡ true → same ≡ true → waits ≡ true → notice ≡ true → f .flag ≡ true → first ≡ false → verdictOf m c f ≡ 14
+  unfolding verdictOf verdict
+  not-first t s w n l p = same-verdict t s w l n p

@@ -1,0 +1,193 @@
+-- Laws of `any`, of a set that a loop gathers thread by thread, and of places after one is replaced: for the loops of the stepper.
+use Prim.Native.Nat.{ℕ, zero, suc, _+_, _/_, _%_, _≤_, _<_}
+use mathlib.Core.Path.{_≡_, refl, sym, ap, ap₂, _∙_}
+use mathlib.Core.Bool.{Bool, true, false, not, _&&_, _||_, and-true, and-false, or-true, false≢true}
+use mathlib.Core.List.{List, []}
+use native.Mathlib.Decide.{decLt}
+use native.Mathlib.Omega.{arith}
+use native.Mathlib.Nat.{mod-lt}
+use lib.Dec.{eqb, ltb, lit<}
+use lib.ListN.{length, getD, set}
+use lib.Seq.{getD-set-same, getD-set-other}
+use borrow.Author.Tests.{lt-ltb, le-ltb, eq-eqb, ne-eqb, eqb-true, eqb-false}
+use Rattle.sets.specs.Set.{member}
+use Rattle.sets.specs.SetLaws.{member-none}
+use Rattle.machine.specs.Machine.{any, put, onGuard, waitsOn, next, threads}
+use Rattle.machine.specs.Machine as machine
+use Rattle.machine.specs.Table.{acts as actsOf, entryTold, tableTold}
+use Rattle.machine.specs.Held.{followsBy}
+use Rattle.stepper.specs.declared.Place.{Place}
+use Rattle.stepper.specs.declared.Thread.{Thread}
+use Rattle.stepper.specs.Shown.{placeOf, idleThread}
+use Rattle.stepper.specs.Slices.{placesOf, guardAt, holdsAt, entryBy, entryAt, slices, guardsOnly, truths, toldBehind}
+
+-- ---- some number below n passes a test
+
+or-left : (a b : Bool) → a ≡ true → a || b ≡ true
+or-left a b e = ap (λ (x : Bool). x || b) e
+
+or-right : (a b : Bool) → b ≡ true → a || b ≡ true
+or-right a b e = ap (λ (x : Bool). a || x) e ∙ or-true a
+
+or-none : (a b : Bool) → a ≡ false → b ≡ false → a || b ≡ false
+or-none a b e d = ap₂ (λ (x y : Bool). x || y) e d
+
+pub any-true : (n k : ℕ) (f : ℕ → Bool) → k < n → f k ≡ true → any n f ≡ true
+unfolding any
+any-true zero k f h e = absurd (omega arith)
+any-true (suc n) k f h e = go (decLt k n) (λ l. any-true n k f l e)
+  where
+    go : Dec (k < n) → (k < n → any n f ≡ true) → f n || any n f ≡ true
+    go (yes l) rest = or-right (f n) (any n f) (rest l)
+    go (no l) rest = or-left (f n) (any n f) (ap f (omega arith) ∙ e)
+
+pub any-false : (n : ℕ) (f : ℕ → Bool) → ((k : ℕ) → k < n → f k ≡ false) → any n f ≡ false
+unfolding any
+any-false zero f e = refl
+any-false (suc n) f e = or-none (f n) (any n f) (e n (omega arith)) (any-false n f (λ k h. e k (omega arith)))
+
+pub any-none : (n k : ℕ) (f : ℕ → Bool) → any n f ≡ false → k < n → f k ≡ false
+any-none n k f e h = go (f k) refl
+  where
+    go : (b : Bool) → f k ≡ b → f k ≡ false
+    go true q = absurd (false≢true (sym e ∙ any-true n k f h q))
+    go false q = q
+
+pub any-same : (n : ℕ) (f g : ℕ → Bool) → ((k : ℕ) → k < n → f k ≡ g k) → any n f ≡ any n g
+unfolding any
+any-same zero f g e = refl
+any-same (suc n) f g e =
+    ap₂ (λ (x y : Bool). x || y) (e n (omega arith)) (any-same n f g (λ k h. e k (omega arith)))
+
+-- those below u, of those below n
+pub any-below : (n u : ℕ) (f : ℕ → Bool) → u ≤ n → any n (λ v. f v && ltb v u) ≡ any u f
+unfolding any
+any-below zero u f h = let none : 0 ≡ u = omega arith in ap (λ (k : ℕ). any k f) none
+any-below (suc n) u f h = go (decLt n u) (λ l. any-below n u f l)
+  where
+    go : Dec (n < u) → (u ≤ n → any n (λ v. f v && ltb v u) ≡ any u f)
+        → (f n && ltb n u) || any n (λ v. f v && ltb v u) ≡ any u f
+    go (yes l) rest =
+        let same : u ≡ suc n = omega arith in
+        ap₂ (λ (x y : Bool). x || y) (ap (λ (b : Bool). f n && b) (lt-ltb n u l) ∙ and-true (f n))
+        (any-same n (λ v. f v && ltb v u) f (λ k q. ap (λ (b : Bool). f k && b) (lt-ltb k u (omega arith)) ∙ and-true (f k)))
+        ∙ sym (ap (λ (k : ℕ). any k f) same)
+    go (no l) rest =
+        ap (λ (x : Bool). x || any n (λ v. f v && ltb v u)) (ap (λ (b : Bool). f n && b) (le-ltb n u (omega arith)) ∙ and-false (f n))
+        ∙ rest (omega arith)
+
+-- ---- a set that a loop gathers: of the threads below u it has those that pass a test
+
+pub ltb-more : (v u : ℕ) → ltb v (u + 1) ≡ eqb v u || ltb v u
+ltb-more v u = go (decLt v u) (decLt u v)
+  where
+    go : Dec (v < u) → Dec (u < v) → ltb v (u + 1) ≡ eqb v u || ltb v u
+    go (yes l) d = lt-ltb v (u + 1) (omega arith) ∙ sym (or-right (eqb v u) (ltb v u) (lt-ltb v u l))
+    go (no l) (yes k) =
+        le-ltb v (u + 1) (omega arith) ∙ sym (or-none (eqb v u) (ltb v u) (ne-eqb v u (λ e. omega arith)) (le-ltb v u (omega arith)))
+    go (no l) (no k) = lt-ltb v (u + 1) (omega arith) ∙ sym (or-left (eqb v u) (ltb v u) (eq-eqb v u (omega arith)))
+
+abbrev pub Gathered : ℕ → ℕ → (ℕ → Bool) → Type 0
+Gathered s u f = (v : ℕ) → v < 16 → member s v ≡ ltb v u && f v
+
+pub gather-none : (f : ℕ → Bool) → Gathered 0 0 f
+gather-none f v h = member-none v ∙ sym (ap (λ (b : Bool). b && f v) (le-ltb v 0 (omega arith)))
+
+taken-in : (e l f : Bool) → (e ≡ true → f ≡ true) → (e && true) || (l && f) ≡ (e || l) && f
+taken-in true l f h = sym (h refl)
+taken-in false l f h = refl
+
+left-out : (e l f : Bool) → (e ≡ true → f ≡ false) → l && f ≡ (e || l) && f
+left-out true l f h = ap (λ (b : Bool). l && b) (h refl) ∙ and-false l ∙ sym (h refl)
+left-out false l f h = refl
+
+pub gather-in : (s s′ u : ℕ) (f : ℕ → Bool) → Gathered s u f → u < 16 → f u ≡ true
+    → ((v : ℕ) → member s′ v ≡ (eqb v u && ltb u 16) || member s v) → Gathered s′ (u + 1) f
+gather-in s s′ u f g l e w v h =
+    w v ∙ ap₂ (λ (x y : Bool). (eqb v u && x) || y) (lt-ltb u 16 l) (g v h)
+    ∙ taken-in (eqb v u) (ltb v u) (f v) (λ q. ap f (eqb-true v u q) ∙ e)
+    ∙ sym (ap (λ (b : Bool). b && f v) (ltb-more v u))
+
+pub gather-out : (s u : ℕ) (f : ℕ → Bool) → Gathered s u f → f u ≡ false → Gathered s (u + 1) f
+gather-out s u f g e v h =
+    g v h ∙ left-out (eqb v u) (ltb v u) (f v) (λ q. ap f (eqb-true v u q) ∙ e) ∙ sym (ap (λ (b : Bool). b && f v) (ltb-more v u))
+
+pub gather-all : (s u : ℕ) (f : ℕ → Bool) → Gathered s u f → 16 ≤ u → (v : ℕ) → v < 16 → member s v ≡ f v
+gather-all s u f g h v l = g v l ∙ ap (λ (b : Bool). b && f v) (lt-ltb v u (omega arith))
+
+-- ---- the places after that of thread t is replaced
+
+pub places-set : (ts : List Thread) (t : ℕ) (q : Place) → t < length ts → (u : ℕ)
+    → placesOf (set ts t (record { place = q })) u ≡ put (placesOf ts) t (placeOf q) u
+unfolding put placesOf
+places-set ts t q h u = go (eqb u t) refl
+  where
+    go : (b : Bool) → eqb u t ≡ b
+        → placeOf (getD (set ts t (record { place = q })) u idleThread .place) ≡ elim b [ true ↦ placeOf q | false ↦ placesOf ts u ]
+    go true e =
+        let at : getD (set ts t (record { place = q })) u idleThread ≡ record { place = q } =
+        ap (λ (k : ℕ). getD (set ts t (record { place = q })) k idleThread) (eqb-true u t e) ∙ getD-set-same ts t (record { place = q }) idleThread h in
+        ap (λ (x : Thread). placeOf (x .place)) at
+    go false e =
+        ap (λ (x : Thread). placeOf (x .place)) (getD-set-other ts t u (record { place = q }) idleThread (eqb-false u t e))
+
+-- ---- a region's entry, and where a thread is after a body
+
+pub acts-some : (code : ℕ) (h f : Bool) → (code ≡ 0 → ⊥)
+    → actsOf (entryBy code) h f ≡ (eqb (code / 2 % 2) 1 || h) && (eqb (code / 4 % 2) 1 || f)
+unfolding actsOf entryBy
+acts-some zero h f n = absurd (n refl)
+acts-some (suc k) h f n = refl
+
+pub follows-due : (r n : ℕ) → (n ≡ 0 → ⊥) → followsBy r n ≡ machine.due (r + 1)
+unfolding followsBy
+follows-due r zero n = absurd (n refl)
+follows-due r (suc k) n = refl
+
+-- ---- the first waiter on a guard is the first that is met
+
+eqb-sym : (a b : ℕ) → eqb a b ≡ eqb b a
+eqb-sym a b = go (eqb b a) refl
+  where
+    go : (t : Bool) → eqb b a ≡ t → eqb a b ≡ t
+    go true e = eq-eqb a b (sym (eqb-true b a e))
+    go false e = ne-eqb a b (λ q. eqb-false b a e (sym q))
+
+pub guard-one : (gs : List ℕ) (w n g : ℕ) → n ≡ guardAt gs w → eqb g n && ltb n 16 ≡ eqb (guardAt gs w) g
+unfolding guardAt
+guard-one gs w n g e =
+    ap (λ (k : ℕ). eqb g k && ltb k 16) e
+    ∙ ap (λ (b : Bool). eqb g (guardAt gs w) && b) (lt-ltb (guardAt gs w) 16 (mod-lt (getD gs (w % 16) 0) (lit< tt)))
+    ∙ and-true (eqb g (guardAt gs w)) ∙ eqb-sym g (guardAt gs w)
+
+-- who waits on a guard asks nothing of the other slices
+pub guards-alone : (hs as′ gs bs os : List ℕ) (n g : ℕ) (q : machine.Place)
+    → onGuard (slices hs as′ gs bs os n) g q ≡ onGuard (guardsOnly gs) g q
+unfolding onGuard
+guards-alone hs as′ gs bs os n g machine.idle = refl
+guards-alone hs as′ gs bs os n g (machine.waiting w) = refl
+guards-alone hs as′ gs bs os n g (machine.due w) = refl
+
+module _ (hs gs es : List ℕ) (s r met : ℕ) (p : ℕ → machine.Place) (u : ℕ) (h : u ≤ 16)
+    (ahead : (g : ℕ) → member met g ≡ any u (λ v. onGuard (guardsOnly gs) g (p v))) where
+  next-met : (w : ℕ) → p u ≡ machine.waiting w → not (member met (guardAt gs w)) ≡ next (truths hs gs) p (guardAt gs w) u
+  unfolding next waitsOn onGuard threads machine.ahead
+  next-met w e =
+      let g = guardAt gs w in
+      let here : onGuard (truths hs gs) g (p u) ≡ true = ap (onGuard (truths hs gs) g) e ∙ eq-eqb g g refl in
+      let before : member met g ≡ any 16 (λ v. onGuard (truths hs gs) g (p v) && ltb v u) =
+      ahead g ∙ any-same u (λ v. onGuard (guardsOnly gs) g (p v)) (λ v. onGuard (truths hs gs) g (p v)) (λ k l. sym (guards-alone hs [] gs [] [] 0 g (p k)))
+      ∙ sym (any-below 16 u (λ v. onGuard (truths hs gs) g (p v)) h) in
+      ap not before ∙ sym (ap (λ (b : Bool). b && not (any 16 (λ v. onGuard (truths hs gs) g (p v) && ltb v u))) here)
+
+  told-at : (q : machine.Place) → p u ≡ q
+      → toldBehind hs gs es s r met q ≡ entryTold (truths hs gs) (entryAt es) s p r u q
+  unfolding toldBehind entryTold
+  told-at machine.idle e = refl
+  told-at (machine.waiting w) e =
+      ap (λ (b : Bool). actsOf (entryAt es r (guardAt gs w)) (holdsAt hs (guardAt gs w) s) b) (next-met w e)
+  told-at (machine.due w) e = refl
+
+  pub told-first : toldBehind hs gs es s r met (p u) ≡ tableTold (truths hs gs) (entryAt es) s p r u
+  unfolding tableTold
+  told-first = told-at (p u) refl

@@ -1,0 +1,33 @@
+-- `stepper::is_waiting` meets its contract: at each variant the test computes.
+use borrow.Author.Needs.{needs}
+use mathlib.Core.Path.{sym, ap}
+use Rattle.machine.specs.Machine.{isWaiting}
+use Rattle.stepper.specs.Shown.{placeOf}
+use Rattle.stepper.specs.declared.Place.{Place}
+use Rattle.stepper.proofs.is_waiting.Statement.{statement}
+use Rattle.stepper.proofs.is_waiting.Tie as tie
+
+enum-told : tie.Need-enum-told
+enum-told c = search needs
+
+enum-told-2 : tie.Need-enum-told-2
+enum-told-2 c = search needs
+
+enum-told-3 : tie.Need-enum-told-3
+enum-told-3 c = search needs
+
+returns : tie.Need-returns
+unfolding isWaiting placeOf
+returns c = sym (ap (λ (p : Place). isWaiting (placeOf p)) (c .enum-told .given .1))
+
+returns-2 : tie.Need-returns-2
+unfolding isWaiting placeOf
+returns-2 c = sym (ap (λ (p : Place). isWaiting (placeOf p)) (c .enum-told2 .given .1))
+
+returns-3 : tie.Need-returns-3
+unfolding isWaiting placeOf
+returns-3 c = sym (ap (λ (p : Place). isWaiting (placeOf p)) (c .enum-told3 .given .1))
+
+pub is-waiting-spec : {M : Type 1} → statement M
+is-waiting-spec =
+    tie.close (tie.spec enum-told enum-told-2 enum-told-3 returns returns-2 returns-3)

@@ -1,0 +1,238 @@
+-- `stepper::judge` meets its contract: each test's fact is one of the verdict's Booleans.
+use Prim.Native.Nat.{ℕ, _<_}
+use mathlib.Core.Path.{_≡_, sym, ap, _∙_}
+use mathlib.Core.Bool.{Bool, true, not, _&&_, Bool·beq}
+use mathlib.Core.List.{[]}
+use native.Mathlib.Omega.{arith}
+use lib.Dec.{ltb}
+use borrow.Author.Needs.{needs}
+use borrow.Author.Tests.{not-true, not-false, lt-ltb, le-ltb}
+use Rattle.sets.specs.Set.{member}
+use Rattle.machine.specs.Machine.{Monitor, Config, Frame, threads, isWaiting, onGuard, waitsOn, ahead, mayBeAt, may, firstNotified}
+use Rattle.stepper.specs.Shown.{idleThread, frameOf}
+use Rattle.stepper.specs.Slices.{guardAt, holdsAt, slices, guardsOnly, placesOf, configOf}
+use Rattle.stepper.proofs.Laws.{guards-alone}
+use Rattle.stepper.proofs.Judged.{begins-alone, lowest-below, may-be, other-is-due, not-there, other-flag, not-waiting, no-notice, recheck, resumes, not-first}
+use Rattle.stepper.proofs.judge.Statement.{statement}
+use Rattle.stepper.proofs.judge.Tie as tie
+
+abbrev monitor : tie.Start → Monitor
+monitor s = slices (s .args .holds .now) [] (s .args .guard-of .now) (s .args .begins .now) [] (s .args .regions)
+
+abbrev point : tie.Start → Config
+point s = configOf (s .args .run)
+
+abbrev frame : tie.Start → Frame
+frame s = frameOf (s .args .frame)
+
+-- the way back to the start from each test
+abbrev from2 : tie.After-may-be-at → tie.Start
+from2 c = c .before .before .before .before .before
+
+abbrev from3 : tie.After-holds-at → tie.Start
+from3 c = from2 (c .before .before .before)
+
+abbrev from4 : tie.After-is-waiting → tie.Start
+from4 c = from3 (c .before .before)
+
+abbrev from5 : tie.After-has → tie.Start
+from5 c = from4 (c .before .before)
+
+at-region : (c : tie.After-may-be-at) →
+    c .may-be-at .result ≡ mayBeAt (monitor (from2 c)) (point (from2 c) .place (frame (from2 c) .thread)) (frame (from2 c) .region)
+unfolding configOf frameOf placesOf idleThread
+at-region c =
+    let a = from2 c .args in
+    c .may-be-at .ensures
+    ∙ sym (begins-alone (a .holds .now) [] (a .guard-of .now) (a .begins .now) [] (a .regions) (placesOf (a .run .threads) (a .frame .thread)) (a .frame .region))
+
+is-there : (c : tie.Else2) → let s = from2 (c .before) in may (monitor s) (point s .place) (frame s) ≡ true
+unfolding configOf frameOf
+is-there c =
+    let s = from2 (c .before) in
+    may-be (monitor s) (point s) (frame s)
+    (sym (c .before .before .before .before .other-due .ensures) ∙ c .before .before .before .if1 .left)
+    (sym (at-region (c .before)) ∙ not-false _ (c .if2 .left))
+
+truth : (c : tie.After-holds-at) → let s = from3 c in
+    c .holds-at .result ≡ monitor s .holds (monitor s .guardOf (frame s .region)) (point s .state)
+unfolding configOf frameOf
+truth c =
+    let a = from3 c .args in
+    c .holds-at .ensures ∙ ap (λ (g : ℕ). holdsAt (a .holds .now) g (a .run .state)) (c .before .guard-at .ensures)
+
+is-same : (c : tie.Else3) → let s = from3 (c .before) in
+    Bool·beq (frame s .flag) (monitor s .holds (monitor s .guardOf (frame s .region)) (point s .state)) ≡ true
+unfolding configOf frameOf
+is-same c =
+    let a = from3 (c .before) .args in
+    sym (ap (Bool·beq (a .frame .flag)) (truth (c .before))) ∙ not-false _ (c .if3 .left)
+
+waits : (c : tie.After-is-waiting) → let s = from4 c in c .is-waiting .result ≡ isWaiting (point s .place (frame s .thread))
+unfolding configOf frameOf placesOf idleThread
+waits c = c .is-waiting .ensures
+
+notice : (c : tie.After-has) → let s = from5 c in c .has .result ≡ point s .notified (frame s .thread)
+unfolding configOf frameOf
+notice c = c .has .ensures
+
+abbrev from7 : tie.After-lowest → tie.Start
+from7 c = from5 (c .before .before .before .before .before)
+
+-- the lowest notified waiter on the guard is not below t, or it is
+is-first : (c : tie.After-lowest) → let s = from7 c in
+    firstNotified (monitor s) (point s .place) (point s .notified) (monitor s .guardOf (frame s .region)) (frame s .thread)
+    ≡ not (ltb (c .lowest .result) (frame s .thread))
+unfolding configOf frameOf firstNotified waitsOn threads ahead
+is-first c =
+    let a = from7 c .args in
+    let places = placesOf (a .run .threads) in
+    let guard = guardAt (a .guard-of .now) (a .frame .region) in
+    let test : ℕ → Bool = λ v. onGuard (monitor (from7 c)) guard (places v) && member (a .run .notified) v in
+    let known = c .before .before .before .before .before .before .before .before .before .before .guard-at .ensures in
+    let on : (v : ℕ) → v < 16 → member (c .before .before .waiters .result) v ≡ onGuard (monitor (from7 c)) guard (places v) =
+    λ v h. c .before .before .waiters .ensures v h
+    ∙ ap (λ (g : ℕ). onGuard (guardsOnly (a .guard-of .now)) g (places v)) known
+    ∙ sym (guards-alone (a .holds .now) [] (a .guard-of .now) (a .begins .now) [] (a .regions) guard (places v)) in
+    ap not
+    (lowest-below (c .before .both .result) (c .lowest .result) (a .frame .thread) test (omega (arith, from7 c .pre))
+    (λ v h. c .before .both .ensures v ∙ ap (λ (b : Bool). b && member (a .run .notified) v) (on v h))
+    (c .lowest .ensures .0) (c .lowest .ensures .1 .0))
+
+cast-other-due : tie.Need-cast-other-due
+cast-other-due c = search needs
+
+other-due-requires : tie.Need-other-due-requires
+other-due-requires c κs = search needs
+
+returns : tie.Need-returns
+unfolding configOf frameOf
+returns c =
+    let s = c .before .before .before in
+    sym (other-is-due (monitor s) (point s) (frame s) (sym (c .before .other-due .ensures) ∙ c .if1 .taken))
+
+cast-thread : tie.Need-cast-thread
+cast-thread c = search needs
+
+mul-thread : tie.Need-mul-thread
+mul-thread c = search needs
+
+array-copy-out-thread : tie.Need-array-copy-out-thread
+array-copy-out-thread c = search needs
+
+may-be-at-requires : tie.Need-may-be-at-requires
+may-be-at-requires c κs = search needs
+
+returns-2 : tie.Need-returns-2
+returns-2 c =
+    let s = from2 (c .before) in
+    sym (not-there (monitor s) (point s) (frame s) (sym (at-region (c .before)) ∙ not-true _ (c .if2 .taken)))
+
+guard-at-requires : tie.Need-guard-at-requires
+guard-at-requires c κs = search needs
+
+holds-at-requires : tie.Need-holds-at-requires
+holds-at-requires c κs = search needs
+
+returns-3 : tie.Need-returns-3
+unfolding configOf frameOf
+returns-3 c =
+    let s = from3 (c .before) in
+    sym
+    (other-flag (monitor s) (point s) (frame s) (is-there (c .before .before .before))
+    (sym (ap (Bool·beq (s .args .frame .flag)) (truth (c .before))) ∙ not-true _ (c .if3 .taken)))
+
+is-waiting-requires : tie.Need-is-waiting-requires
+is-waiting-requires c κs = search needs
+
+returns-4 : tie.Need-returns-4
+returns-4 c =
+    let s = from4 (c .before) in
+    sym
+    (not-waiting (monitor s) (point s) (frame s) (is-there (c .before .before .before .before .before)) (is-same (c .before .before))
+    (sym (waits (c .before)) ∙ not-true _ (c .if4 .taken)))
+
+cast-has : tie.Need-cast-has
+cast-has c = search needs
+
+has-requires : tie.Need-has-requires
+has-requires c κs = search needs
+
+returns-5 : tie.Need-returns-5
+returns-5 c =
+    let s = from5 (c .before) in
+    let d = c .before .before in
+    sym
+    (no-notice (monitor s) (point s) (frame s) (is-there (d .before .before .before .before .before)) (is-same (d .before .before))
+    (sym (waits (d .before)) ∙ not-false _ (d .if4 .left)) (sym (notice (c .before)) ∙ not-true _ (c .if5 .taken)))
+
+waiters-requires : tie.Need-waiters-requires
+waiters-requires c κs = search needs
+
+both-requires : tie.Need-both-requires
+both-requires c κs = search needs
+
+lowest-requires : tie.Need-lowest-requires
+lowest-requires c κs = search needs
+
+cast-if7 : tie.Need-cast-if7
+cast-if7 c = search needs
+
+returns-6 : tie.Need-returns-6
+unfolding frameOf
+returns-6 c =
+    let s = from7 (c .before) in
+    let e = c .before .before .before .before in
+    let d = e .before .before .before in
+    sym
+    (not-first (monitor s) (point s) (frame s) (is-there (d .before .before .before .before .before)) (is-same (d .before .before))
+    (sym (waits (d .before)) ∙ not-false _ (d .if4 .left)) (sym (notice (e .before .before)) ∙ not-false _ (e .before .if5 .left)) (e .if6 .taken)
+    (is-first (c .before) ∙ ap not (lt-ltb (c .before .lowest .result) (s .args .frame .thread) (c .if7 .taken))))
+
+returns-7 : tie.Need-returns-7
+unfolding frameOf
+returns-7 c =
+    let s = from7 (c .before) in
+    let e = c .before .before .before .before in
+    let d = e .before .before .before in
+    sym
+    (resumes (monitor s) (point s) (frame s) (is-there (d .before .before .before .before .before)) (is-same (d .before .before))
+    (sym (waits (d .before)) ∙ not-false _ (d .if4 .left)) (sym (notice (e .before .before)) ∙ not-false _ (e .before .if5 .left)) (e .if6 .taken)
+    (is-first (c .before) ∙ ap not (le-ltb (c .before .lowest .result) (s .args .frame .thread) (c .if7 .left))))
+
+returns-8 : tie.Need-returns-8
+unfolding frameOf
+returns-8 c =
+    let s = from5 (c .before .before) in
+    let d = c .before .before .before in
+    sym
+    (recheck (monitor s) (point s) (frame s) (is-there (d .before .before .before .before .before)) (is-same (d .before .before))
+    (sym (waits (d .before)) ∙ not-false _ (d .if4 .left)) (sym (notice (c .before .before)) ∙ not-false _ (c .before .if5 .left)) (c .if6 .left))
+
+pub judge-spec : {M : Type 1} → statement M
+judge-spec =
+    tie.close
+    (tie.spec
+    cast-other-due
+    other-due-requires
+    returns
+    cast-thread
+    mul-thread
+    array-copy-out-thread
+    may-be-at-requires
+    returns-2
+    guard-at-requires
+    holds-at-requires
+    returns-3
+    is-waiting-requires
+    returns-4
+    cast-has
+    has-requires
+    returns-5
+    waiters-requires
+    both-requires
+    lowest-requires
+    cast-if7
+    returns-6
+    returns-7
+    returns-8)

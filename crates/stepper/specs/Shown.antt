@@ -1,0 +1,50 @@
+-- What a record of a run shows of a point of a run, and what a step of the code says of the machine's step.
+use Prim.Native.Nat.{ℕ, _<_}
+use mathlib.Core.Path.{_≡_}
+use mathlib.Core.Bool.{Bool, true, false}
+use lib.ListN.{getD}
+use Rattle.sets.specs.Set.{member}
+use Rattle.machine.specs.Machine.{Monitor, Config, Outcome, moved, refused, step, plainTold, Told}
+use Rattle.machine.specs.Machine as machine
+use Rattle.machine.specs.Table.{entryOf, tableTold}
+use Rattle.stepper.specs.declared.Place.{Place}
+use Rattle.stepper.specs.declared.Place.the-variants.{Idle, Waiting, Due}
+use Rattle.stepper.specs.declared.Thread.{Thread}
+use Rattle.stepper.specs.declared.Run.{Run}
+use Rattle.stepper.specs.declared.Frame.{Frame}
+use Rattle.stepper.specs.declared.Outcome as code
+
+unfoldable pub placeOf : Place → machine.Place
+placeOf Idle = machine.idle
+placeOf (Waiting r) = machine.waiting r
+placeOf (Due r) = machine.due r
+
+unfoldable pub idleThread : Thread
+idleThread = record { place = Idle }
+
+-- the state, the place of each of sixteen threads, and who is notified
+pub record Shows (r : Run) (c : Config) : Type 0 where
+  pub state : r .state ≡ c .state
+  pub places : (t : ℕ) → t < 16 → placeOf (getD (r .threads) t idleThread .place) ≡ c .place t
+  pub notices : (t : ℕ) → t < 16 → member (r .notified) t ≡ c .notified t
+
+-- a waiting or due thread of a run is at a region of the file
+pub record Within (m : Monitor) (c : Config) : Type 0 where
+  pub waits-within : (t w : ℕ) → c .place t ≡ machine.waiting w → w < m .regions
+  pub due-within : (t w : ℕ) → c .place t ≡ machine.due w → w < m .regions
+
+unfoldable pub frameOf : Frame → machine.Frame
+frameOf f = record { thread = f .thread; region = f .region; flag = f .flag }
+
+-- whom a body notifies, on the table's machine or the plain one
+unfoldable pub toldOn : Monitor → Bool → Told
+toldOn m true = tableTold m (entryOf m)
+toldOn m false = plainTold m
+
+-- the code's outcome against the machine's: a refusal's number and the run as it was, or 0 and a run that shows the next point
+unfoldable pub Steps : Run → code.Outcome → Outcome → Type 0
+Steps before o (moved c) = (o .number ≡ 0) × Shows (o .run) c
+Steps before o (refused a) = (o .number ≡ a) × (o .run ≡ before)
+
+unfoldable pub stepBy : Monitor → Bool → Config → Frame → Outcome
+stepBy m table c f = step m (toldOn m table) c (frameOf f)

@@ -1,0 +1,74 @@
+-- The monitor that lent slices give by look-ups alone, each index taken by a remainder: total, and the held monitor's where that is asked.
+use Prim.Native.Nat.{ℕ, zero, suc, _+_, _*_, _/_, _%_}
+use mathlib.Core.Bool.{Bool, true, false, not}
+use mathlib.Core.List.{List, []}
+use lib.ListN.{getD}
+use lib.Dec.{eqb}
+use Rattle.sets.specs.Set.{member}
+use Rattle.machine.specs.Machine.{Place, idle, waiting, due, Monitor, Config, Told, plainTold}
+use Rattle.machine.specs.Table.{Entry, none, entry, acts, tableTold}
+use Rattle.machine.specs.Held.{followsBy}
+use Rattle.stepper.specs.declared.Thread.{Thread}
+use Rattle.stepper.specs.declared.Run.{Run}
+use Rattle.stepper.specs.Shown.{placeOf, idleThread}
+
+unfoldable pub guardAt : List ℕ → ℕ → ℕ
+guardAt gs r = getD gs (r % 16) 0 % 16
+
+unfoldable pub holdsAt : List ℕ → ℕ → ℕ → Bool
+holdsAt hs g s = eqb (getD hs (g % 16 * 4096 + s % 4096) 0) 1
+
+unfoldable pub afterAt : List ℕ → ℕ → ℕ → ℕ
+afterAt as′ r s = getD as′ (r % 16 * 4096 + s % 4096) 0
+
+unfoldable pub beginsAt : List ℕ → ℕ → Bool
+beginsAt bs r = eqb (getD bs (r % 16) 0) 1
+
+unfoldable pub followsAt : List ℕ → ℕ → Place
+followsAt os r = followsBy (r % 16) (getD os (r % 16) 0)
+
+-- an entry by its number
+unfoldable pub entryBy : ℕ → Entry
+entryBy zero = none
+entryBy (suc n) = entry (eqb (suc n / 2 % 2) 1) (eqb (suc n / 4 % 2) 1)
+
+unfoldable pub entryAt : List ℕ → ℕ → ℕ → Entry
+entryAt es r g = entryBy (getD es (r % 16 * 16 + g % 16) 0)
+
+abbrev pub slices : List ℕ → List ℕ → List ℕ → List ℕ → List ℕ → ℕ → Monitor
+slices hs as′ gs bs os n = record {
+  states = 0;
+  regions = n;
+  guards = 0;
+  guardOf = guardAt gs;
+  holds = holdsAt hs;
+  after = afterAt as′;
+  kept = λ s. false;
+  begins = beginsAt bs;
+  follows = followsAt os;
+}
+
+-- the guards alone, and the guards with their truth: what some look-ups ask of a monitor
+abbrev pub guardsOnly : List ℕ → Monitor
+guardsOnly gs = slices [] [] gs [] [] 0
+
+abbrev pub truths : List ℕ → List ℕ → Monitor
+truths hs gs = slices hs [] gs [] [] 0
+
+unfoldable pub toldAt : List ℕ → List ℕ → List ℕ → Bool → Told
+toldAt hs gs es true = tableTold (truths hs gs) (entryAt es)
+toldAt hs gs es false = plainTold (truths hs gs)
+
+-- the places that a list of threads holds, and the point of a run that a record holds
+unfoldable pub placesOf : List Thread → ℕ → Place
+placesOf ts u = placeOf (getD ts u idleThread .place)
+
+unfoldable pub configOf : Run → Config
+configOf r = record { state = r .state; place = placesOf (r .threads); notified = member (r .notified) }
+
+-- an entry acts on the waiter at a place, where the guards that some thread ahead waits on are those of a set
+module _ (hs gs es : List ℕ) (s r met : ℕ) where
+  unfoldable pub toldBehind : Place → Bool
+  toldBehind idle = false
+  toldBehind (waiting w) = acts (entryAt es r (guardAt gs w)) (holdsAt hs (guardAt gs w) s) (not (member met (guardAt gs w)))
+  toldBehind (due w) = false

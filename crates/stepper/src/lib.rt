@@ -1,0 +1,465 @@
+// One frame on either machine: a record of a run by value, and the step that the rules give or the refusal's number.
+// Each promise cites the step of `machine`, for every monitor that the lent slices hold.
+ghost use mathlib.Core.Path.{_≡_};
+ghost use mathlib.Core.Bool.{true, not, _&&_, _||_};
+ghost use mathlib.Core.List.{List, []};
+ghost use Prim.Native.Nat.{ℕ, _<_};
+ghost use lib.Dec.{eqb};
+ghost use Rattle.sets.specs.Set.{member};
+ghost use Rattle.machine.specs.Machine.{Monitor, Config, allIdle, any, isDue, isWaiting, mayBeAt, onGuard, waitsOn, own, put as putAt, ran as ranTo};
+ghost use Rattle.machine.specs.Table.{acts as actsOf, tableTold};
+ghost use Rattle.machine.specs.Held.{Held, HeldPlaces, HeldEntries};
+ghost use Rattle.stepper.specs.Shown.{Shows, Steps, Within, stepBy, placeOf, frameOf};
+ghost use Rattle.stepper.specs.Slices.{guardAt, holdsAt, followsAt, entryBy, entryAt, slices, guardsOnly, truths, toldAt, toldBehind, placesOf, configOf};
+ghost use Rattle.stepper.specs.Parts.{verdictOf, nextOf};
+
+// Where a thread is: idle, waiting at a region, or due at a region.
+pub enum Place {
+    Idle,
+    Waiting(u8),
+    Due(u8),
+}
+
+pub struct Thread {
+    pub place: Place,
+}
+
+// The record of a run: the state's number, the place of each of sixteen threads, and the notified set.
+pub struct Run {
+    pub state: u16,
+    pub threads: [Thread; 16],
+    pub notified: u16,
+}
+
+pub struct Frame {
+    pub thread: u8,
+    pub region: u8,
+    pub flag: bool,
+}
+
+// The refusal's number, or 0, and the run afterwards: as it was where the frame is refused.
+pub struct Outcome {
+    pub number: u8,
+    pub run: Run,
+}
+
+const ACCEPTED: u8 = 0;
+
+const MISPLACED: u8 = 13;
+
+const NOT_ALLOWED: u8 = 14;
+
+// A run at its start: all idle, none notified.
+pub fn start(state: u16) -> Run
+    ensures { λ r. ⌜ Shows r (allIdle state) ⌝ }
+{
+    Run {
+        state: state,
+        threads: [Thread { place: Place::Idle }; 16],
+        notified: 0,
+    }
+}
+
+// The guard of a region, and whether a guard holds in a state.
+fn guard_at(guard_of: &[u8; 16], region: u8) -> u8
+    ensures { λ r. ⌜ r ≡ guardAt (now («guard_of» .entry)) region ⌝ }
+{
+    guard_of[(region % 16) as usize] % 16
+}
+
+fn holds_at(holds: &[u8; 65536], guard: u8, state: u16) -> bool
+    ensures { λ r. ⌜ r ≡ holdsAt (now (holds .entry)) guard state ⌝ }
+{
+    holds[(guard % 16) as usize * 4096 + (state % 4096) as usize] == 1
+}
+
+fn is_due(place: Place) -> bool
+    ensures { λ r. ⌜ r ≡ isDue (placeOf place) ⌝ }
+{
+    match place {
+        Place::Idle => false,
+        Place::Waiting(_) => false,
+        Place::Due(_) => true,
+    }
+}
+
+fn is_waiting(place: Place) -> bool
+    ensures { λ r. ⌜ r ≡ isWaiting (placeOf place) ⌝ }
+{
+    match place {
+        Place::Idle => false,
+        Place::Waiting(_) => true,
+        Place::Due(_) => false,
+    }
+}
+
+// Whether another thread than t is due.
+fn other_due(threads: [Thread; 16], t: usize) -> bool
+    ensures { λ r. ⌜ r ≡ any 16 (λ u. not (eqb u t) && isDue (placesOf threads u)) ⌝ }
+{
+    let mut u: usize = 0;
+    while u < 16 {
+        let thread = threads[u];
+        let place = thread.place;
+        if u != t {
+            if is_due(place) {
+                return true;
+            }
+        }
+        u += 1;
+    }
+    false
+}
+
+// Whether a thread at a place may be at a region next.
+fn may_be_at(place: Place, region: u8, begins: &[u8; 16], regions: usize) -> bool
+    ensures { λ r. ⌜ r ≡ mayBeAt (slices [] [] [] (now (begins .entry)) [] regions) (placeOf place) region ⌝ }
+{
+    match place {
+        Place::Idle => (region as usize) < regions && begins[(region % 16) as usize] == 1,
+        Place::Waiting(w) => w == region,
+        Place::Due(w) => w == region,
+    }
+}
+
+// Whether a thread at a place waits on a guard.
+fn waits_on(place: Place, guard_of: &[u8; 16], guard: u8) -> bool
+    ensures { λ r. ⌜ r ≡ onGuard (guardsOnly (now («guard_of» .entry))) guard (placeOf place) ⌝ }
+{
+    match place {
+        Place::Idle => false,
+        Place::Waiting(w) => guard_at(guard_of, w) == guard,
+        Place::Due(_) => false,
+    }
+}
+
+// The waiters on a guard, as a set.
+fn waiters(threads: [Thread; 16], guard_of: &[u8; 16], guard: u8) -> u16
+    ensures { λ r. ⌜ ((u : ℕ) → u < 16 → member r u ≡ waitsOn (guardsOnly (now («guard_of» .entry))) (placesOf threads) guard u) ⌝ }
+{
+    let mut set: u16 = 0;
+    let mut u: usize = 0;
+    while u < 16 {
+        let thread = threads[u];
+        let place = thread.place;
+        if waits_on(place, guard_of, guard) {
+            set = sets::with(set, u as u32);
+        }
+        u += 1;
+    }
+    set
+}
+
+// Whether the plain machine notifies a thread at a place: it waits and its guard holds.
+fn own_holds(place: Place, guard_of: &[u8; 16], holds: &[u8; 65536], state: u16) -> bool
+    ensures { λ r. ⌜ r ≡ own (truths (now (holds .entry)) (now («guard_of» .entry))) state (placeOf place) ⌝ }
+{
+    match place {
+        Place::Idle => false,
+        Place::Waiting(w) => holds_at(holds, guard_at(guard_of, w), state),
+        Place::Due(_) => false,
+    }
+}
+
+// Every waiter whose guard holds.
+fn told_plain(threads: [Thread; 16], guard_of: &[u8; 16], holds: &[u8; 65536], state: u16) -> u16
+    ensures { λ r. ⌜ ((u : ℕ) → u < 16 → member r u
+        ≡ own (truths (now (holds .entry)) (now («guard_of» .entry))) state (placesOf threads u)) ⌝ }
+{
+    let mut set: u16 = 0;
+    let mut u: usize = 0;
+    while u < 16 {
+        let thread = threads[u];
+        let place = thread.place;
+        if own_holds(place, guard_of, holds, state) {
+            set = sets::with(set, u as u32);
+        }
+        u += 1;
+    }
+    set
+}
+
+// Whether an entry acts on a waiter: does its guard hold, and is it next in line.
+fn acts(code: u8, holds: bool, first: bool) -> bool
+    ensures { λ r. ⌜ r ≡ actsOf (entryBy code) holds first ⌝ }
+{
+    if code == 0 {
+        return false;
+    }
+    let sure = either(code / 2 % 2 == 1, holds);
+    let reached = either(code / 4 % 2 == 1, first);
+    sure && reached
+}
+
+fn either(a: bool, b: bool) -> bool
+    ensures { λ r. ⌜ r ≡ a || b ⌝ }
+{
+    if a { true } else { b }
+}
+
+// Whether an entry of a region acts on a thread at a place, where those ahead of it wait on the guards of a set.
+fn entry_acts(
+    place: Place,
+    guard_of: &[u8; 16],
+    holds: &[u8; 65536],
+    state: u16,
+    entries: &[u8; 256],
+    region: u8,
+    met: u16,
+) -> bool
+    ensures { λ r. ⌜ r ≡ toldBehind (now (holds .entry)) (now («guard_of» .entry)) (now (entries .entry)) state region met
+        (placeOf place) ⌝ }
+{
+    match place {
+        Place::Idle => false,
+        Place::Waiting(w) => {
+            let guard = guard_at(guard_of, w);
+            let code = entries[(region % 16) as usize * 16 + (guard % 16) as usize];
+            acts(
+                code,
+                holds_at(holds, guard, state),
+                !sets::has(met, guard as u32),
+            )
+        }
+        Place::Due(_) => false,
+    }
+}
+
+// The guards met so far, with that of a thread at a place.
+fn met_with(met: u16, place: Place, guard_of: &[u8; 16]) -> u16
+    ensures { λ r. ⌜ ((g : ℕ) → member r g ≡ onGuard (guardsOnly (now («guard_of» .entry))) g (placeOf place) || member met g) ⌝ }
+{
+    match place {
+        Place::Idle => met,
+        Place::Waiting(w) => sets::with(met, guard_at(guard_of, w) as u32),
+        Place::Due(_) => met,
+    }
+}
+
+// Those whom the entries of a region notify; the first waiter on each guard is the first that is met.
+fn told_table(
+    threads: [Thread; 16],
+    guard_of: &[u8; 16],
+    holds: &[u8; 65536],
+    state: u16,
+    entries: &[u8; 256],
+    region: u8,
+) -> u16
+    ensures { λ r. ⌜ ((u : ℕ) → u < 16 → member r u
+        ≡ tableTold (truths (now (holds .entry)) (now («guard_of» .entry))) (entryAt (now (entries .entry))) state
+        (placesOf threads) region u) ⌝ }
+{
+    let mut set: u16 = 0;
+    let mut met: u16 = 0;
+    let mut u: usize = 0;
+    while u < 16 {
+        let thread = threads[u];
+        let place = thread.place;
+        if entry_acts(place, guard_of, holds, state, entries, region, met) {
+            set = sets::with(set, u as u32);
+        }
+        met = met_with(met, place, guard_of);
+        u += 1;
+    }
+    set
+}
+
+// Whom a body notifies, on the table's machine or the plain one.
+fn told(
+    table: bool,
+    threads: [Thread; 16],
+    guard_of: &[u8; 16],
+    holds: &[u8; 65536],
+    state: u16,
+    entries: &[u8; 256],
+    region: u8,
+) -> u16
+    ensures { λ r. ⌜ ((u : ℕ) → u < 16 → member r u
+        ≡ toldAt (now (holds .entry)) (now («guard_of» .entry)) (now (entries .entry)) table state (placesOf threads) region u) ⌝ }
+{
+    if table {
+        told_table(threads, guard_of, holds, state, entries, region)
+    } else {
+        told_plain(threads, guard_of, holds, state)
+    }
+}
+
+// The places with that of thread t replaced.
+fn put(threads: [Thread; 16], t: usize, place: Place) -> [Thread; 16]
+    requires { ⌜ t < 16 ⌝ }
+    ensures { λ r. ⌜ ((u : ℕ) → u < 16 → placesOf r u ≡ putAt (placesOf threads) t (placeOf place) u) ⌝ }
+{
+    let mut next = threads;
+    next[t] = Thread { place: place };
+    next
+}
+
+// Where a thread is after a region's body.
+fn behind(region: u8, goes_on: &[u8; 16]) -> Place
+    ensures { λ r. ⌜ placeOf r ≡ followsAt (now («goes_on» .entry)) region ⌝ }
+{
+    if goes_on[(region % 16) as usize] == 0 {
+        Place::Idle
+    } else {
+        Place::Due(region % 16 + 1)
+    }
+}
+
+// The number that answers a frame: 0 where it is taken, 13 where the thread may not be at the region, 14 where the rules do not allow it.
+fn judge(
+    run: Run,
+    frame: Frame,
+    holds: &[u8; 65536],
+    guard_of: &[u8; 16],
+    begins: &[u8; 16],
+    regions: usize,
+) -> u8
+    requires { ⌜ frame .thread < 16 ⌝ }
+    ensures { λ r. ⌜ r
+        ≡ verdictOf (slices (now (holds .entry)) [] (now («guard_of» .entry)) (now (begins .entry)) [] regions)
+        (configOf run) (frameOf frame) ⌝ }
+{
+    let t = frame.thread;
+    let region = frame.region;
+    let threads = run.threads;
+    if other_due(threads, t as usize) {
+        return MISPLACED;
+    }
+    let thread = threads[t as usize];
+    let place = thread.place;
+    if !may_be_at(place, region, begins, regions) {
+        return MISPLACED;
+    }
+    let guard = guard_at(guard_of, region);
+    let flag = frame.flag;
+    let holding = holds_at(holds, guard, run.state);
+    if flag != holding {
+        return NOT_ALLOWED;
+    }
+    if !is_waiting(place) {
+        return ACCEPTED;
+    }
+    let notified = run.notified;
+    if !sets::has(notified, t as u32) {
+        return NOT_ALLOWED;
+    }
+    if flag {
+        let waiting = waiters(threads, guard_of, guard);
+        let ahead = sets::both(waiting, notified);
+        if sets::lowest(ahead) < t as u32 {
+            return NOT_ALLOWED;
+        }
+    }
+    ACCEPTED
+}
+
+// The run after a region's body.
+fn ran(
+    run: Run,
+    frame: Frame,
+    table: bool,
+    holds: &[u8; 65536],
+    after: &[u16; 65536],
+    guard_of: &[u8; 16],
+    goes_on: &[u8; 16],
+    entries: &[u8; 256],
+) -> Run
+    requires { ⌜ frame .thread < 16 ⌝ }
+    ensures { λ r. ⌜ Shows r
+        (ranTo (slices (now (holds .entry)) (now (after .entry)) (now («guard_of» .entry)) [] (now («goes_on» .entry)) 0)
+        (toldAt (now (holds .entry)) (now («guard_of» .entry)) (now (entries .entry)) table) (configOf run) (frameOf frame)) ⌝ }
+{
+    let t = frame.thread;
+    let region = frame.region;
+    let threads = run.threads;
+    let places = put(threads, t as usize, behind(region, goes_on));
+    let to = after[(region % 16) as usize * 4096 + (run.state % 4096) as usize];
+    let notified = run.notified;
+    let told = told(table, places, guard_of, holds, to, entries, region);
+    let rest = sets::without(notified, t as u32);
+    Run {
+        state: to,
+        threads: places,
+        notified: sets::union(rest, told),
+    }
+}
+
+// The run after a frame that is taken: a body, a recheck, or a thread that begins to wait.
+fn advance(
+    run: Run,
+    frame: Frame,
+    table: bool,
+    holds: &[u8; 65536],
+    after: &[u16; 65536],
+    guard_of: &[u8; 16],
+    goes_on: &[u8; 16],
+    entries: &[u8; 256],
+) -> Run
+    requires { ⌜ frame .thread < 16 ⌝ }
+    ensures { λ r. ⌜ Shows r
+        (nextOf (slices (now (holds .entry)) (now (after .entry)) (now («guard_of» .entry)) [] (now («goes_on» .entry)) 0)
+        (toldAt (now (holds .entry)) (now («guard_of» .entry)) (now (entries .entry)) table) (configOf run) (frameOf frame)) ⌝ }
+{
+    if frame.flag {
+        return ran(run, frame, table, holds, after, guard_of, goes_on, entries);
+    }
+    let t = frame.thread;
+    let state = run.state;
+    let threads = run.threads;
+    let notified = run.notified;
+    let thread = threads[t as usize];
+    let place = thread.place;
+    if is_waiting(place) {
+        let rest = sets::without(notified, t as u32);
+        return Run {
+            state: state,
+            threads: threads,
+            notified: rest,
+        };
+    }
+    let places = put(threads, t as usize, Place::Waiting(frame.region));
+    Run {
+        state: state,
+        threads: places,
+        notified: notified,
+    }
+}
+
+// One frame on the plain machine, or on the table's.
+pub fn step(
+    run: Run,
+    frame: Frame,
+    table: bool,
+    holds: &[u8; 65536],
+    after: &[u16; 65536],
+    guard_of: &[u8; 16],
+    begins: &[u8; 16],
+    goes_on: &[u8; 16],
+    entries: &[u8; 256],
+    regions: usize,
+) -> Outcome
+    ensures { λ r. ⌜ ((m : Monitor) (c : Config) (kept : List ℕ) → m .regions ≡ regions
+        → Held m kept (now (holds .entry)) (now (after .entry)) (now («guard_of» .entry))
+        → HeldPlaces m (now (begins .entry)) (now («goes_on» .entry))
+        → (table ≡ true → HeldEntries m (now (entries .entry)))
+        → frame .thread < 16 → Within m c → m .kept (c .state) ≡ true → Shows run c
+        → Steps run r (stepBy m table c frame)) ⌝ }
+{
+    let known = Frame {
+        thread: frame.thread % 16,
+        region: frame.region,
+        flag: frame.flag,
+    };
+    let number = judge(run, known, holds, guard_of, begins, regions);
+    if number != ACCEPTED {
+        return Outcome {
+            number: number,
+            run: run,
+        };
+    }
+    let next = advance(run, known, table, holds, after, guard_of, goes_on, entries);
+    Outcome {
+        number: ACCEPTED,
+        run: next,
+    }
+}
