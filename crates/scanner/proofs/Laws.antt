@@ -11,8 +11,8 @@ use lib.Dec.{leb, eqb}
 use borrow.Author.Tests.{leb-true}
 use Rattle.syntax.specs.Bytes.{leading, digit, between, decimal, sameBytes}
 
--- a Boolean that is not false is true, as a case distinction that keeps the equation
-pub by-cases : {ℓ : Type 0} (b : Bool) → (b ≡ true → ℓ) → (b ≡ false → ℓ) → ℓ
+-- a case distinction on a Boolean that keeps the equation
+pub by-cases : {A : Type 0} (b : Bool) → (b ≡ true → A) → (b ≡ false → A) → A
 by-cases true f g = f refl
 by-cases false f g = g refl
 

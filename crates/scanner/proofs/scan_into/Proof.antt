@@ -1,7 +1,7 @@
 -- `scanner::scan_into` meets its contract. The loop's invariant, `Held`: the numbers of the tokens so far are in the slices, and those tokens
 -- in front of the tokens of what is left are the file's. Each token has a byte of its own, so that 8,192 of them end the file.
 -- Assumes nothing.
-use Prim.Native.Nat.{ℕ, _-_}
+use Prim.Native.Nat.{ℕ, _-_, _<_}
 use mathlib.Core.Path.{_≡_}
 use mathlib.Core.List.{List}
 use native.Mathlib.Omega.{arith}
@@ -95,7 +95,11 @@ slice-write-values : tie.Need-slice-write-values Inv-loop μ-loop
 slice-write-values c = search needs
 
 cast-places : tie.Need-cast-places Inv-loop μ-loop
-cast-places c = rw (c .before .before .before .before .next .ensures) (omega (arith, token-taken (c .before) .inside))
+cast-places c =
+    let step = c .before .before .before .before .next in
+    let file = file-of (c .before .before .before .before .before .before) in
+    let inside : step .result .start < length file = rw (step .ensures) (token-taken (c .before) .inside) in
+    omega arith
 
 mul-places : tie.Need-mul-places Inv-loop μ-loop
 mul-places c = search needs
