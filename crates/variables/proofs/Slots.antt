@@ -29,18 +29,22 @@ module _ (f : Var → ℤ) (e : ℕ) where
         unused = λ k l q. six-at e k l;
       }
 
-  module _ (vs : List Var) (xs : List ℕ) (s : Slots f e vs xs) (room : length vs < 6) (v : Var) (n : ℕ)
-      (h : Shifted 128 (f v) n) (low : n ≤ 255) where
-    pub slots-one : Slots f e (vs ++ (v ∷ [])) (set xs (length vs) n)
+  -- one variable more, whose number is held with 65,536 added
+  module _ (vs : List Var) (xs : List ℕ) (s : Slots f e vs xs) (room : length vs < 6) (v : Var) (m : ℕ)
+      (h : Shifted 65536 (f v) m) (low : 65408 ≤ m) (high : m ≤ 65663) where
+    slots-one : Slots f e (vs ++ (v ∷ [])) (set xs (length vs) (m - 65408))
     slots-one =
+        let n = m - 65408 in
+        let same : n + 65408 ≡ m = omega arith in
+        let here : Shifted 128 (f v) n = rebased 128 65408 n (rw same h) in
         let more = length-append vs (v ∷ []) in
         let six = s .six in
         record {
           six = length-set xs (length vs) n ∙ six;
           held = set-each (λ k x. (u : Var) → getElem? (vs ++ (v ∷ [])) k ≡ some u → Shifted 128 (f u) x) xs (length vs) n (omega arith)
-              (λ u q. ⊎-elim (λ t. absurd (omega (arith, elem-inside vs (length vs) u t))) (λ t. rw (t .1) h) (elem-snoc vs v (length vs) u q))
+              (λ u q. ⊎-elim (λ t. absurd (omega (arith, elem-inside vs (length vs) u t))) (λ t. rw (t .1) here) (elem-snoc vs v (length vs) u q))
               (λ k d u q. ⊎-elim (λ t. s .held k u t) (λ t. absurd (d (t .0))) (elem-snoc vs v k u q));
-          small = set-each (λ k x. x ≤ 255) xs (length vs) n (omega arith) low (λ k _. s .small k);
+          small = set-each (λ k x. x ≤ 255) xs (length vs) n (omega arith) (omega arith) (λ k _. s .small k);
           unused = set-each (λ k x. k < 6 → length (vs ++ (v ∷ [])) ≤ k → x ≡ e) xs (length vs) n (omega arith)
               (λ _ q. absurd (omega arith)) (λ k _ l q. s .unused k l (omega arith));
         }
@@ -85,12 +89,6 @@ unfolding count
 count-snoc [] v = rw (mul-one, one-mul)
 count-snoc (u ∷ vs) v = rw (count-snoc vs v, mul-assoc)
 
--- a number that is held with 65,536 added, held with 128 added
-rebased-slot : {a : ℤ} {n : ℕ} → Shifted 65536 a n → 65408 ≤ n → Shifted 128 a (n - 65408)
-rebased-slot {a} {n} e h =
-    let same : n - 65408 + 65408 ≡ n = omega arith in
-    rebased 128 65408 (n - 65408) (rw same e)
-
 pub loaded-one : (vs : List Var) (v : Var) (b r : Bounds) (t : Triple) → Loaded vs b → length vs < 6 → TripleOf v t
     → Good (b .states) t → WithVar b t r → Loaded (vs ++ (v ∷ [])) r
 loaded-one vs v b r t l room h g w =
@@ -99,9 +97,9 @@ loaded-one vs v b r t l room h g w =
     record {
       counted = w .counted i ∙ simp length-append (omega arith);
       states = w .states i ∙ rw (count-snoc, size-is v (h .low) (h .high) (g .ordered), l .states);
-      lows = rw (w .lows i, c) (slots-one _ _ vs (b .lows) (l .lows) room v (t .low - 65408) (rebased-slot (h .low) (omega arith)) (omega arith));
-      highs = rw (w .highs i, c) (slots-one _ _ vs (b .highs) (l .highs) room v (t .high - 65408) (rebased-slot (h .high) (omega arith)) (omega arith));
-      starts = rw (w .starts i, c) (slots-one _ _ vs (b .starts) (l .starts) room v (t .start - 65408) (rebased-slot (h .start) (omega arith)) (omega arith));
+      lows = rw (w .lows i, c) (slots-one _ _ vs (b .lows) (l .lows) room v (t .low) (h .low) (omega arith) (omega arith));
+      highs = rw (w .highs i, c) (slots-one _ _ vs (b .highs) (l .highs) room v (t .high) (h .high) (omega arith) (omega arith));
+      starts = rw (w .starts i, c) (slots-one _ _ vs (b .starts) (l .starts) room v (t .start) (h .start) (omega arith) (omega arith));
     }
 
 -- Good ranges, by index

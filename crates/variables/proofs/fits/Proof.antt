@@ -1,4 +1,5 @@
--- `variables::fits` meets its contract. Each refusal breaks one part of `Good`, and what passes all tests has them all; the product of at most 4,096 and 256 fits. Assumes nothing.
+-- `variables::fits` meets its contract. Each refusal breaks one part of `Good`, and what passes all tests has them all; the product
+-- of at most 4,096 and 256 fits. Assumes nothing.
 use Prim.Native.Nat.{ℕ, _+_, _-_}
 use native.Mathlib.Nat.{not-le-of-lt}
 use native.Mathlib.Omega.{arith}

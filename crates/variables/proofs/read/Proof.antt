@@ -1,4 +1,6 @@
--- `variables::read` meets its contract. The loop's invariant: at most 4,096 states and six variables, and whatever variables are spelled there, those passed are good and held, and the tokens of the others are left (`Walk`). The place grows with each variable. Assumes nothing.
+-- `variables::read` meets its contract. The loop's invariant: at most 4,096 states and six variables, and whatever variables are
+-- spelled there, those passed are good and held, and the tokens of the others are left (`Walk`). The place grows with each variable.
+-- Assumes nothing.
 use Prim.Native.Nat.{_-_, _<_, _≤_}
 use native.Mathlib.Omega.{arith}
 use mathlib.Core.Path.{_≡_, refl, sym, _∙_}

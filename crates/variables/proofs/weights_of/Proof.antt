@@ -1,4 +1,5 @@
--- `variables::weights_of` meets its contract. The loop's invariant: the weights from k on stand, and the weight is the count of states of all variables from k on. Assumes nothing.
+-- `variables::weights_of` meets its contract. The loop's invariant: the weights from k on stand, and the weight is the count of
+-- states of all variables from k on. Assumes nothing.
 use Prim.Native.Nat.{_≤_}
 use native.Mathlib.Omega.{arith}
 use mathlib.Core.Path.{_≡_, refl}
