@@ -1,0 +1,166 @@
+-- Laws of all regions and guards: what a row of the slices is given, and what the rows say of refusal 9. Assumes nothing.
+use Prim.Native.Nat.{ℕ, zero, suc, _+_, _-_, _*_, _%_, _≤_, _<_}
+use native.Mathlib.Omega.{arith}
+use native.Mathlib.Nat.{mod-eq-of-lt}
+use mathlib.Core.Path.{_≡_, refl, sym, ap, subst, _∙_}
+use mathlib.Core.Bool.{Bool, true, false}
+use mathlib.Core.List.{List, [], _∷_, _++_}
+use mathlib.Core.Option.{Option, none, some, Option·some-injective}
+use lib.ListN.{length, getD, getElem?, take, drop, length-append, length-drop, List·getD-append}
+use lib.Seq.{getD-take, getD-drop, getD-append-add, length-take-le}
+use lib.Dec.{ltb}
+use borrow.Author.Tests.{ltb-true, ltb-false}
+use Rattle.syntax.specs.Token.{Lexeme}
+use Rattle.syntax.specs.Tree.{Cond, Region, Monitor}
+use Rattle.syntax.specs.Grammar.{one-cond}
+use Rattle.machine.specs.Held.{bit}
+use Rattle.machine.specs.Table.{runs}
+use Rattle.meaning.specs.Value.{truth}
+use Rattle.meaning.specs.State.{count, stateAt}
+use Rattle.meaning.specs.Check.{breaks, broken}
+use Rattle.meaning.specs.Model.{vars, regions, guards, guardsOf, placeIn, region, guardOf, kept, holds, after, model}
+use Rattle.meaning.specs.ModelLaws.{region-numbered, guard-below, holds-guard}
+use Rattle.meaning.specs.Accepting.{IsRegion}
+use Rattle.meaning.specs.Bools.{both, split, no-some}
+use Rattle.meaning.specs.Soundness.{broken-none-iff, broken-some-iff}
+use Rattle.evaluator.specs.Coding.{Codes}
+use Rattle.variables.specs.Bounded.{Bounded}
+use Rattle.variables.specs.declared.Bounds.{Bounds}
+use Rattle.tables.specs.declared.Broken.{Broken}
+use Rattle.tables.specs.declared.Broken.the-variants.{Never, At}
+use Rattle.tables.specs.Rows.{TruthRow, BodiesAt, GuardNumbers, KeptAll, HoldsAll, AfterAll, AfterAs}
+use Rattle.tables.specs.HeldLaws.{guards-few, row-of-kept, kept-truth}
+use Rattle.tables.specs.Steps.{Body, Below, RowDone}
+
+-- A row that is lent, and has come back into its slice
+
+pub part-long : (xs : List ℕ) (at n : ℕ) → at + n ≤ length xs → length (take n (drop at xs)) ≡ n
+part-long xs at n room = length-take-le n (drop at xs) (omega (arith, length-drop at xs))
+
+-- a list of rows of 4096, of which row g is given anew
+module _ (xs ys : List ℕ) (g n : ℕ) (w : n ≡ 4096) (room : g * 4096 + n ≤ length xs) (whole : length ys ≡ n) where
+  abbrev pub back : List ℕ
+  back = take (g * 4096) xs ++ (ys ++ drop n (drop (g * 4096) xs))
+
+  front-long : length (take (g * 4096) xs) ≡ g * 4096
+  front-long = length-take-le (g * 4096) xs (omega arith)
+
+  pub back-length : length back ≡ length xs
+  back-length =
+      let a = length-append (take (g * 4096) xs) (ys ++ drop n (drop (g * 4096) xs)) in
+      let b = length-append ys (drop n (drop (g * 4096) xs)) in
+      let d = length-drop n (drop (g * 4096) xs) in
+      let e = length-drop (g * 4096) xs in
+      omega (arith, front-long)
+
+  pub row-before : (j s : ℕ) → j < g → s < 4096 → getD back (j * 4096 + s) 0 ≡ getD xs (j * 4096 + s) 0
+  row-before j s h low =
+      List·getD-append (take (g * 4096) xs) (ys ++ drop n (drop (g * 4096) xs)) 0 (j * 4096 + s) (omega (arith, front-long))
+      ∙ getD-take (g * 4096) xs (j * 4096 + s) 0 (omega arith)
+
+  pub row-at : (s : ℕ) → s < 4096 → getD back (g * 4096 + s) 0 ≡ getD ys s 0
+  row-at s low =
+      let p : g * 4096 + s ≡ length (take (g * 4096) xs) + s = omega (arith, front-long) in
+      ap (λ (i : ℕ). getD back i 0) p ∙ getD-append-add (take (g * 4096) xs) (ys ++ drop n (drop (g * 4096) xs)) s 0
+      ∙ List·getD-append ys (drop n (drop (g * 4096) xs)) 0 s (omega arith)
+
+-- What a region's row is given
+
+pub record Filling (m : Monitor) (kinds values : List ℕ) (bounds : Bounds) (ats numbers : List ℕ) (n : ℕ) (kept′ holds′ : List ℕ)
+    : Type 0 where
+  pub ls : List Lexeme
+  pub codes : Codes (vars m) ls kinds values
+  pub bounded : Bounded (vars m) bounds
+  pub few : length ls ≤ 8192
+  pub counted : n ≡ length (regions m)
+  pub few-regions : n ≤ 16
+  pub bodies : BodiesAt m ls ats
+  pub by-number : GuardNumbers m numbers
+  pub long : 4096 ≤ length kept′
+  pub by-kept : KeptAll m kept′
+  pub by-holds : HoldsAll m holds′
+
+module _ {m : Monitor} {kinds values : List ℕ} {bounds : Bounds} {ats numbers : List ℕ} {n : ℕ} {kept′ holds′ : List ℕ}
+    (f : Filling m kinds values bounds ats numbers n kept′ holds′) (r : ℕ) (low : r < n)
+  where
+  -- the number that the code takes is the guard's
+  number-is : getD numbers r 0 % 16 ≡ guardOf m r
+  unfolding GuardNumbers
+  number-is =
+      let h : r < length (regions m) = omega (arith, f .counted) in
+      let e = f .by-number r h in
+      let small : getD numbers r 0 < 16 = omega (arith, guard-below m r h, guards-few m, f .counted, f .few-regions) in
+      mod-eq-of-lt small ∙ e
+
+  guard-row : (row k : ℕ) → row ≡ getD numbers r 0 % 16 * 4096 → k ≡ 4096
+      → TruthRow (vars m) (region m r .guard) (take k (drop row holds′))
+  unfolding TruthRow HoldsAll
+  guard-row row k e w s below =
+      let h : r < length (regions m) = omega (arith, f .counted) in
+      let place : row + s ≡ guardOf m r * 4096 + s = ap (λ (i : ℕ). i + s) (e ∙ ap (λ (i : ℕ). i * 4096) number-is) in
+      getD-take k (drop row holds′) s 0 (omega (arith, f .bounded .few-states)) ∙ getD-drop row holds′ s 0
+      ∙ ap (λ (i : ℕ). getD holds′ i 0) place ∙ f .by-holds (guardOf m r) s (guard-below m r h) below
+      ∙ ap bit (holds-guard m one-cond r s)
+
+  pub body-of : (at row k : ℕ) → at ≡ getD ats r 0 → row ≡ getD numbers r 0 % 16 * 4096 → k ≡ 4096
+      → Body (vars m) (m .keep) (region m r) kinds values bounds at kept′ (take k (drop row holds′))
+  unfolding BodiesAt
+  body-of at row k p e w =
+      let t = f .bodies r (omega (arith, f .counted)) in
+      record {
+        ls = f .ls;
+        us = t .0;
+        codes = f .codes;
+        bounded = f .bounded;
+        few = f .few;
+        spelled = rw p (t .1);
+        long = f .long;
+        by-kept = row-of-kept m kept′ (f .by-kept);
+        by-guard = guard-row row k e w;
+      }
+
+-- Refusal 9
+
+numbered-below : {A : Type 0} (xs : List A) (i : ℕ) (a : A) → getElem? xs i ≡ some a → i < length xs
+numbered-below [] i a e = no-some e
+numbered-below (x ∷ xs) zero a e = omega arith
+numbered-below (x ∷ xs) (suc i) a e = let h = numbered-below xs i a e in omega arith
+
+module _ (m : Monitor) (rows : List ℕ) where
+  -- region j breaks nowhere, and its row is done
+  abbrev pub Done : ℕ → Type 0
+  Done j = Below (vars m) (m .keep) (region m j) (count (vars m)) (λ s. getD rows (j * 4096 + s) 0)
+
+  -- the region with a number is the one that the number finds
+  quiet-at : (j : ℕ) (q : Region) → getElem? (regions m) j ≡ some q → Done j → (s : ℕ) → s < count (vars m)
+      → breaks (vars m) (m .keep) q (stateAt (vars m) s) ≡ false
+  unfolding IsRegion regions
+  quiet-at j q e d s h =
+      let same : region m j ≡ q =
+      Option·some-injective _ _ (sym (region-numbered m j (numbered-below (regions m) j q e)) ∙ e) in
+      subst (λ (u : Region). breaks (vars m) (m .keep) u (stateAt (vars m) s) ≡ false) same (d .quiet s h)
+
+  after-all : ((j : ℕ) → j < length (regions m) → Done j) → AfterAll m rows
+  unfolding AfterAll runs model after
+  after-all d r s h t =
+      let u = both (kept m s) (holds m (guardOf m r) s) t in
+      let k = kept-truth m s (u .0) in
+      d r h .number s (k .0) (k .1) (sym (holds-guard m one-cond r s) ∙ u .1)
+
+  pub never : ((j : ℕ) → j < length (regions m) → Done j) → AfterAs m Never (broken (vars m) (m .keep) 0 (regions m)) rows
+  unfolding AfterAs
+  never d =
+      let e = broken-none-iff (vars m) (m .keep) (regions m) .1 (λ j q e. quiet-at j q e (d j (numbered-below (regions m) j q e))) in
+      rw e (refl, after-all d)
+
+  pub stops : (r s : ℕ) (f : ℕ → ℕ) → r < length (regions m) → s < 4096 → RowDone (vars m) (m .keep) (region m r) f s
+      → ((j : ℕ) → j < r → Done j) → AfterAs m (At r s) (broken (vars m) (m .keep) 0 (regions m)) rows
+  unfolding AfterAs IsRegion regions
+  stops r s f h low t d =
+      let e = broken-some-iff (vars m) (m .keep) (regions m) r s .1 (
+        region m r,
+        region-numbered m r h,
+        (t .below low, t .first low, t .lower low),
+        λ j q l e. quiet-at j q e (d j l),
+      ) in
+      rw e refl
