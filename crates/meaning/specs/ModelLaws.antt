@@ -28,45 +28,45 @@ decides-guard : (c d : Cond) → Decides (sameGuard c d) (spellCond c ≡ spellC
 unfolding sameGuard
 decides-guard c d = decides-lexemes (spellCond c) (spellCond d)
 
-place-here : (c d : Cond) (ds : List Cond) → sameGuard c d ≡ true → placeIn c (d ∷ ds) ≡ 0
+pub place-here : (c d : Cond) (ds : List Cond) → sameGuard c d ≡ true → placeIn c (d ∷ ds) ≡ 0
 unfolding placeIn
 place-here c d ds h = cc
 
-place-later : (c d : Cond) (ds : List Cond) → sameGuard c d ≡ false → placeIn c (d ∷ ds) ≡ suc (placeIn c ds)
+pub place-later : (c d : Cond) (ds : List Cond) → sameGuard c d ≡ false → placeIn c (d ∷ ds) ≡ suc (placeIn c ds)
 unfolding placeIn
 place-later c d ds h = cc
 
 -- a place depends on the lexemes alone
-place-spells : (c d : Cond) (es : List Cond) → spellCond c ≡ spellCond d → placeIn c es ≡ placeIn d es
+pub place-spells : (c d : Cond) (es : List Cond) → spellCond c ≡ spellCond d → placeIn c es ≡ placeIn d es
 unfolding placeIn sameGuard
 place-spells c d [] h = refl
 place-spells c d (e ∷ es) h = cc (place-spells c d es h)
 
 -- a guard is in a list
-abbrev Found : Cond → List Cond → Type 0
+abbrev pub Found : Cond → List Cond → Type 0
 Found c ds = placeIn c ds < length ds
 
 found-tail : (c d : Cond) (ds : List Cond) → sameGuard c d ≡ false → Found c (d ∷ ds) → Found c ds
 found-tail c d ds e h = let p = place-later c d ds e in omega arith
 
-found-spells : (c : Cond) (ds : List Cond) → Found c ds → spellCond c ≡ spellCond (getD ds (placeIn c ds) noGuard)
+pub found-spells : (c : Cond) (ds : List Cond) → Found c ds → spellCond c ≡ spellCond (getD ds (placeIn c ds) noGuard)
 found-spells c [] h = absurd (omega arith)
 found-spells c (d ∷ ds) h =
     split (sameGuard c d) (λ e. rw (place-here c d ds e) (decides-guard c d .0 e))
     (λ e. rw (place-later c d ds e) (found-spells c ds (found-tail c d ds e h)))
 
 -- more guards behind a list change no place in it
-place-append : (c : Cond) (ds es : List Cond) → Found c ds → placeIn c (ds ++ es) ≡ placeIn c ds
+pub place-append : (c : Cond) (ds es : List Cond) → Found c ds → placeIn c (ds ++ es) ≡ placeIn c ds
 place-append c [] es h = absurd (omega arith)
 place-append c (d ∷ ds) es h =
     split (sameGuard c d) (λ e. place-here c d (ds ++ es) e ∙ sym (place-here c d ds e))
     (λ e. place-later c d (ds ++ es) e ∙ ap suc (place-append c ds es (found-tail c d ds e h)) ∙ sym (place-later c d ds e))
 
-found-append : (c : Cond) (ds es : List Cond) → Found c ds → Found c (ds ++ es)
+pub found-append : (c : Cond) (ds es : List Cond) → Found c ds → Found c (ds ++ es)
 found-append c ds es h = let p = place-append c ds es h in let l = length-append ds es in omega arith
 
 -- a guard that is not in a list takes the place behind it
-place-last : (c : Cond) (ds : List Cond) → length ds ≤ placeIn c ds → placeIn c (ds ++ (c ∷ [])) ≡ length ds
+pub place-last : (c : Cond) (ds : List Cond) → length ds ≤ placeIn c ds → placeIn c (ds ++ (c ∷ [])) ≡ length ds
 place-last c [] h = place-here c c [] (decides-guard c c .1 refl)
 place-last c (d ∷ ds) h =
     split (sameGuard c d) (λ e. let p = place-here c d ds e in absurd (omega arith))
@@ -75,16 +75,16 @@ place-last c (d ∷ ds) h =
 
 -- The guards of some regions, behind those found before
 
-known : (found : List Cond) (r : Region) (rs : List Region) → Found (r .guard) found → guardsOf found (r ∷ rs) ≡ guardsOf found rs
+pub known : (found : List Cond) (r : Region) (rs : List Region) → Found (r .guard) found → guardsOf found (r ∷ rs) ≡ guardsOf found rs
 unfolding guardsOf
 known found r rs h = cc (lt-ltb (placeIn (r .guard) found) (length found) h)
 
-new : (found : List Cond) (r : Region) (rs : List Region) → length found ≤ placeIn (r .guard) found
+pub new : (found : List Cond) (r : Region) (rs : List Region) → length found ≤ placeIn (r .guard) found
     → guardsOf found (r ∷ rs) ≡ guardsOf (found ++ (r .guard ∷ [])) rs
 unfolding guardsOf
 new found r rs h = cc (le-ltb (placeIn (r .guard) found) (length found) h)
 
-known-or-new {ℓ} : {C : Type ℓ} (c : Cond) (ds : List Cond) → (Found c ds → C) → (length ds ≤ placeIn c ds → C) → C
+pub known-or-new {ℓ} : {C : Type ℓ} (c : Cond) (ds : List Cond) → (Found c ds → C) → (length ds ≤ placeIn c ds → C) → C
 known-or-new c ds f g =
     split (ltb (placeIn c ds) (length ds)) (λ h. f (ltb-true (placeIn c ds) (length ds) h))
     (λ h. g (ltb-false (placeIn c ds) (length ds) h))
@@ -105,7 +105,7 @@ found-kept c found (r ∷ rs) h =
     known-or-new (r .guard) found (λ k. rw (known found r rs k) (found-kept c found rs h))
     (λ n. rw (new found r rs n) (found-kept c (found ++ (r .guard ∷ [])) rs (found-append c found (r .guard ∷ []) h)))
 
-found-last : (c : Cond) (ds : List Cond) → length ds ≤ placeIn c ds → Found c (ds ++ (c ∷ []))
+pub found-last : (c : Cond) (ds : List Cond) → length ds ≤ placeIn c ds → Found c (ds ++ (c ∷ []))
 found-last c ds h = let p = place-last c ds h in let l = length-append ds (c ∷ []) in omega arith
 
 -- a new guard takes the place behind those found before

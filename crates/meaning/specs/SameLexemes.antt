@@ -7,7 +7,7 @@ use Rattle.syntax.specs.Token.{Lexeme, name, key, number, mark}
 use Rattle.meaning.specs.Model.{sameLexeme, sameLexemes}
 use Rattle.meaning.specs.Same.{Decides, decides-and, decides-by, decides-same, decides-key, decides-mark}
 
-decides-lexeme : (k l : Lexeme) → Decides (sameLexeme k l) (k ≡ l)
+pub decides-lexeme : (k l : Lexeme) → Decides (sameLexeme k l) (k ≡ l)
 unfolding sameLexeme
 decides-lexeme (name x) (name y) = decides-by (λ e. cc, λ e. cc) (decides-same x y)
 decides-lexeme (name x) (key k) = (λ h. absurd (false≢true h), λ e. cc)

@@ -1,0 +1,9 @@
+pub mod Closes
+pub mod Guards
+pub mod Links
+pub mod Methods
+pub mod Regions
+pub mod Same
+pub mod Spelled
+pub mod Trees
+pub mod Whole

@@ -1,0 +1,71 @@
+-- A region and the methods among the tokens: where the guard and the body stand, what stands behind, and the flags of regions.
+use Prim.Native.Nat.{ℕ, _+_, _<_}
+use native.Mathlib.Omega.{arith}
+use native.Mathlib.Nat.{add-zero}
+use mathlib.Core.Path.{_≡_, refl, sym, ap, _∙_}
+use mathlib.Core.List.{List, [], _∷_, _++_, map, append-assoc}
+use lib.ListN.{length, drop, getD}
+use lib.Seq.{drop-drop, getD-drop}
+use lib.Dec.{eqb}
+use Rattle.syntax.specs.Token.{Token, lexemes, Lexeme, mark, lbrace, rbrace, rparen, markNumber}
+use Rattle.syntax.specs.Kind.{kindOf}
+use Rattle.syntax.specs.Tree.{Region, spellCond, spellBlock, spellRegion}
+use Rattle.machine.specs.Held.{bit}
+use Rattle.layout.specs.Closing.{closeFrom}
+use Rattle.layout.specs.Laid.{Words, RegionAt}
+use Rattle.layout.specs.Steps.{flagAt}
+use Rattle.layout.proofs.Closes.{kinds-from, close-stands, stands-below}
+use Rattle.layout.proofs.Same.{kinds-are}
+use Rattle.layout.proofs.Trees.{brackets-balanced, braces-balanced}
+
+-- some tokens on
+pub later : (n at : ℕ) (ls us : List Lexeme) → drop at ls ≡ us → drop (at + n) ls ≡ drop n us
+later n at ls us h = sym (drop-drop n at ls) ∙ ap (drop n) h
+
+-- where the body of a region at a token begins, and where what is behind the region does
+abbrev pub bodyOf : List ℕ → ℕ → ℕ
+bodyOf kinds at = at + 2 + closeFrom 2 3 0 (drop (at + 2) kinds) + 2
+
+abbrev pub nextOf : List ℕ → ℕ → ℕ
+nextOf kinds at = bodyOf kinds at + closeFrom 0 1 0 (drop (bodyOf kinds at) kinds) + 1
+
+pub record Spelled (ls : List Lexeme) (kinds : List ℕ) (at : ℕ) (q : Region) (us : List Lexeme) : Type 0 where
+  pub stands : RegionAt ls q (at + 2) (bodyOf kinds at)
+  pub behind : drop (nextOf kinds at) ls ≡ us
+  pub guard-low : at + 2 < length ls
+  pub body-low : bodyOf kinds at < length ls
+
+spelled-kinds : (ls : List Lexeme) (at : ℕ) (q : Region) (us : List Lexeme) → drop at ls ≡ spellRegion q ++ us
+    → Spelled ls (map kindOf ls) at q us
+unfolding spellRegion kindOf markNumber
+spelled-kinds ls at q us h =
+    let kinds = map kindOf ls in
+    let behind-body = mark rbrace ∷ us in
+    let behind-guard = mark lbrace ∷ (spellBlock (q .body) ++ behind-body) in
+    let guard : drop (at + 2) ls ≡ spellCond (q .guard) ++ (mark rparen ∷ behind-guard) =
+    later 2 at ls _ h ∙ append-assoc (spellCond (q .guard)) (mark rparen ∷ mark lbrace ∷ (spellBlock (q .body) ++ (mark rbrace ∷ []))) us
+    ∙ ap (λ (x : List Lexeme). spellCond (q .guard) ++ (mark rparen ∷ mark lbrace ∷ x)) (append-assoc (spellBlock (q .body)) (mark rbrace ∷ []) us) in
+    let bracket = close-stands 2 3 (at + 2) ls (spellCond (q .guard)) behind-guard (mark rparen) (brackets-balanced (q .guard)) (λ e. omega arith) refl guard in
+    let body : drop (bodyOf kinds at) ls ≡ spellBlock (q .body) ++ behind-body = later 2 (at + 2 + closeFrom 2 3 0 (drop (at + 2) kinds)) ls _ bracket in
+    let brace = close-stands 0 1 (bodyOf kinds at) ls (spellBlock (q .body)) us (mark rbrace) (braces-balanced (q .body)) (λ e. omega arith) refl body in
+    record {
+      stands = record { behind-guard = behind-guard; behind-body = us; guard-stands = guard; body-stands = body };
+      behind = later 1 (bodyOf kinds at + closeFrom 0 1 0 (drop (bodyOf kinds at) kinds)) ls _ brace;
+      guard-low = let e = stands-below (at + 2) ls (spellCond (q .guard)) behind-guard (mark rparen) guard in omega arith;
+      body-low = let e = stands-below (bodyOf kinds at) ls (spellBlock (q .body)) us (mark rbrace) body in omega arith;
+    }
+
+module _ (file : List ℕ) (ts : List Token) (kinds values places : List ℕ) (words : Words file ts kinds values places) where
+  pub spelled : (at : ℕ) (q : Region) (us : List Lexeme) → drop at (lexemes ts) ≡ spellRegion q ++ us → Spelled (lexemes ts) kinds at q us
+  spelled at q us h = rw (kinds-are file ts kinds values places words) (spelled-kinds (lexemes ts) at q us h)
+
+  -- the kind at a token is that of what stands there
+  pub kind-behind : (at : ℕ) (us : List Lexeme) → drop at (lexemes ts) ≡ us → getD kinds at 255 ≡ getD (map kindOf us) 0 255
+  kind-behind at us h =
+      rw (kinds-are file ts kinds values places words)
+      (ap (λ (k : ℕ). getD (map kindOf (lexemes ts)) k 255) (sym (add-zero at)) ∙ sym (getD-drop at (map kindOf (lexemes ts)) 0 255)
+      ∙ ap (λ (ks : List ℕ). getD ks 0 255) (kinds-from at (lexemes ts) ∙ ap (map kindOf) h))
+
+  pub flag-behind : (at : ℕ) (us : List Lexeme) → drop at (lexemes ts) ≡ us → flagAt kinds at ≡ flagAt (map kindOf us) 0
+  unfolding flagAt
+  flag-behind at us h = ap (λ (k : ℕ). bit (eqb k 24)) (kind-behind at us h)

@@ -1,0 +1,22 @@
+-- `layout::flag` meets its contract: 1 where the kind is that of `waituntil`, else 0. Assumes nothing.
+use borrow.Author.Needs.{needs}
+use borrow.Author.Tests.{eq-eqb, ne-eqb}
+use mathlib.Core.Path.{sym, _∙_}
+use Rattle.machine.specs.Held.{bit}
+use Rattle.layout.specs.Steps.{flagAt}
+use Rattle.layout.proofs.flag.Statement.{statement}
+use Rattle.layout.proofs.flag.Tie as tie
+
+kind-at-requires : tie.Need-kind-at-requires
+kind-at-requires c κs = search needs
+
+returns : tie.Need-returns
+unfolding flagAt bit
+returns c = rw (eq-eqb _ 24 (sym (c .before .kind-at .ensures) ∙ c .if1 .taken), bit)
+
+returns-2 : tie.Need-returns-2
+unfolding flagAt bit
+returns-2 c = rw (ne-eqb _ 24 (λ e. c .if1 .left (c .before .kind-at .ensures ∙ e)), bit)
+
+pub flag-spec : {M : Type 1} → statement M
+flag-spec = tie.close (tie.spec kind-at-requires returns returns-2)

@@ -1,0 +1,382 @@
+// Where the kept condition, guards and bodies of a file stand among its tokens; the numbers of its guards; which regions begin
+// a method and which go on in it; and for each brace that opens a block the place of the one that closes it.
+ghost use mathlib.Core.Path.{_≡_};
+ghost use mathlib.Core.List.{List};
+ghost use Prim.Native.Nat.{ℕ, _+_, _%_, _<_, _≤_};
+ghost use lib.ListN.{drop, take, getD, length};
+ghost use Rattle.syntax.specs.Bytes.{sameBytes};
+ghost use Rattle.syntax.specs.Token.{Lexeme, Token, lexemes};
+ghost use Rattle.syntax.specs.Tree.{Monitor, spell};
+ghost use Rattle.meaning.specs.Model.{regions};
+ghost use Rattle.layout.specs.Laid.{Kinds, Words, IsKeep, Laid, Linked};
+ghost use Rattle.layout.specs.Closing.{closeFrom};
+ghost use Rattle.layout.specs.Steps.{Sized, SameToken, SameTokens, SameGuard, flagAt, withGuard, withRegion, Numbers, Room, AddsRegion, AddsMethod, Grown};
+
+// At most sixteen regions and guards.
+pub struct Layout {
+    // the token at which the kept condition begins
+    pub keep: usize,
+    pub regions: usize,
+    pub guards: usize,
+    // of each region: the tokens at which its guard and its body begin, its guard's number, whether it begins a method (1),
+    // and whether another region follows it in its method (1)
+    pub guards_at: [u16; 16],
+    pub bodies_at: [u16; 16],
+    pub guard_of: [u8; 16],
+    pub begins: [u8; 16],
+    pub goes_on: [u8; 16],
+    // of each guard: the first region that has it
+    pub firsts: [u8; 16],
+}
+
+// A layout so far, and the token at which to go on.
+struct Spot {
+    layout: Layout,
+    at: usize,
+}
+
+const LBRACE: u8 = 0;
+
+const RBRACE: u8 = 1;
+
+const LPAREN: u8 = 2;
+
+const RPAREN: u8 = 3;
+
+const SEMICOLON: u8 = 4;
+
+const METHOD: u8 = 23;
+
+const WAITUNTIL: u8 = 24;
+
+const NAME: u8 = 30;
+
+const END: u8 = 255;
+
+fn kind_at(kinds: &[u8], at: usize) -> u8
+    ensures { λ r. ⌜ r ≡ getD (now (kinds .entry)) at 255 ⌝ }
+{
+    if at < kinds.len() { kinds[at] } else { END }
+}
+
+// The token that closes what was opened before a token: brackets or braces, by their kinds.
+fn closing(kinds: &[u8], at: usize, opener: u8, closer: u8) -> usize
+    ensures { λ r. ⌜ r ≡ at + closeFrom opener closer 0 (drop at (now (kinds .entry))) ⌝ }
+{
+    let mut depth: usize = 0;
+    let mut i = at;
+    while i < kinds.len() {
+        let kind = kinds[i];
+        if kind == opener {
+            depth += 1;
+        } else if kind == closer {
+            if depth == 0 {
+                return i;
+            }
+            depth -= 1;
+        }
+        i += 1;
+    }
+    i
+}
+
+// Whether two runs of bytes of the file are the same.
+fn same_name(file: &[u8], a: usize, b: usize, n: usize) -> bool
+    requires { ⌜ (a + n ≤ length (now file)) × (b + n ≤ length (now file)) ⌝ }
+    ensures { λ r. ⌜ r ≡ sameBytes (take n (drop a (now (file .entry)))) (take n (drop b (now (file .entry)))) ⌝ }
+{
+    let mut i: usize = 0;
+    while i < n {
+        if file[a + i] != file[b + i] {
+            return false;
+        }
+        i += 1;
+    }
+    true
+}
+
+// A number of a slice, to count with.
+fn small(x: u8) -> usize
+    ensures { λ n. ⌜ n ≡ x ⌝ }
+{
+    x as usize
+}
+
+fn wide(x: u16) -> usize
+    ensures { λ n. ⌜ (n ≡ x) × (n < 65536) ⌝ }
+{
+    x as usize
+}
+
+// Whether two tokens are equal, numbers by value; a name's value is its length.
+fn same_token(file: &[u8], kinds: &[u8], values: &[u16], places: &[u16], a: usize, b: usize) -> bool
+    requires { ⌜ Sized (now kinds) (now values) (now places) × (a < length (now kinds)) × (b < length (now kinds)) ⌝ }
+    ensures { λ r. ⌜ SameToken (now (file .entry)) (now (kinds .entry)) (now (values .entry)) (now (places .entry)) a b r ⌝ }
+{
+    if kinds[a] != kinds[b] {
+        return false;
+    }
+    if values[a] != values[b] {
+        return false;
+    }
+    if kinds[a] != NAME {
+        return true;
+    }
+    let n = wide(values[a]);
+    let x = wide(places[a]);
+    let y = wide(places[b]);
+    if file.len() < x + n {
+        return false;
+    }
+    if file.len() < y + n {
+        return false;
+    }
+    same_name(file, x, y, n)
+}
+
+// Whether n tokens from one on equal those from another on.
+fn same_tokens(
+    file: &[u8],
+    kinds: &[u8],
+    values: &[u16],
+    places: &[u16],
+    a: usize,
+    b: usize,
+    n: usize,
+) -> bool
+    requires { ⌜ Sized (now kinds) (now values) (now places) × (a + n ≤ length (now kinds)) × (b + n ≤ length (now kinds)) ⌝ }
+    ensures { λ r. ⌜ SameTokens (now (file .entry)) (now (kinds .entry)) (now (values .entry)) (now (places .entry)) a b n r ⌝ }
+{
+    let mut i: usize = 0;
+    while i < n {
+        if !same_token(file, kinds, values, places, a + i, b + i) {
+            return false;
+        }
+        i += 1;
+    }
+    true
+}
+
+// Whether the guards that begin at two tokens are one.
+fn same_guard(file: &[u8], kinds: &[u8], values: &[u16], places: &[u16], a: usize, b: usize) -> bool
+    requires { ⌜ Sized (now kinds) (now values) (now places) ⌝ }
+    ensures { λ r. ⌜ SameGuard (now (file .entry)) (now (kinds .entry)) (now (values .entry)) (now (places .entry)) a b r ⌝ }
+{
+    if kinds.len() < a {
+        return false;
+    }
+    if kinds.len() < b {
+        return false;
+    }
+    let m = closing(kinds, a, LPAREN, RPAREN) - a;
+    let n = closing(kinds, b, LPAREN, RPAREN) - b;
+    if m != n {
+        return false;
+    }
+    same_tokens(file, kinds, values, places, a, b, n)
+}
+
+fn empty(keep: usize) -> Layout
+    ensures { λ r. ⌜ (r .keep ≡ keep) × (r .regions ≡ 0) × (r .guards ≡ 0) × Room r ⌝ }
+{
+    Layout {
+        keep: keep,
+        regions: 0,
+        guards: 0,
+        guards_at: [0u16; 16],
+        bodies_at: [0u16; 16],
+        guard_of: [0u8; 16],
+        begins: [0u8; 16],
+        goes_on: [0u8; 16],
+        firsts: [0u8; 16],
+    }
+}
+
+// The number of the guard that begins at a token, and the count of guards where it is new.
+fn guard_number(
+    file: &[u8],
+    kinds: &[u8],
+    values: &[u16],
+    places: &[u16],
+    layout: Layout,
+    at: usize,
+) -> usize
+    requires { ⌜ Sized (now kinds) (now values) (now places) × Room layout ⌝ }
+    ensures { λ r. ⌜ (r ≤ layout .guards) × Numbers (now (file .entry)) (now (kinds .entry)) (now (values .entry)) (now (places .entry)) layout at r ⌝ }
+{
+    let mut g = 0;
+    while g < layout.guards {
+        let first = small(layout.firsts[g]) % 16;
+        let other = wide(layout.guards_at[first]);
+        if same_guard(file, kinds, values, places, at, other) {
+            return g;
+        }
+        g += 1;
+    }
+    g
+}
+
+// The next region has a guard of its own.
+fn with_guard(layout: Layout) -> Layout
+    requires { ⌜ (layout .regions < 16) × (layout .guards < 16) ⌝ }
+    ensures { λ r. ⌜ r ≡ withGuard layout ⌝ }
+{
+    let mut next = layout;
+    let g = layout.guards;
+    next.firsts[g] = layout.regions as u8;
+    next.guards = g + 1;
+    next
+}
+
+// One region more, with a guard's number.
+fn with_region(
+    layout: Layout,
+    guard_at: u16,
+    body_at: u16,
+    number: u8,
+    begins: u8,
+    goes_on: u8,
+) -> Layout
+    requires { ⌜ layout .regions < 16 ⌝ }
+    ensures { λ r. ⌜ r ≡ withRegion layout «guard_at» «body_at» number begins «goes_on» ⌝ }
+{
+    let mut next = layout;
+    let r = layout.regions;
+    next.guards_at[r] = guard_at;
+    next.bodies_at[r] = body_at;
+    next.guard_of[r] = number;
+    next.begins[r] = begins;
+    next.goes_on[r] = goes_on;
+    next.regions = r + 1;
+    next
+}
+
+// A token's place in the list, as it is held.
+fn held(at: usize) -> u16
+    ensures { λ r. ⌜ r ≡ at % 65536 ⌝ }
+{
+    (at % 65536) as u16
+}
+
+// Whether a region begins at a token (1).
+fn flag(kinds: &[u8], at: usize) -> u8
+    ensures { λ r. ⌜ r ≡ flagAt (now (kinds .entry)) at ⌝ }
+{
+    if kind_at(kinds, at) == WAITUNTIL {
+        1
+    } else {
+        0
+    }
+}
+
+// The region whose `waituntil` stands at a token.
+fn add_region(
+    file: &[u8],
+    kinds: &[u8],
+    values: &[u16],
+    places: &[u16],
+    layout: Layout,
+    at: usize,
+    begins: u8,
+) -> Spot
+    requires { ⌜ Sized (now kinds) (now values) (now places) × (at < length (now kinds)) × Room layout × (layout .regions < 16) ⌝ }
+    ensures { λ r. ⌜ Grown (now (kinds .entry)) layout at r × (at < r .at) × (r .layout .regions ≡ layout .regions + 1)
+        × AddsRegion (now (file .entry)) (now (kinds .entry)) (now (values .entry)) (now (places .entry)) layout at begins r ⌝ }
+{
+    let guard_at = at + 2;
+    let body_at = closing(kinds, guard_at, LPAREN, RPAREN) + 2;
+    let next = closing(kinds, body_at, LBRACE, RBRACE) + 1;
+    let number = guard_number(file, kinds, values, places, layout, guard_at);
+    let mut numbered = layout;
+    if number == layout.guards {
+        numbered = with_guard(layout);
+    }
+    Spot {
+        layout: with_region(
+            numbered,
+            held(guard_at),
+            held(body_at),
+            number as u8,
+            begins,
+            flag(kinds, next),
+        ),
+        at: next,
+    }
+}
+
+// The regions of a method, from a token on.
+fn add_method(
+    file: &[u8],
+    kinds: &[u8],
+    values: &[u16],
+    places: &[u16],
+    layout: Layout,
+    at: usize,
+) -> Spot
+    requires { ⌜ Sized (now kinds) (now values) (now places) × (at ≤ length (now kinds) + 4) × Room layout ⌝ }
+    ensures { λ r. ⌜ Grown (now (kinds .entry)) layout at r
+        × AddsMethod (now (file .entry)) (now (kinds .entry)) (now (values .entry)) (now (places .entry)) layout at r ⌝ }
+{
+    let mut so_far = layout;
+    let mut i = at;
+    let mut begins: u8 = 1;
+    while kind_at(kinds, i) == WAITUNTIL {
+        if 16 <= so_far.regions {
+            return Spot {
+                layout: so_far,
+                at: i,
+            };
+        }
+        let spot = add_region(file, kinds, values, places, so_far, i, begins);
+        let next = spot.layout;
+        so_far = next;
+        i = spot.at;
+        begins = 0;
+    }
+    Spot {
+        layout: so_far,
+        at: i,
+    }
+}
+
+// The layout of a file of the grammar, whose `keep` stands at a token.
+pub fn lay_out(file: &[u8], kinds: &[u8], values: &[u16], places: &[u16], keep: usize) -> Layout
+    ensures { λ r. ⌜ ((m : Monitor) (ts : List Token) → Words (now (file .entry)) ts (now (kinds .entry)) (now (values .entry)) (now (places .entry))
+        → spell m ≡ lexemes ts → length (regions m) ≤ 16 → length ts ≤ 1024 → IsKeep m ts keep → Laid m (lexemes ts) r) ⌝ }
+{
+    if kinds.len() <= keep {
+        return empty(0);
+    }
+    if values.len() != kinds.len() {
+        return empty(0);
+    }
+    if places.len() != kinds.len() {
+        return empty(0);
+    }
+    let mut layout = empty(keep + 1);
+    let mut i = closing(kinds, keep + 1, END, SEMICOLON) + 1;
+    while kind_at(kinds, i) == METHOD {
+        let spot = add_method(file, kinds, values, places, layout, i + 3);
+        let next = spot.layout;
+        layout = next;
+        i = spot.at + 1;
+    }
+    layout
+}
+
+// Each opening brace's value becomes the token of its closing one.
+pub fn link_braces(kinds: &[u8], values: &mut [u16])
+    ensures { λ _. ⌜ ((ls : List Lexeme) → Kinds ls (now (kinds .entry)) → length (now (values .entry)) ≡ length ls → length ls ≤ 1024
+        → Linked ls (now (values .entry)) (now (values .exit))) ⌝ }
+{
+    if values.len() != kinds.len() {
+        return;
+    }
+    let mut i = 0;
+    while i < kinds.len() {
+        if kinds[i] == LBRACE {
+            values[i] = held(closing(kinds, i + 1, LBRACE, RBRACE));
+        }
+        i += 1;
+    }
+}
