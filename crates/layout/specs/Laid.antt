@@ -5,7 +5,7 @@ use mathlib.Core.List.{List, _∷_, _++_, map}
 use mathlib.Core.Option.{some}
 use lib.ListN.{length, getD, drop, getElem?}
 use Rattle.syntax.specs.Token.{Lexeme, key, mark, lbrace, rbrace, rparen, semicolon, k-keep, Token, tokens, tokenize, lexemes}
-use Rattle.syntax.specs.Kind.{kindOf, valueOf}
+use Rattle.syntax.specs.Kind.{kindOf}
 use Rattle.syntax.specs.Tree.{Monitor, Region, Block, spellCond, spellBlock, all}
 use Rattle.machine.specs.Held.{bit, followsBy}
 use Rattle.meaning.specs.Model.{regions, guards, region, guardOf, beginsIn, follows}
@@ -13,14 +13,6 @@ use Rattle.layout.specs.declared.Layout.{Layout}
 
 unfoldable pub Kinds : List Lexeme → List ℕ → Type 0
 Kinds ls kinds = map kindOf ls ≡ kinds
-
--- a file's tokens as numbers, a name's value being its length
-pub record Words (file : List ℕ) (ts : List Token) (kinds values places : List ℕ) : Type 0 where
-  pub short : length file ≤ 8192
-  pub cut : tokenize file ≡ tokens ts
-  pub by-kind : kinds ≡ map (λ t. kindOf (t .lexeme)) ts
-  pub by-value : values ≡ map (λ t. valueOf (t .lexeme)) ts
-  pub by-place : places ≡ map (λ t. t .at) ts
 
 -- the token of `keep`, with the kept condition behind it
 unfoldable pub IsKeep : Monitor → List Token → ℕ → Type 0
