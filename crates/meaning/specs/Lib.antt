@@ -26,6 +26,7 @@ pub mod MethodLaws
 pub mod ModelLaws
 pub mod Place7
 pub mod Verdicts
+pub mod Stages
 pub mod Sizes
 pub mod Demands
 pub mod Placement

@@ -109,14 +109,13 @@ guards-few found (r ∷ rs) = split (ltb (placeIn (r .guard) found) (length foun
     let l = length-append found (r .guard ∷ []) in
     rw (h, guardsOf) (omega arith))
 
-pub sizes : {file : List ℕ} {m : Monitor} → Accepted file m → Sizes m
+pub sizes-of : (ts : List Token) (m : Monitor) → spell m ≡ lexemes ts → NoneOffends PastLimit ts → Sizes m
 unfolding NoneOffends PastLimit regions guards
-sizes {m = m} a =
-    let ts = a .ts in
-    let at : (k : Keyword) → times k (spell m) ≡ times k (lexemes ts) = λ k. ap (times k) (a .grammar) in
-    let vs = few k-var 6 ts (λ b c t e l h. a .counts b c t e (inl (l, h))) in
-    let ms = few k-method 8 ts (λ b c t e l h. a .counts b c t e (inr (inl (l, h)))) in
-    let ws = few k-waituntil 16 ts (λ b c t e l h. a .counts b c t e (inr (inr (l, h)))) in
+sizes-of ts m grammar counts =
+    let at : (k : Keyword) → times k (spell m) ≡ times k (lexemes ts) = λ k. ap (times k) grammar in
+    let vs = few k-var 6 ts (λ b c t e l h. counts b c t e (inl (l, h))) in
+    let ms = few k-method 8 ts (λ b c t e l h. counts b c t e (inr (inl (l, h)))) in
+    let ws = few k-waituntil 16 ts (λ b c t e l h. counts b c t e (inr (inr (l, h)))) in
     let few-regions : length (regionsOf (all (m .methods))) ≤ 16 =
     omega (arith, at k-waituntil, in-methods k-waituntil m, regions-times (all (m .methods))) in
     record {
@@ -125,6 +124,9 @@ sizes {m = m} a =
       regions = few-regions;
       guards = omega (arith, guards-few [] (regionsOf (all (m .methods))));
     }
+
+pub sizes : {file : List ℕ} {m : Monitor} → Accepted file m → Sizes m
+sizes {m = m} a = sizes-of (a .ts) m (a .grammar) (a .counts)
 
 -- No two variables have one name
 

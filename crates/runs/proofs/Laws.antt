@@ -8,7 +8,7 @@ use mathlib.Core.List.{List, [], _∷_}
 use mathlib.Core.Logic.{Iff·rfl, ⊎-elim}
 use lib.ListN.{length, drop, getD}
 use lib.Seq.{drop-cons, drop-length}
-use Rattle.machine.specs.Machine.{Monitor, Config, Outcome, moved, refused, Told, Run, accepted, stopped, allIdle, step, run}
+use Rattle.machine.specs.Machine.{Monitor, Config, Outcome, moved, refused, Told, stopped, allIdle, step, run}
 use Rattle.machine.specs.Machine as machine
 use Rattle.machine.specs.Points.{Checked}
 use Rattle.machine.specs.Held.{Held, HeldPlaces, HeldEntries}
