@@ -1,5 +1,5 @@
 -- Readings of expressions and conditions, one law for each way that the code goes: what is read at a place from what was read at its parts.
-use Prim.Native.Nat.{ℕ, _+_, _≤_, _<_}
+use Prim.Native.Nat.{ℕ, _+_, _≤_}
 use native.Mathlib.Omega.{arith}
 use native.Mathlib.Nat.{add-zero}
 use mathlib.Core.Path.{_≡_, refl, sym, ap, _∙_}
@@ -175,13 +175,6 @@ module _ {ks values vars : List ℕ} where
           let one = atom .reads vs as′ ls (each spellTerm (x .more) ++ us) (x .first) codes biased at-atom tt in
           let rest = more .reads vs as′ ls us (x .more) codes biased (one .1) ends in
           (ap (λ z. termsValue vs as′ z (x .more)) (one .0) ∙ rest .0, rest .1)
-
--- an atom more keeps the parts of a sum small
-pub small-more : {at q o : ℕ} (k a b : ℕ) → Small at q o → at < k → a ≤ 65535 → b ≤ 65535 → Small k (q + a) (o + b)
-small-more k a b small on a-small b-small = record {
-  plus-small = omega (arith, small .plus-small);
-  minus-small = omega (arith, small .minus-small);
-}
 
 pub joined-added : (q o a b : ℕ) → joined added (pos q -ℤ pos o) (pos a -ℤ pos b) ≡ pos (q + a) -ℤ pos (o + b)
 unfolding joined

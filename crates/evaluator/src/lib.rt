@@ -298,6 +298,7 @@ pub fn holds(kinds: &[u8], values: &[u16], vars: [u16; 6], at: usize) -> bool
 pub fn closing(kinds: &[u8], at: usize) -> usize
     ensures { λ r. ⌜ ((ls us : List Lexeme) (b : Block) → Kinds ls (now (kinds .entry))
         → drop at ls ≡ spellBlock b ++ (mark rbrace ∷ us) → drop r ls ≡ mark rbrace ∷ us) ⌝ }
+    ensures within { λ r. ⌜ (at ≤ length (now (kinds .entry)) → r ≤ length (now (kinds .entry))) ⌝ }
 {
     let mut depth: usize = 0;
     let mut i = at;

@@ -1,8 +1,8 @@
 -- Laws of rows: a Boolean as a number, a store behind what is done, a body's run from one state, and a region's row of states. Assumes nothing.
-use Prim.Native.Nat.{ℕ, suc, _+_, _≤_, _<_}
+use Prim.Native.Nat.{ℕ, _+_, _≤_, _<_}
 use native.Mathlib.Omega.{arith}
 use mathlib.Core.Path.{_≡_, refl, sym, ap, _∙_}
-use mathlib.Core.Bool.{Bool, true, false, not, _&&_}
+use mathlib.Core.Bool.{Bool, true, false}
 use mathlib.Core.List.{List}
 use mathlib.Core.Option.{Option, none, some}
 use lib.ListN.{length, getD, set}
@@ -17,7 +17,7 @@ use Rattle.meaning.specs.State.{count, stateAt, numberOf}
 use Rattle.meaning.specs.Check.{keptAfter, breaks}
 use Rattle.meaning.specs.Model.{numberAfter}
 use Rattle.meaning.specs.Accepting.{State}
-use Rattle.meaning.specs.Bools.{both, and, split, clash, not-true, true-not, is-false}
+use Rattle.meaning.specs.Bools.{and, split, clash, true-not, is-false}
 use Rattle.meaning.specs.Biased.{Biased}
 use Rattle.meaning.specs.StateLaws.{state-at, number-below, state-at-number}
 use Rattle.meaning.specs.BodyLaws.{block-runs-of-run, block-runs-state}
@@ -26,6 +26,7 @@ use Rattle.evaluator.specs.declared.Ran.{Ran}
 use Rattle.variables.specs.Bounded.{Bounded}
 use Rattle.variables.specs.declared.Bounds.{Bounds}
 use Rattle.tables.specs.Rows.{TruthRow}
+use Rattle.tables.specs.HeldLaws.{breaks-parts}
 use Rattle.tables.specs.Steps.{Body, Ended, Moved, Below, RowDone}
 
 pub bit-true : {b : Bool} → b ≡ true → bit b ≡ 1
@@ -74,27 +75,27 @@ pub record Reached (vs : List Var) (keep : Cond) (kept : List ℕ) (s : ℕ) (o 
 module _ {vs : List Var} {keep : Cond} {q : Region} {kinds values : List ℕ} {bounds : Bounds} {at : ℕ} {kept guard : List ℕ}
     (b : Body vs keep q kinds values bounds at kept guard) (s : ℕ) (low : s < count vs)
   where
-  reached-by : (ran : Ran) (o : Option (List ℤ)) (to : ℕ) → runBlock (q .body) vs (stateAt vs s) ≡ o → RanAs vs ran o → ran .ok ≡ true
-      → ((as′ : List ℤ) → Bounded vs bounds → Biased vs as′ (ran .values) → State vs as′ → to ≡ numberOf vs as′)
-      → Reached vs keep kept s o to
-  unfolding RanAs RunAs keptAfter numberAfter TruthRow
-  reached-by ran none to e h t f = clash t h
-  reached-by ran (some bs) to e h t f =
-      let st : State vs bs = block-runs-state (block-runs-of-run (q .body) (stateAt vs s) e) (state-at (b .bounded .good) s low) in
-      let n = f bs (b .bounded) (h .1) st in
-      let few : to < count vs = rw n (number-below (b .bounded .good) st) in
-      record {
-        below = few;
-        number = n;
-        held =
-            b .by-kept to few
-            ∙ ap (λ as′. bit (truth keep vs as′)) (ap (stateAt vs) n ∙ state-at-number (b .bounded .good) st);
-      }
+    reached-by : (ran : Ran) (o : Option (List ℤ)) (to : ℕ) → runBlock (q .body) vs (stateAt vs s) ≡ o → RanAs vs ran o → ran .ok ≡ true
+        → ((as′ : List ℤ) → Bounded vs bounds → Biased vs as′ (ran .values) → State vs as′ → to ≡ numberOf vs as′)
+        → Reached vs keep kept s o to
+    unfolding RanAs RunAs keptAfter numberAfter TruthRow
+    reached-by ran none to e h t f = clash t h
+    reached-by ran (some bs) to e h t f =
+        let st : State vs bs = block-runs-state (block-runs-of-run (q .body) (stateAt vs s) e) (state-at (b .bounded .good) s low) in
+        let n = f bs (b .bounded) (h .1) st in
+        let few : to < count vs = rw n (number-below (b .bounded .good) st) in
+        record {
+          below = few;
+          number = n;
+          held =
+              b .by-kept to few
+              ∙ ap (λ as′. bit (truth keep vs as′)) (ap (stateAt vs) n ∙ state-at-number (b .bounded .good) st);
+        }
 
-  pub reached : (ran : Ran) (to : ℕ) → RanAs vs ran (runBlock (q .body) vs (stateAt vs s)) → ran .ok ≡ true
-      → ((as′ : List ℤ) → Bounded vs bounds → Biased vs as′ (ran .values) → State vs as′ → to ≡ numberOf vs as′)
-      → Reached vs keep kept s (runBlock (q .body) vs (stateAt vs s)) to
-  reached ran to h t f = reached-by ran (runBlock (q .body) vs (stateAt vs s)) to refl h t f
+    pub reached : (ran : Ran) (to : ℕ) → RanAs vs ran (runBlock (q .body) vs (stateAt vs s)) → ran .ok ≡ true
+        → ((as′ : List ℤ) → Bounded vs bounds → Biased vs as′ (ran .values) → State vs as′ → to ≡ numberOf vs as′)
+        → Reached vs keep kept s (runBlock (q .body) vs (stateAt vs s)) to
+    reached ran to h t f = reached-by ran (runBlock (q .body) vs (stateAt vs s)) to refl h t f
 
 pub ended-fault : {vs : List Var} {keep : Cond} {s : ℕ} {o : Option (List ℤ)} → keptAfter vs keep o ≡ false → Ended vs keep s o 4096
 ended-fault f = record { keeps = λ h. absurd (omega arith); number = λ h. absurd (omega arith); faults = λ _. f }
@@ -109,14 +110,6 @@ ended-kept {vs} {keep} {o = o} r low e =
     }
 
 -- A region's row of states
-
-breaks-parts : (vs : List Var) (keep : Cond) (q : Region) (as′ : List ℤ) → breaks vs keep q as′ ≡ true
-    → (truth keep vs as′ ≡ true) × (truth (q .guard) vs as′ ≡ true) × (keptAfter vs keep (runBlock (q .body) vs as′) ≡ false)
-unfolding breaks
-breaks-parts vs keep q as′ h =
-    let t = both (truth keep vs as′ && truth (q .guard) vs as′) (not (keptAfter vs keep (runBlock (q .body) vs as′))) h in
-    let u = both (truth keep vs as′) (truth (q .guard) vs as′) (t .0) in
-    (u .0, u .1, not-true (t .1))
 
 breaks-true : (vs : List Var) (keep : Cond) (q : Region) (as′ : List ℤ) → truth keep vs as′ ≡ true → truth (q .guard) vs as′ ≡ true
     → keptAfter vs keep (runBlock (q .body) vs as′) ≡ false → breaks vs keep q as′ ≡ true

@@ -1,32 +1,28 @@
 -- Laws of all regions and guards: what a row of the slices is given, and what the rows say of refusal 9. Assumes nothing.
-use Prim.Native.Nat.{ℕ, zero, suc, _+_, _-_, _*_, _%_, _≤_, _<_}
+use Prim.Native.Nat.{ℕ, zero, suc, _+_, _*_, _%_, _≤_, _<_}
 use native.Mathlib.Omega.{arith}
 use native.Mathlib.Nat.{mod-eq-of-lt}
 use mathlib.Core.Path.{_≡_, refl, sym, ap, subst, _∙_}
-use mathlib.Core.Bool.{Bool, true, false}
+use mathlib.Core.Bool.{false}
 use mathlib.Core.List.{List, [], _∷_, _++_}
-use mathlib.Core.Option.{Option, none, some, Option·some-injective}
+use mathlib.Core.Option.{some, Option·some-injective}
 use lib.ListN.{length, getD, getElem?, take, drop, length-append, length-drop, List·getD-append}
 use lib.Seq.{getD-take, getD-drop, getD-append-add, length-take-le}
-use lib.Dec.{ltb}
-use borrow.Author.Tests.{ltb-true, ltb-false}
 use Rattle.syntax.specs.Token.{Lexeme}
-use Rattle.syntax.specs.Tree.{Cond, Region, Monitor}
+use Rattle.syntax.specs.Tree.{Region, Monitor}
 use Rattle.syntax.specs.Grammar.{one-cond}
 use Rattle.machine.specs.Held.{bit}
 use Rattle.machine.specs.Table.{runs}
-use Rattle.meaning.specs.Value.{truth}
 use Rattle.meaning.specs.State.{count, stateAt}
 use Rattle.meaning.specs.Check.{breaks, broken}
-use Rattle.meaning.specs.Model.{vars, regions, guards, guardsOf, placeIn, region, guardOf, kept, holds, after, model}
+use Rattle.meaning.specs.Model.{vars, regions, region, guardOf, kept, holds, after, model}
 use Rattle.meaning.specs.ModelLaws.{region-numbered, guard-below, holds-guard}
 use Rattle.meaning.specs.Accepting.{IsRegion}
-use Rattle.meaning.specs.Bools.{both, split, no-some}
+use Rattle.meaning.specs.Bools.{both, no-some}
 use Rattle.meaning.specs.Soundness.{broken-none-iff, broken-some-iff}
 use Rattle.evaluator.specs.Coding.{Codes}
 use Rattle.variables.specs.Bounded.{Bounded}
 use Rattle.variables.specs.declared.Bounds.{Bounds}
-use Rattle.tables.specs.declared.Broken.{Broken}
 use Rattle.tables.specs.declared.Broken.the-variants.{Never, At}
 use Rattle.tables.specs.Rows.{TruthRow, BodiesAt, GuardNumbers, KeptAll, HoldsAll, AfterAll, AfterAs}
 use Rattle.tables.specs.HeldLaws.{guards-few, row-of-kept, kept-truth}
@@ -80,44 +76,63 @@ pub record Filling (m : Monitor) (kinds values : List ℕ) (bounds : Bounds) (at
   pub by-kept : KeptAll m kept′
   pub by-holds : HoldsAll m holds′
 
+pub filling : (m : Monitor) (kinds values : List ℕ) (bounds : Bounds) (ats numbers : List ℕ) (n : ℕ) (kept′ holds′ : List ℕ) (ls : List Lexeme)
+    → Codes (vars m) ls kinds values → Bounded (vars m) bounds → length ls ≤ 8192 → n ≡ length (regions m) → n ≤ 16 → BodiesAt m ls ats
+    → GuardNumbers m numbers → 4096 ≤ length kept′ → KeptAll m kept′ → HoldsAll m holds′
+    → Filling m kinds values bounds ats numbers n kept′ holds′
+filling m kinds values bounds ats numbers n kept′ holds′ ls c b few counted small bodies ns long k h =
+    record {
+      ls = ls;
+      codes = c;
+      bounded = b;
+      few = few;
+      counted = counted;
+      few-regions = small;
+      bodies = bodies;
+      by-number = ns;
+      long = long;
+      by-kept = k;
+      by-holds = h;
+    }
+
 module _ {m : Monitor} {kinds values : List ℕ} {bounds : Bounds} {ats numbers : List ℕ} {n : ℕ} {kept′ holds′ : List ℕ}
     (f : Filling m kinds values bounds ats numbers n kept′ holds′) (r : ℕ) (low : r < n)
   where
-  -- the number that the code takes is the guard's
-  number-is : getD numbers r 0 % 16 ≡ guardOf m r
-  unfolding GuardNumbers
-  number-is =
-      let h : r < length (regions m) = omega (arith, f .counted) in
-      let e = f .by-number r h in
-      let small : getD numbers r 0 < 16 = omega (arith, guard-below m r h, guards-few m, f .counted, f .few-regions) in
-      mod-eq-of-lt small ∙ e
+    -- the number that the code takes is the guard's
+    number-is : getD numbers r 0 % 16 ≡ guardOf m r
+    unfolding GuardNumbers
+    number-is =
+        let h : r < length (regions m) = omega (arith, f .counted) in
+        let e = f .by-number r h in
+        let small : getD numbers r 0 < 16 = omega (arith, guard-below m r h, guards-few m, f .counted, f .few-regions) in
+        mod-eq-of-lt small ∙ e
 
-  guard-row : (row k : ℕ) → row ≡ getD numbers r 0 % 16 * 4096 → k ≡ 4096
-      → TruthRow (vars m) (region m r .guard) (take k (drop row holds′))
-  unfolding TruthRow HoldsAll
-  guard-row row k e w s below =
-      let h : r < length (regions m) = omega (arith, f .counted) in
-      let place : row + s ≡ guardOf m r * 4096 + s = ap (λ (i : ℕ). i + s) (e ∙ ap (λ (i : ℕ). i * 4096) number-is) in
-      getD-take k (drop row holds′) s 0 (omega (arith, f .bounded .few-states)) ∙ getD-drop row holds′ s 0
-      ∙ ap (λ (i : ℕ). getD holds′ i 0) place ∙ f .by-holds (guardOf m r) s (guard-below m r h) below
-      ∙ ap bit (holds-guard m one-cond r s)
+    guard-row : (row k : ℕ) → row ≡ getD numbers r 0 % 16 * 4096 → k ≡ 4096
+        → TruthRow (vars m) (region m r .guard) (take k (drop row holds′))
+    unfolding TruthRow HoldsAll
+    guard-row row k e w s below =
+        let h : r < length (regions m) = omega (arith, f .counted) in
+        let place : row + s ≡ guardOf m r * 4096 + s = ap (λ (i : ℕ). i + s) (e ∙ ap (λ (i : ℕ). i * 4096) number-is) in
+        getD-take k (drop row holds′) s 0 (omega (arith, f .bounded .few-states)) ∙ getD-drop row holds′ s 0
+        ∙ ap (λ (i : ℕ). getD holds′ i 0) place ∙ f .by-holds (guardOf m r) s (guard-below m r h) below
+        ∙ ap bit (holds-guard m one-cond r s)
 
-  pub body-of : (at row k : ℕ) → at ≡ getD ats r 0 → row ≡ getD numbers r 0 % 16 * 4096 → k ≡ 4096
-      → Body (vars m) (m .keep) (region m r) kinds values bounds at kept′ (take k (drop row holds′))
-  unfolding BodiesAt
-  body-of at row k p e w =
-      let t = f .bodies r (omega (arith, f .counted)) in
-      record {
-        ls = f .ls;
-        us = t .0;
-        codes = f .codes;
-        bounded = f .bounded;
-        few = f .few;
-        spelled = rw p (t .1);
-        long = f .long;
-        by-kept = row-of-kept m kept′ (f .by-kept);
-        by-guard = guard-row row k e w;
-      }
+    pub body-of : (at row k : ℕ) → at ≡ getD ats r 0 → row ≡ getD numbers r 0 % 16 * 4096 → k ≡ 4096
+        → Body (vars m) (m .keep) (region m r) kinds values bounds at kept′ (take k (drop row holds′))
+    unfolding BodiesAt
+    body-of at row k p e w =
+        let t = f .bodies r (omega (arith, f .counted)) in
+        record {
+          ls = f .ls;
+          us = t .0;
+          codes = f .codes;
+          bounded = f .bounded;
+          few = f .few;
+          spelled = rw p (t .1);
+          long = f .long;
+          by-kept = row-of-kept m kept′ (f .by-kept);
+          by-guard = guard-row row k e w;
+        }
 
 -- Refusal 9
 

@@ -2,11 +2,11 @@
 // condition and of each guard at every state, and the state after each region's body; refusal 9 on the way.
 use variables::Bounds;
 ghost use mathlib.Core.Path.{_≡_};
-ghost use mathlib.Core.List.{List, _∷_, _++_};
-ghost use Prim.Native.Nat.{ℕ, _+_, _*_, _<_, _≤_};
+ghost use mathlib.Core.List.{List, _++_};
+ghost use Prim.Native.Nat.{ℕ, _<_, _≤_};
 ghost use lib.ListN.{drop, length, getD};
-ghost use Rattle.syntax.specs.Token.{Lexeme, mark, rbrace};
-ghost use Rattle.syntax.specs.Tree.{Monitor, Var, Cond, Region, spellCond, spellBlock};
+ghost use Rattle.syntax.specs.Token.{Lexeme};
+ghost use Rattle.syntax.specs.Tree.{Monitor, Var, Cond, Region, spellCond};
 ghost use Rattle.machine.specs.Held.{bit};
 ghost use Rattle.meaning.specs.State.{count, stateAt};
 ghost use Rattle.meaning.specs.Model.{vars, regions, guards};
@@ -23,6 +23,7 @@ pub enum Broken {
     At(usize, usize),
 }
 
+// The place of a token, as wide as an index.
 fn wide(at: u16) -> usize
     ensures { λ r. ⌜ r ≡ at ⌝ }
 {
@@ -37,7 +38,11 @@ fn truth_at(kinds: &[u8], values: &[u16], bounds: Bounds, at: usize, s: usize) -
         → r ≡ bit (truth c vs (stateAt vs s))) ⌝ }
 {
     let vars = variables::values_of(bounds, s);
-    if evaluator::holds(kinds, values, vars, at) { 1 } else { 0 }
+    if evaluator::holds(kinds, values, vars, at) {
+        1
+    } else {
+        0
+    }
 }
 
 // The truth of the condition that begins at a token, 1 or 0, at every state.
@@ -59,7 +64,14 @@ pub fn fill_row(kinds: &[u8], values: &[u16], bounds: Bounds, at: usize, row: &m
 }
 
 // The truth of every guard at every state, at guard * 4096 + state; `ats` has the token at which each guard begins.
-pub fn fill_holds(kinds: &[u8], values: &[u16], bounds: Bounds, ats: [u16; 16], count: usize, holds: &mut [u8])
+pub fn fill_holds(
+    kinds: &[u8],
+    values: &[u16],
+    bounds: Bounds,
+    ats: [u16; 16],
+    count: usize,
+    holds: &mut [u8],
+)
     ensures { λ _. ⌜ ((m : Monitor) (ls : List Lexeme)
         → Codes (vars m) ls (now (kinds .entry)) (now (values .entry)) → Bounded (vars m) bounds → length ls ≤ 8192
         → count ≡ length (guards m) → count ≤ 16 → GuardsAt m ls ats → 65536 ≤ length (now (holds .entry))

@@ -70,7 +70,7 @@ eval-simple-calls t =
     (kind-at-reads.Asked, kind-at-reads.Learnt, after-reads.Asked, after-reads.Learnt, eval-simple-below t, eval-simple.Post, eval-cond-below t, eval-cond.Post, eval-compare-reads.Asked, eval-compare-reads.Learnt)
 
 eval-cond-eval-conj-requires : (t : ℕ) → eval-cond-lts.Need-eval-conj-requires (eval-cond-calls t) (eval-cond-at t) eval-cond.Post
-eval-cond-eval-conj-requires t c κs = (omega (arith, c .before .before .pre .0), c .before .before .pre .1)
+eval-cond-eval-conj-requires t c κs = omega (arith, c .before .before .pre)
 
 eval-cond-kind-at-requires : (t : ℕ) → eval-cond-lts.Need-kind-at-requires (eval-cond-calls t) (eval-cond-at t) eval-cond.Post
 eval-cond-kind-at-requires t c κs = search needs
@@ -83,18 +83,20 @@ eval-cond-eval-cond-requires t c κs =
     let conj = c .before .before .before in
     let start = conj .before .before .before in
     let step = kind-within 18 (c .after .ensures) (sym (c .before .before .kind-at .ensures) ∙ c .before .if1 .taken) refl in
-    (omega (arith, step, conj .eval-conj .ensures .from, start .pre .0), record { within = c .after .ensures .to; short = start .pre .1 .short })
+    omega (arith, step, conj .eval-conj .ensures, c .after .ensures, start .pre)
 
 eval-cond-returns : (t : ℕ) → eval-cond-lts.Need-returns (eval-cond-calls t) (eval-cond-at t) eval-cond.Post
 eval-cond-returns t c =
     let after = c .before .before .before in
-    cond-more (after .before .before .before .eval-conj .ensures) (sym (after .before .before .kind-at .ensures) ∙ after .before .if1 .taken) (after .after .ensures) (c .before .before .eval-cond .ensures)
+    cond-more (after .before .before .before .eval-conj .ensures)
+    (sym (after .before .before .kind-at .ensures) ∙ after .before .if1 .taken) (after .after .ensures)
+    (c .before .before .eval-cond .ensures)
 
 eval-cond-returns-2 : (t : ℕ) → eval-cond-lts.Need-returns-2 (eval-cond-calls t) (eval-cond-at t) eval-cond.Post
 eval-cond-returns-2 t c = cond-one (c .before .before .eval-conj .ensures) (λ e. c .if1 .left (c .before .kind-at .ensures ∙ e))
 
 eval-conj-eval-simple-requires : (t : ℕ) → eval-conj-lts.Need-eval-simple-requires (eval-conj-calls t) (eval-conj-at t) eval-conj.Post
-eval-conj-eval-simple-requires t c κs = (omega (arith, c .before .before .pre .0), c .before .before .pre .1)
+eval-conj-eval-simple-requires t c κs = omega (arith, c .before .before .pre)
 
 eval-conj-kind-at-requires : (t : ℕ) → eval-conj-lts.Need-kind-at-requires (eval-conj-calls t) (eval-conj-at t) eval-conj.Post
 eval-conj-kind-at-requires t c κs = search needs
@@ -107,12 +109,14 @@ eval-conj-eval-conj-requires t c κs =
     let simple = c .before .before .before in
     let start = simple .before .before .before in
     let step = kind-within 17 (c .after .ensures) (sym (c .before .before .kind-at .ensures) ∙ c .before .if1 .taken) refl in
-    (omega (arith, step, simple .eval-simple .ensures .from, start .pre .0), record { within = c .after .ensures .to; short = start .pre .1 .short })
+    omega (arith, step, simple .eval-simple .ensures, c .after .ensures, start .pre)
 
 eval-conj-returns : (t : ℕ) → eval-conj-lts.Need-returns (eval-conj-calls t) (eval-conj-at t) eval-conj.Post
 eval-conj-returns t c =
     let after = c .before .before .before in
-    conj-more (after .before .before .before .eval-simple .ensures) (sym (after .before .before .kind-at .ensures) ∙ after .before .if1 .taken) (after .after .ensures) (c .before .before .eval-conj .ensures)
+    conj-more (after .before .before .before .eval-simple .ensures)
+    (sym (after .before .before .kind-at .ensures) ∙ after .before .if1 .taken) (after .after .ensures)
+    (c .before .before .eval-conj .ensures)
 
 eval-conj-returns-2 : (t : ℕ) → eval-conj-lts.Need-returns-2 (eval-conj-calls t) (eval-conj-at t) eval-conj.Post
 eval-conj-returns-2 t c = conj-one (c .before .before .eval-simple .ensures) (λ e. c .if1 .left (c .before .kind-at .ensures ∙ e))
@@ -127,19 +131,20 @@ eval-simple-eval-simple-requires : (t : ℕ) → eval-simple-lts.Need-eval-simpl
 eval-simple-eval-simple-requires t c κs =
     let start = c .before .before .before .before .before in
     let step = kind-within 16 (c .before .after .ensures) (sym (c .before .before .kind-at .ensures) ∙ c .if1 .taken) refl in
-    (omega (arith, step, start .pre .0), record { within = c .before .after .ensures .to; short = start .pre .1 .short })
+    omega (arith, step, c .before .after .ensures, start .pre)
 
 eval-simple-returns : (t : ℕ) → eval-simple-lts.Need-returns (eval-simple-calls t) (eval-simple-at t) eval-simple.Post
 eval-simple-returns t c =
     let after = c .before .before .before in
-    simple-not (sym (after .before .kind-at .ensures) ∙ c .before .before .if1 .taken) (after .after .ensures) (c .before .eval-simple .ensures)
+    simple-not (sym (after .before .kind-at .ensures) ∙ c .before .before .if1 .taken) (after .after .ensures)
+    (c .before .eval-simple .ensures)
 
 eval-simple-eval-cond-requires : (t : ℕ) → eval-simple-lts.Need-eval-cond-requires (eval-simple-calls t) (eval-simple-at t) eval-simple.Post
 eval-simple-eval-cond-requires t c κs =
     let after = c .before .before in
     let start = after .before .before .before .before in
     let step = kind-within 2 (after .after .ensures) (sym (after .before .kind-at .ensures) ∙ c .if2 .taken) refl in
-    (omega (arith, step, start .pre .0), record { within = after .after .ensures .to; short = start .pre .1 .short })
+    omega (arith, step, after .after .ensures, start .pre)
 
 eval-simple-after-requires-2 : (t : ℕ) → eval-simple-lts.Need-after-requires-2 (eval-simple-calls t) (eval-simple-at t) eval-simple.Post
 eval-simple-after-requires-2 t c κs = search needs
@@ -147,7 +152,8 @@ eval-simple-after-requires-2 t c κs = search needs
 eval-simple-returns-2 : (t : ℕ) → eval-simple-lts.Need-returns-2 (eval-simple-calls t) (eval-simple-at t) eval-simple.Post
 eval-simple-returns-2 t c =
     let after = c .before .before .before .before in
-    simple-bracketed (sym (after .before .kind-at .ensures) ∙ c .before .before .if2 .taken) (after .after .ensures) (c .before .eval-cond .ensures) (c .after2 .ensures)
+    simple-bracketed (sym (after .before .kind-at .ensures) ∙ c .before .before .if2 .taken) (after .after .ensures)
+    (c .before .eval-cond .ensures) (c .after2 .ensures)
 
 eval-simple-returns-3 : (t : ℕ) → eval-simple-lts.Need-returns-3 (eval-simple-calls t) (eval-simple-at t) eval-simple.Post
 unfolding constantKind
@@ -167,7 +173,8 @@ eval-simple-eval-compare-requires t c κs = search needs
 eval-simple-returns-5 : (t : ℕ) → eval-simple-lts.Need-returns-5 (eval-simple-calls t) (eval-simple-at t) eval-simple.Post
 eval-simple-returns-5 t c =
     let kind = c .before .before .before .before .before .before .kind-at .ensures in
-    simple-compare (λ e. c .before .before .before .before .if1 .left (kind ∙ e)) (λ e. c .before .before .before .if2 .left (kind ∙ e)) (λ e. c .before .before .if3 .left (kind ∙ e)) (λ e. c .before .if4 .left (kind ∙ e)) (c .eval-compare .ensures)
+    simple-compare (λ e. c .before .before .before .before .if1 .left (kind ∙ e)) (λ e. c .before .before .before .if2 .left (kind ∙ e))
+    (λ e. c .before .before .if3 .left (kind ∙ e)) (λ e. c .before .if4 .left (kind ∙ e)) (c .eval-compare .ensures)
 
 pub +eval-cond+eval-conj+eval-simple-spec : {M : Type 1} → statement M
 +eval-cond+eval-conj+eval-simple-spec =

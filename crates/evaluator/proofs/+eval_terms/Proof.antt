@@ -8,7 +8,7 @@ use lib.ListN.{length}
 use Rattle.syntax.specs.Token.{markNumber}
 use Rattle.syntax.specs.Tree.{added, taken, signMark}
 use Rattle.evaluator.proofs.Places.{kind-within}
-use Rattle.evaluator.proofs.Readings.{terms-end, terms-more, joined-added, joined-taken, small-more}
+use Rattle.evaluator.proofs.Readings.{terms-end, terms-more, joined-added, joined-taken}
 use borrow.Fn.Kinds.{In}
 use borrow.Fn.PlainCycle.{Measures, is, falls, and}
 use Rattle.evaluator.proofs.eval_terms.Reads as eval-terms
@@ -48,27 +48,20 @@ eval-terms-eval-atom-requires t c κs = search needs
 eval-terms-add-eval-terms : (t : ℕ) → eval-terms-lts.Need-add-eval-terms (eval-terms-calls t) (eval-terms-at t) eval-terms.Post
 eval-terms-add-eval-terms t c =
     let at = c .before .before .before .before in
-    omega (arith, c .before .eval-atom .ensures .plus-small, at .before .before .before .pre .1)
+    omega (arith, c .before .eval-atom .ensures, at .before .before .before .pre .1)
 
 eval-terms-add-eval-terms-2 : (t : ℕ) → eval-terms-lts.Need-add-eval-terms-2 (eval-terms-calls t) (eval-terms-at t) eval-terms.Post
 eval-terms-add-eval-terms-2 t c =
     let at = c .before .before .before .before .before in
-    omega (arith, c .before .before .eval-atom .ensures .minus-small, at .before .before .before .pre .1)
+    omega (arith, c .before .before .eval-atom .ensures, at .before .before .before .pre .1)
 
 eval-terms-eval-terms-requires : (t : ℕ) → eval-terms-lts.Need-eval-terms-requires (eval-terms-calls t) (eval-terms-at t) eval-terms.Post
 eval-terms-eval-terms-requires t c κs =
     let after = c .before .before .before in
     let at = after .before .before in
     let step = kind-within 14 (after .after .ensures) (sym (at .kind-at .ensures) ∙ after .before .if1 .taken) refl in
-    let got = c .before .before .eval-atom in
-    let atom = got .ensures in
-    let start = at .before .before .before in (
-      omega (arith, step, atom .from, start .pre .0),
-      (
-        record { within = atom .to; short = start .pre .1 .0 .short },
-        small-more (got .result .next) (got .result .plus) (got .result .minus) (start .pre .1 .1) (omega (arith, step, atom .from)) (atom .plus-small) (atom .minus-small),
-      ),
-    )
+    let start = at .before .before .before in
+    omega (arith, step, c .before .before .eval-atom .ensures, start .pre)
 
 eval-terms-returns : (t : ℕ) → eval-terms-lts.Need-returns (eval-terms-calls t) (eval-terms-at t) eval-terms.Post
 unfolding markNumber signMark
@@ -77,7 +70,9 @@ eval-terms-returns t c =
     let at = after .before .before in
     let atom = c .before .before .before .eval-atom in
     let start = at .before .before .before .args in
-    terms-more added (start .plus) (start .minus) (start .plus + atom .result .plus) (start .minus + atom .result .minus) (sym (at .kind-at .ensures) ∙ after .before .if1 .taken) (after .after .ensures) (atom .ensures) (joined-added (start .plus) (start .minus) (atom .result .plus) (atom .result .minus)) (c .eval-terms .ensures)
+    terms-more added (start .plus) (start .minus) (start .plus + atom .result .plus) (start .minus + atom .result .minus)
+    (sym (at .kind-at .ensures) ∙ after .before .if1 .taken) (after .after .ensures) (atom .ensures)
+    (joined-added (start .plus) (start .minus) (atom .result .plus) (atom .result .minus)) (c .eval-terms .ensures)
 
 eval-terms-after-requires-2 : (t : ℕ) → eval-terms-lts.Need-after-requires-2 (eval-terms-calls t) (eval-terms-at t) eval-terms.Post
 eval-terms-after-requires-2 t c κs = search needs
@@ -88,27 +83,20 @@ eval-terms-eval-atom-requires-2 t c κs = search needs
 eval-terms-add-eval-terms-3 : (t : ℕ) → eval-terms-lts.Need-add-eval-terms-3 (eval-terms-calls t) (eval-terms-at t) eval-terms.Post
 eval-terms-add-eval-terms-3 t c =
     let at = c .before .before .before .before .before in
-    omega (arith, c .before .eval-atom2 .ensures .minus-small, at .before .before .before .pre .1)
+    omega (arith, c .before .eval-atom2 .ensures, at .before .before .before .pre .1)
 
 eval-terms-add-eval-terms-4 : (t : ℕ) → eval-terms-lts.Need-add-eval-terms-4 (eval-terms-calls t) (eval-terms-at t) eval-terms.Post
 eval-terms-add-eval-terms-4 t c =
     let at = c .before .before .before .before .before .before in
-    omega (arith, c .before .before .eval-atom2 .ensures .plus-small, at .before .before .before .pre .1)
+    omega (arith, c .before .before .eval-atom2 .ensures, at .before .before .before .pre .1)
 
 eval-terms-eval-terms-requires-2 : (t : ℕ) → eval-terms-lts.Need-eval-terms-requires-2 (eval-terms-calls t) (eval-terms-at t) eval-terms.Post
 eval-terms-eval-terms-requires-2 t c κs =
     let after = c .before .before .before in
     let at = after .before .before .before in
     let step = kind-within 15 (after .after2 .ensures) (sym (at .kind-at .ensures) ∙ after .before .if2 .taken) refl in
-    let got = c .before .before .eval-atom2 in
-    let atom = got .ensures in
-    let start = at .before .before .before in (
-      omega (arith, step, atom .from, start .pre .0),
-      (
-        record { within = atom .to; short = start .pre .1 .0 .short },
-        small-more (got .result .next) (got .result .minus) (got .result .plus) (start .pre .1 .1) (omega (arith, step, atom .from)) (atom .minus-small) (atom .plus-small),
-      ),
-    )
+    let start = at .before .before .before in
+    omega (arith, step, c .before .before .eval-atom2 .ensures, start .pre)
 
 eval-terms-returns-2 : (t : ℕ) → eval-terms-lts.Need-returns-2 (eval-terms-calls t) (eval-terms-at t) eval-terms.Post
 unfolding markNumber signMark
@@ -117,13 +105,16 @@ eval-terms-returns-2 t c =
     let at = after .before .before .before in
     let atom = c .before .before .before .eval-atom2 in
     let start = at .before .before .before .args in
-    terms-more taken (start .plus) (start .minus) (start .plus + atom .result .minus) (start .minus + atom .result .plus) (sym (at .kind-at .ensures) ∙ after .before .if2 .taken) (after .after2 .ensures) (atom .ensures) (joined-taken (start .plus) (start .minus) (atom .result .plus) (atom .result .minus)) (c .eval-terms2 .ensures)
+    terms-more taken (start .plus) (start .minus) (start .plus + atom .result .minus) (start .minus + atom .result .plus)
+    (sym (at .kind-at .ensures) ∙ after .before .if2 .taken) (after .after2 .ensures) (atom .ensures)
+    (joined-taken (start .plus) (start .minus) (atom .result .plus) (atom .result .minus)) (c .eval-terms2 .ensures)
 
 eval-terms-returns-3 : (t : ℕ) → eval-terms-lts.Need-returns-3 (eval-terms-calls t) (eval-terms-at t) eval-terms.Post
 eval-terms-returns-3 t c =
     let at = c .before .before in
     let start = at .before .before .before in
-    terms-end (start .args .plus) (start .args .minus) (start .args .at) (start .pre .1 .0 .within) (start .pre .1 .1) (λ e. c .before .if1 .left (at .kind-at .ensures ∙ e)) (λ e. c .if2 .left (at .kind-at .ensures ∙ e))
+    terms-end (start .args .plus) (start .args .minus) (start .args .at) (start .pre .1 .0 .within) (start .pre .1 .1)
+    (λ e. c .before .if1 .left (at .kind-at .ensures ∙ e)) (λ e. c .if2 .left (at .kind-at .ensures ∙ e))
 
 pub +eval-terms-spec : {M : Type 1} → statement M
 +eval-terms-spec = close μ-eval-terms λ t. eval-terms-lts.spec (eval-terms-calls t)

@@ -98,19 +98,21 @@ run-block-run-stmt-requires t c κs =
 run-block-returns-3 : (t : ℕ) → run-block-lts.Need-returns-3 (run-block-calls t) (run-block-at t) run-block.Post
 run-block-returns-3 t c =
     let here = c .before .before .before .before in
-    block-fault (c .before .before .before .run-stmt .ensures) (not-true _ (c .if3 .taken)) (λ e. here .before .if1 .left (here .before .before .kind-at .ensures ∙ e))
+    block-fault (c .before .before .before .run-stmt .ensures) (not-true _ (c .if3 .taken))
+    (λ e. here .before .if1 .left (here .before .before .kind-at .ensures ∙ e))
 
 run-block-run-block-requires : (t : ℕ) → run-block-lts.Need-run-block-requires (run-block-calls t) (run-block-at t) run-block.Post
 run-block-run-block-requires t c κs =
     let stmt = c .before .before .before in
     let start = stmt .before .before .before .before .before .before in
-    (omega (arith, stmt .run-stmt .ensures .from, stmt .run-stmt .ensures .to, start .pre .0), record { within = stmt .run-stmt .ensures .to; short = start .pre .1 .short })
+    omega (arith, stmt .run-stmt .ensures, start .pre)
 
 run-block-returns-4 : (t : ℕ) → run-block-lts.Need-returns-4 (run-block-calls t) (run-block-at t) run-block.Post
 run-block-returns-4 t c =
     let stmt = c .before .before .before .before in
     let here = stmt .before in
-    block-more (stmt .run-stmt .ensures) (not-false _ (c .before .if3 .left)) (λ e. here .before .if1 .left (here .before .before .kind-at .ensures ∙ e)) (c .run-block .ensures)
+    block-more (stmt .run-stmt .ensures) (not-false _ (c .before .if3 .left))
+    (λ e. here .before .if1 .left (here .before .before .kind-at .ensures ∙ e)) (c .run-block .ensures)
 
 run-branch-close-of-requires : (t : ℕ) → run-branch-lts.Need-close-of-requires (run-branch-calls t) (run-branch-at t) run-branch.Post
 run-branch-close-of-requires t c κs = search needs
@@ -135,9 +137,8 @@ run-branch-after-requires-4 t c κs = search needs
 
 run-branch-run-block-requires : (t : ℕ) → run-branch-lts.Need-run-block-requires (run-branch-calls t) (run-branch-at t) run-branch.Post
 run-branch-run-block-requires t c κs =
-    let first = c .after4 .ensures in
     let start = c .before .before .before .before .before .before .before .before .before .before .before in
-    (omega (arith, first .from, start .pre .0), record { within = first .to; short = start .pre .1 .short })
+    omega (arith, c .after4 .ensures, start .pre)
 
 run-branch-returns : (t : ℕ) → run-branch-lts.Need-returns (run-branch-calls t) (run-branch-at t) run-branch.Post
 run-branch-returns t c =
@@ -146,18 +147,20 @@ run-branch-returns t c =
     let other = close2 .before in
     let kind = other .before .before in
     let next = kind .before in
-    branch-two (next .before .close-of .ensures) (next .after .ensures) (next .before .before .before .before .args .holds) (sym (kind .kind-at .ensures) ∙ other .before .if1 .taken) (other .after2 .ensures) (close2 .close-of2 .ensures) (third .after3 .ensures) (λ e. c .before .before .after4 .ensures) (λ e. absurd (true≢false (sym (c .before .before .before .if2 .taken) ∙ e))) (c .before .run-block .ensures)
+    branch-two (next .before .close-of .ensures) (next .after .ensures) (next .before .before .before .before .args .holds)
+    (sym (kind .kind-at .ensures) ∙ other .before .if1 .taken) (other .after2 .ensures) (close2 .close-of2 .ensures)
+    (third .after3 .ensures) (λ e. c .before .before .after4 .ensures)
+    (λ e. absurd (true≢false (sym (c .before .before .before .if2 .taken) ∙ e))) (c .before .run-block .ensures)
 
 run-branch-after-requires-5 : (t : ℕ) → run-branch-lts.Need-after-requires-5 (run-branch-calls t) (run-branch-at t) run-branch.Post
 run-branch-after-requires-5 t c κs = search needs
 
 run-branch-run-block-requires-2 : (t : ℕ) → run-branch-lts.Need-run-block-requires-2 (run-branch-calls t) (run-branch-at t) run-branch.Post
 run-branch-run-block-requires-2 t c κs =
-    let second = c .after5 .ensures in
     let other = c .before .before .before .before in
     let next = other .before .before .before in
     let start = next .before .before .before .before in
-    (omega (arith, second .from, other .after2 .ensures .from, next .after .ensures .from, next .before .close-of .ensures .from, start .pre .0), record { within = second .to; short = start .pre .1 .short })
+    omega (arith, c .after5 .ensures, other .after2 .ensures, next .after .ensures, next .before .close-of .ensures, start .pre)
 
 run-branch-returns-2 : (t : ℕ) → run-branch-lts.Need-returns-2 (run-branch-calls t) (run-branch-at t) run-branch.Post
 run-branch-returns-2 t c =
@@ -166,28 +169,33 @@ run-branch-returns-2 t c =
     let other = close2 .before in
     let kind = other .before .before in
     let next = kind .before in
-    branch-two (next .before .close-of .ensures) (next .after .ensures) (next .before .before .before .before .args .holds) (sym (kind .kind-at .ensures) ∙ other .before .if1 .taken) (other .after2 .ensures) (close2 .close-of2 .ensures) (third .after3 .ensures) (λ e. absurd (true≢false (sym e ∙ c .before .before .before .if2 .left))) (λ e. c .before .before .after5 .ensures) (c .before .run-block2 .ensures)
+    branch-two (next .before .close-of .ensures) (next .after .ensures) (next .before .before .before .before .args .holds)
+    (sym (kind .kind-at .ensures) ∙ other .before .if1 .taken) (other .after2 .ensures) (close2 .close-of2 .ensures)
+    (third .after3 .ensures) (λ e. absurd (true≢false (sym e ∙ c .before .before .before .if2 .left)))
+    (λ e. c .before .before .after5 .ensures) (c .before .run-block2 .ensures)
 
 run-branch-after-requires-6 : (t : ℕ) → run-branch-lts.Need-after-requires-6 (run-branch-calls t) (run-branch-at t) run-branch.Post
 run-branch-after-requires-6 t c κs = search needs
 
 run-branch-run-block-requires-3 : (t : ℕ) → run-branch-lts.Need-run-block-requires-3 (run-branch-calls t) (run-branch-at t) run-branch.Post
 run-branch-run-block-requires-3 t c κs =
-    let first = c .after6 .ensures in
     let start = c .before .before .before .before .before .before .before .before in
-    (omega (arith, first .from, start .pre .0), record { within = first .to; short = start .pre .1 .short })
+    omega (arith, c .after6 .ensures, start .pre)
 
 run-branch-returns-3 : (t : ℕ) → run-branch-lts.Need-returns-3 (run-branch-calls t) (run-branch-at t) run-branch.Post
 run-branch-returns-3 t c =
     let kind = c .before .before .before .before .before in
     let next = kind .before in
-    branch-one (next .before .close-of .ensures) (next .after .ensures) (next .before .before .before .before .args .holds) (c .before .before .before .if3 .taken) (λ e. c .before .before .before .before .if1 .left (kind .kind-at .ensures ∙ e)) (c .before .before .after6 .ensures) (c .before .run-block3 .ensures)
+    branch-one (next .before .close-of .ensures) (next .after .ensures) (next .before .before .before .before .args .holds)
+    (c .before .before .before .if3 .taken) (λ e. c .before .before .before .before .if1 .left (kind .kind-at .ensures ∙ e))
+    (c .before .before .after6 .ensures) (c .before .run-block3 .ensures)
 
 run-branch-returns-4 : (t : ℕ) → run-branch-lts.Need-returns-4 (run-branch-calls t) (run-branch-at t) run-branch.Post
 run-branch-returns-4 t c =
     let kind = c .before .before in
     let next = kind .before in
-    branch-none (next .before .close-of .ensures) (next .after .ensures) (next .before .before .before .before .args .holds) (c .if3 .left) (λ e. c .before .if1 .left (kind .kind-at .ensures ∙ e))
+    branch-none (next .before .close-of .ensures) (next .after .ensures) (next .before .before .before .before .args .holds) (c .if3 .left)
+    (λ e. c .before .if1 .left (kind .kind-at .ensures ∙ e))
 
 run-stmt-after-requires : (t : ℕ) → run-stmt-lts.Need-after-requires (run-stmt-calls t) (run-stmt-at t) run-stmt.Post
 run-stmt-after-requires t c κs = search needs
@@ -209,8 +217,7 @@ run-stmt-run-branch-requires t c κs =
     let test = c .before in
     let third = test .before .before .before in
     let start = third .before .before .before .before in
-    let open′ = c .after3 .ensures in
-    (omega (arith, third .before .after .ensures .one-more (start .pre .1 .1), third .after2 .ensures .from, test .eval-cond .ensures .from, open′ .from, start .pre), record { within = open′ .to; short = start .pre .1 .0 .short })
+    omega (arith, third .before .after .ensures .one-more (start .pre .1 .1), third .after2 .ensures, test .eval-cond .ensures, c .after3 .ensures, start .pre)
 
 run-stmt-returns : (t : ℕ) → run-stmt-lts.Need-returns (run-stmt-calls t) (run-stmt-at t) run-stmt.Post
 run-stmt-returns t c =
@@ -218,7 +225,8 @@ run-stmt-returns t c =
     let kind = test .before .before in
     let third = kind .before in
     let start = third .before .before .before .before in
-    stmt-if (sym (kind .kind-at .ensures) ∙ test .before .if1 .taken) (start .pre .1 .1) (third .before .after .ensures) (third .after2 .ensures) (test .eval-cond .ensures) (c .before .after3 .ensures) (c .run-branch .ensures)
+    stmt-if (sym (kind .kind-at .ensures) ∙ test .before .if1 .taken) (start .pre .1 .1) (third .before .after .ensures)
+    (third .after2 .ensures) (test .eval-cond .ensures) (c .before .after3 .ensures) (c .run-branch .ensures)
 
 run-stmt-eval-expr-requires : (t : ℕ) → run-stmt-lts.Need-eval-expr-requires (run-stmt-calls t) (run-stmt-at t) run-stmt.Post
 run-stmt-eval-expr-requires t c κs = search needs
@@ -234,9 +242,8 @@ run-stmt-cast-assigned t c = search needs
 
 run-stmt-store-requires : (t : ℕ) → run-stmt-lts.Need-store-requires (run-stmt-calls t) (run-stmt-at t) run-stmt.Post
 run-stmt-store-requires t c κs =
-    let sum = c .before .before .eval-expr .ensures in
     let start = c .before .before .before .before .before .before .before .before .before in
-    (omega (arith, sum .plus-small, sum .to, start .pre .1 .0 .short), omega (arith, sum .minus-small, sum .to, start .pre .1 .0 .short))
+    omega (arith, c .before .before .eval-expr .ensures, start .pre)
 
 run-stmt-returns-2 : (t : ℕ) → run-stmt-lts.Need-returns-2 (run-stmt-calls t) (run-stmt-at t) run-stmt.Post
 run-stmt-returns-2 t c =
@@ -245,7 +252,8 @@ run-stmt-returns-2 t c =
     let kind = sum .before .before in
     let third = kind .before in
     let start = third .before .before .before .before in
-    stmt-assign (λ e. sum .before .if1 .left (kind .kind-at .ensures ∙ e)) (start .pre .1 .1) (third .before .after .ensures) (third .after2 .ensures) (sum .eval-expr .ensures) (value .before .after4 .ensures) (value .value-at .ensures) (c .store .ensures)
+    stmt-assign (λ e. sum .before .if1 .left (kind .kind-at .ensures ∙ e)) (start .pre .1 .1) (third .before .after .ensures)
+    (third .after2 .ensures) (sum .eval-expr .ensures) (value .before .after4 .ensures) (value .value-at .ensures) (c .store .ensures)
 
 pub +run-block+run-branch+run-stmt-spec : {M : Type 1} → statement M
 +run-block+run-branch+run-stmt-spec =

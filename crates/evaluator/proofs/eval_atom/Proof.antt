@@ -37,14 +37,16 @@ returns : tie.Need-returns
 returns c =
     let slot = c .before .value-at in
     let fits : Fits w16 (getD (c .before .before .before .before .before .before .before .args .t3) (slot .result) 0) = search needs in
-    atom-name _ 128 (sym (c .before .before .before .before .kind-at .ensures) ∙ c .before .before .if1 .taken) (c .before .before .before .after .ensures)
+    atom-name _ 128 (sym (c .before .before .before .before .kind-at .ensures) ∙ c .before .before .if1 .taken)
+    (c .before .before .before .after .ensures)
     (omega (arith, fits .fits)) (omega arith)
     (λ vs as′ biased. ap (λ (k : ℕ). getD as′ k (pos 0)) (sym (slot .ensures)) ∙ slot-held biased (slot .result) (c .if2 .taken))
 
 returns-2 : tie.Need-returns-2
 returns-2 c =
     let slot = c .before .value-at in
-    atom-name 128 128 (sym (c .before .before .before .before .kind-at .ensures) ∙ c .before .before .if1 .taken) (c .before .before .before .after .ensures)
+    atom-name 128 128 (sym (c .before .before .before .before .kind-at .ensures) ∙ c .before .before .if1 .taken)
+    (c .before .before .before .after .ensures)
     (omega arith) (omega arith)
     (λ vs as′ biased. ap (λ (k : ℕ). getD as′ k (pos 0)) (sym (slot .ensures)) ∙ slot-past biased (slot .result) (c .if2 .left))
 

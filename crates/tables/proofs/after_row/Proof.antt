@@ -57,10 +57,13 @@ loop-less c = omega arith
 
 loop-again : tie.Need-loop-again Inv-loop μ-loop
 loop-again c =
-    let g = c .before .before .before in
-    (omega arith, simp length-set (g .loop .inv .1), λ vs keep q b.
-    below-more (g .loop .after) (g .loop .s) (c .before .moved .result) (omega arith) (c .if4 .left) (g .loop .inv .2 vs keep q b)
-    (c .before .moved .ensures vs keep q b (omega (arith, b .bounded .states))))
+    let g = c .before .before .before in (
+      omega arith,
+      simp length-set (g .loop .inv .1),
+      λ vs keep q b.
+          below-more (g .loop .after) (g .loop .s) (c .before .moved .result) (omega arith) (c .if4 .left) (g .loop .inv .2 vs keep q b)
+          (c .before .moved .ensures vs keep q b (omega (arith, b .bounded .states))),
+    )
 
 same-length-2 : tie.Need-same-length-2 Inv-loop μ-loop
 same-length-2 c = c .before .loop .inv .1

@@ -9,7 +9,7 @@ use Rattle.syntax.specs.Tree.{Monitor}
 use Rattle.meaning.specs.Model.{vars, region}
 use Rattle.tables.specs.Steps.{RowDone}
 use Rattle.tables.proofs.Laws.{passed, below-same}
-use Rattle.tables.proofs.Regions.{part-long, back, back-length, row-before, row-at, Filling, body-of, Done, never, stops}
+use Rattle.tables.proofs.Regions.{part-long, back, back-length, row-before, row-at, Filling, filling, body-of, Done, never, stops}
 use Rattle.tables.proofs.fill_after.Statement.{statement}
 use Rattle.tables.proofs.fill_after.Tie as tie
 
@@ -101,29 +101,20 @@ same-length c = new-long (c .before) ∙ loop-of (c .before) .loop .inv .1
 returns-5 : tie.Need-returns-5 Inv-loop μ-loop
 returns-5 c m ls codes bounded few counted small bodies numbers l₁ l₂ l₃ k h =
     let f : Fill (loop-of (c .before)) m =
-    record {
-      ls = ls;
-      codes = codes;
-      bounded = bounded;
-      few = few;
-      counted = counted;
-      few-regions = small;
-      bodies = bodies;
-      by-number = numbers;
-      long = l₁;
-      by-kept = k;
-      by-holds = h;
-    } in
+    filling m _ _ _ _ _ _ _ _ ls codes bounded few counted small bodies numbers l₁ k h in
     stops m (new (c .before)) (R (c .before)) (c .before .before .before .after-row .result) (λ s. getD (ys (c .before)) s 0) (omega arith)
     (c .if5 .taken) (row-done (c .before) m f) (still (c .before) m f)
 
 loop-again : tie.Need-loop-again Inv-loop μ-loop
 loop-again c =
-    let b = c .before in
-    (omega arith, new-long b ∙ loop-of b .loop .inv .1, λ m f.
-    passed (Done m (new b)) (R b) (still b m f)
-    (below-same (λ s. getD (new b) (R b * 4096 + s) 0) (row-done b m f .whole (c .if5 .left))
-    (λ s low. row-at (xs b) (ys b) (R b) (size b) (is-size b) (room b) (whole b) s (omega (arith, f .bounded .few-states)))))
+    let b = c .before in (
+      omega arith,
+      new-long b ∙ loop-of b .loop .inv .1,
+      λ m f.
+          passed (Done m (new b)) (R b) (still b m f)
+          (below-same (λ s. getD (new b) (R b * 4096 + s) 0) (row-done b m f .whole (c .if5 .left))
+          (λ s low. row-at (xs b) (ys b) (R b) (size b) (is-size b) (room b) (whole b) s (omega (arith, f .bounded .few-states)))),
+    )
 
 same-length-2 : tie.Need-same-length-2 Inv-loop μ-loop
 same-length-2 c = c .before .loop .inv .1
@@ -131,19 +122,7 @@ same-length-2 c = c .before .loop .inv .1
 returns-6 : tie.Need-returns-6 Inv-loop μ-loop
 returns-6 c m ls codes bounded few counted small bodies numbers l₁ l₂ l₃ k h =
     let f : Fill (c .before) m =
-    record {
-      ls = ls;
-      codes = codes;
-      bounded = bounded;
-      few = few;
-      counted = counted;
-      few-regions = small;
-      bodies = bodies;
-      by-number = numbers;
-      long = l₁;
-      by-kept = k;
-      by-holds = h;
-    } in
+    filling m _ _ _ _ _ _ _ _ ls codes bounded few counted small bodies numbers l₁ k h in
     never m (c .before .loop .after) (λ j low. c .before .loop .inv .2 m f j (omega arith))
 
 pub fill-after-spec : {M : Type 1} → statement M

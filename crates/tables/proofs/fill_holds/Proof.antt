@@ -49,18 +49,21 @@ loop-again c =
     let w : n ≡ 4096 = omega arith in
     let room : i .g * 4096 + n ≤ length xs = omega arith in
     let part = part-long xs (i .g * 4096) n room in
-    let whole : length ys ≡ n = call .kept .1 .1 .1 .1 .0 ∙ part in
-    (omega arith, back-length xs ys (i .g) n w room whole ∙ i .inv .1, λ m ls codes bounded few counted ats.
-    let t = ats (i .g) (omega arith) in
-    passed
-    (λ j. (s : ℕ) → s < state.count (vars m) → getD (back xs ys (i .g) n w room whole) (j * 4096 + s) 0 ≡ bit (model.holds m j s))
-    (i .g)
-    (λ j h s low.
-    row-before xs ys (i .g) n w room whole j s h (omega (arith, bounded .few-states))
-    ∙ i .inv .2 m ls codes bounded few counted ats j h s low)
-    (λ s low.
-    row-at xs ys (i .g) n w room whole s (omega (arith, bounded .few-states))
-    ∙ call .ensures (vars m) ls (t .0) (getD (guards m) (i .g) noGuard) codes bounded (rw (at .ensures) (t .1)) (t .2) few (omega arith) s low))
+    let whole : length ys ≡ n = call .kept .1 .1 .1 .1 .0 ∙ part in (
+      omega arith,
+      back-length xs ys (i .g) n w room whole ∙ i .inv .1,
+      λ m ls codes bounded few counted ats.
+          let t = ats (i .g) (omega arith) in
+          passed
+          (λ j. (s : ℕ) → s < state.count (vars m) → getD (back xs ys (i .g) n w room whole) (j * 4096 + s) 0 ≡ bit (model.holds m j s))
+          (i .g)
+          (λ j h s low.
+          row-before xs ys (i .g) n w room whole j s h (omega (arith, bounded .few-states))
+          ∙ i .inv .2 m ls codes bounded few counted ats j h s low)
+          (λ s low.
+          row-at xs ys (i .g) n w room whole s (omega (arith, bounded .few-states))
+          ∙ call .ensures (vars m) ls (t .0) (getD (guards m) (i .g) noGuard) codes bounded (rw (at .ensures) (t .1)) (t .2) few (omega arith) s low),
+    )
 
 same-length : tie.Need-same-length Inv-loop μ-loop
 same-length c = c .before .loop .inv .1

@@ -43,11 +43,14 @@ loop-less c = omega arith
 
 loop-again : tie.Need-loop-again Inv-loop μ-loop
 loop-again c =
-    let g = c .before .before in
-    (omega arith, simp length-set (g .loop .inv .1), λ vs ls us d codes bounded e ends few.
-    stored (λ k x. x ≡ bit (truth d vs (stateAt vs k))) (g .loop .row) (g .loop .s) (c .truth-at .result) (omega arith)
-    (g .loop .inv .2 vs ls us d codes bounded e ends few)
-    (c .truth-at .ensures vs ls us d codes bounded e ends few (omega (arith, bounded .states))))
+    let g = c .before .before in (
+      omega arith,
+      simp length-set (g .loop .inv .1),
+      λ vs ls us d codes bounded e ends few.
+          stored (λ k x. x ≡ bit (truth d vs (stateAt vs k))) (g .loop .row) (g .loop .s) (c .truth-at .result) (omega arith)
+          (g .loop .inv .2 vs ls us d codes bounded e ends few)
+          (c .truth-at .ensures vs ls us d codes bounded e ends few (omega (arith, bounded .states))),
+    )
 
 same-length : tie.Need-same-length Inv-loop μ-loop
 same-length c = c .before .loop .inv .1

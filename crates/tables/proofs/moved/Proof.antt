@@ -1,6 +1,5 @@
 -- `tables::moved` meets its contract: what the rows of kept condition and guard hold at a state is their truth there. Assumes nothing.
 use mathlib.Core.Path.{sym, _∙_}
-use denote.Ref.{now}
 use borrow.Author.Needs.{needs}
 use Rattle.tables.specs.Rows.{TruthRow}
 use Rattle.tables.proofs.Laws.{bit-true, bit-one, stays, runs-on}

@@ -1,7 +1,7 @@
 -- `tables::state_after` meets its contract: a run that is not ok is a fault, and one that is reaches a state whose number's kept truth is looked up. Assumes nothing.
 use Prim.Native.Nat.{ℕ, _<_}
 use native.Mathlib.Omega.{arith}
-use mathlib.Core.Path.{sym, _∙_}
+use mathlib.Core.Path.{_∙_}
 use mathlib.Core.List.{List}
 use denote.Ref.{now}
 use borrow.Author.Needs.{needs}
