@@ -16,7 +16,7 @@ use Rattle.meaning.specs.Model.{sameLexemes, sameGuard, placeIn, guardsOf, noGu
 use Rattle.meaning.specs.ModelLaws.{Found, place-here, place-later, found-spells, place-append, found-append, place-last, found-last, known, new, known-or-new}
 use Rattle.meaning.specs.Bools.{split}
 use Rattle.layout.specs.Laid.{RegionAt}
-use Rattle.layout.specs.Steps.{GuardAt, Flagged, noFlagged, parts, found, Room, Holds, withGuard, withRegion}
+use Rattle.layout.specs.Steps.{GuardAt, Flagged, noFlagged, parts, found, Arrays, Room, Holds, withGuard, withRegion}
 use Rattle.layout.specs.declared.Layout.{Layout}
 
 -- The number of a guard
@@ -126,23 +126,23 @@ module _ (ls : List Lexeme) (done : List Flagged) (f : Flagged) (l : Layout) (ro
         guard-count = rw are many;
         stand =
             extended done f (λ e x y. RegionAt ls (e .region) x y) (l .«guards_at») (l .«bodies_at») guard-at body-at (l .regions)
-            (holds .count) (omega (arith, room .guards-whole)) (omega (arith, room .bodies-whole)) (holds .stand) stands;
+            (holds .count) (omega (arith, room .arrays .guards-whole)) (omega (arith, room .arrays .bodies-whole)) (holds .stand) stands;
         numbers =
             rw are (extended done f (λ e x y. x ≡ placeIn (e .region .guard) fs) (l .«guard_of») (l .«guard_of») number number (l .regions)
-            (holds .count) (omega (arith, room .numbers-whole)) (omega (arith, room .numbers-whole))
+            (holds .count) (omega (arith, room .arrays .numbers-whole)) (omega (arith, room .arrays .numbers-whole))
             (λ r h. holds .numbers r h ∙ sym (kept _ (holds .all-found r h) .0)) (sym here));
         all-found =
             rw are (extended done f (λ e x y. Found (e .region .guard) fs) (l .«guard_of») (l .«guard_of») number number (l .regions)
-            (holds .count) (omega (arith, room .numbers-whole)) (omega (arith, room .numbers-whole))
+            (holds .count) (omega (arith, room .arrays .numbers-whole)) (omega (arith, room .arrays .numbers-whole))
             (λ r h. kept _ (holds .all-found r h) .1) found-here);
         first-below = rw are below;
         first-has = rw are has;
         begin-flags =
             extended done f (λ e x y. x ≡ e .begins) (l .begins) (l .begins) (f .begins) (f .begins) (l .regions) (holds .count)
-            (omega (arith, room .begins-whole)) (omega (arith, room .begins-whole)) (holds .begin-flags) refl;
+            (omega (arith, room .arrays .begins-whole)) (omega (arith, room .arrays .begins-whole)) (holds .begin-flags) refl;
         follow-flags =
             extended done f (λ e x y. x ≡ e .goesOn) (l .«goes_on») (l .«goes_on») (f .goesOn) (f .goesOn) (l .regions) (holds .count)
-            (omega (arith, room .goes-on-whole)) (omega (arith, room .goes-on-whole)) (holds .follow-flags) refl;
+            (omega (arith, room .arrays .goes-on-whole)) (omega (arith, room .arrays .goes-on-whole)) (holds .follow-flags) refl;
       }
 
   -- a region before keeps its place
@@ -166,7 +166,7 @@ module _ (ls : List Lexeme) (done : List Flagged) (f : Flagged) (l : Layout) (ro
       let longer = length-append (found done) (c ∷ []) in
       let outside : length (found done) ≤ placeIn c (found done) = omega arith in
       let few = room .few-guards in
-      let whole = room .firsts-whole in
+      let whole = room .arrays .firsts-whole in
       let regions-are = holds .count in
       let room-there : l .guards < length (l .firsts) = omega arith in
       grown (found done ++ (c ∷ [])) (last-new done f outside)
@@ -197,6 +197,33 @@ module _ (ls : List Lexeme) (done : List Flagged) (f : Flagged) (l : Layout) (ro
 abbrev pub Numbered : Layout → ℕ → Layout → Type 0
 Numbered l n k = ((n ≡ l .guards) × (k ≡ withGuard l)) ⊎ ((n ≡ l .guards → ⊥) × (k ≡ l))
 
+guard-arrays : (l : Layout) → Arrays l → Arrays (withGuard l)
+guard-arrays l a =
+    record {
+      guards-whole = a .guards-whole;
+      bodies-whole = a .bodies-whole;
+      numbers-whole = a .numbers-whole;
+      begins-whole = a .begins-whole;
+      goes-on-whole = a .goes-on-whole;
+      firsts-whole = length-set (l .firsts) (l .guards) (l .regions) ∙ a .firsts-whole;
+    }
+
+room-region : (l : Layout) → Arrays l → l .regions < 16 → l .guards ≤ l .regions + 1 → (guard-at body-at number begins goes-on : ℕ)
+    → Room (withRegion l guard-at body-at number begins goes-on)
+room-region l a low few guard-at body-at number begins goes-on =
+    record {
+      few-regions = omega arith;
+      few-guards = few;
+      arrays = record {
+        guards-whole = length-set (l .«guards_at») (l .regions) guard-at ∙ a .guards-whole;
+        bodies-whole = length-set (l .«bodies_at») (l .regions) body-at ∙ a .bodies-whole;
+        numbers-whole = length-set (l .«guard_of») (l .regions) number ∙ a .numbers-whole;
+        begins-whole = length-set (l .begins) (l .regions) begins ∙ a .begins-whole;
+        goes-on-whole = length-set (l .«goes_on») (l .regions) goes-on ∙ a .goes-on-whole;
+        firsts-whole = a .firsts-whole;
+      };
+    }
+
 module _ (l k : Layout) (n : ℕ) (numbered : Numbered l n k) where
   pub numbered-same : (k .regions ≡ l .regions) × (k .keep ≡ l .keep)
   numbered-same = ⊎-elim (λ w. rw (w .1) (refl, refl)) (λ w. rw (w .1) (refl, refl)) numbered
@@ -206,26 +233,8 @@ module _ (l k : Layout) (n : ℕ) (numbered : Numbered l n k) where
   numbered-room room low guard-at body-at number begins goes-on =
       let few = room .few-guards in
       ⊎-elim
-      (λ w. rw (w .1) (record {
-        few-regions = omega arith;
-        few-guards = omega arith;
-        guards-whole = length-set (l .«guards_at») (l .regions) guard-at ∙ room .guards-whole;
-        bodies-whole = length-set (l .«bodies_at») (l .regions) body-at ∙ room .bodies-whole;
-        numbers-whole = length-set (l .«guard_of») (l .regions) number ∙ room .numbers-whole;
-        begins-whole = length-set (l .begins) (l .regions) begins ∙ room .begins-whole;
-        goes-on-whole = length-set (l .«goes_on») (l .regions) goes-on ∙ room .goes-on-whole;
-        firsts-whole = length-set (l .firsts) (l .guards) (l .regions) ∙ room .firsts-whole;
-      }))
-      (λ w. rw (w .1) (record {
-        few-regions = omega arith;
-        few-guards = omega arith;
-        guards-whole = length-set (l .«guards_at») (l .regions) guard-at ∙ room .guards-whole;
-        bodies-whole = length-set (l .«bodies_at») (l .regions) body-at ∙ room .bodies-whole;
-        numbers-whole = length-set (l .«guard_of») (l .regions) number ∙ room .numbers-whole;
-        begins-whole = length-set (l .begins) (l .regions) begins ∙ room .begins-whole;
-        goes-on-whole = length-set (l .«goes_on») (l .regions) goes-on ∙ room .goes-on-whole;
-        firsts-whole = room .firsts-whole;
-      }))
+      (λ w. rw (w .1) (room-region (withGuard l) (guard-arrays l (room .arrays)) low (omega arith) guard-at body-at number begins goes-on))
+      (λ w. rw (w .1) (room-region l (room .arrays) low (omega arith) guard-at body-at number begins goes-on))
       numbered
 
   pub numbered-holds : (ls : List Lexeme) (done : List Flagged) (f : Flagged) → Room l → Holds ls done l → l .regions < 16

@@ -76,16 +76,20 @@ found done = guardsOf [] (parts done)
 unfoldable pub flagAt : List ℕ → ℕ → ℕ
 flagAt kinds at = bit (eqb (getD kinds at 255) 24)
 
--- The layout's arrays are whole, and it has at most sixteen regions, and no more guards
-pub record Room (l : Layout) : Type 0 where
-  pub few-regions : l .regions ≤ 16
-  pub few-guards : l .guards ≤ l .regions
+-- The layout's arrays are whole
+pub record Arrays (l : Layout) : Type 0 where
   pub guards-whole : length (l .«guards_at») ≡ 16
   pub bodies-whole : length (l .«bodies_at») ≡ 16
   pub numbers-whole : length (l .«guard_of») ≡ 16
   pub begins-whole : length (l .begins) ≡ 16
   pub goes-on-whole : length (l .«goes_on») ≡ 16
   pub firsts-whole : length (l .firsts) ≡ 16
+
+-- and it has at most sixteen regions, and no more guards
+pub record Room (l : Layout) : Type 0 where
+  pub few-regions : l .regions ≤ 16
+  pub few-guards : l .guards ≤ l .regions
+  pub arrays : Arrays l
 
 -- a layout holds these regions
 pub record Holds (ls : List Lexeme) (done : List Flagged) (l : Layout) : Type 0 where
