@@ -76,7 +76,7 @@ pub data Refusal (file : List ℕ) : Answer → Type 0 where
   too-long : 8192 < length file → Refusal file (answer 1 0 0)
   -- "first byte that begins no token, or begins a word or number that is too long"
   no-token : {k : ℕ} → length file ≤ 8192 → Stops k 0 file → Refusal file (answer 2 k 0)
-  -- "first token that is past the 1,024th, or is a ( or { that makes opened less closed exceed 12"
+  -- "first token that is past the 1,024th, or is a ( or { that makes opened less closed (both kinds together) exceed 12"
   too-many : {ts : List Token} {k : ℕ} → Past2 file ts → FirstOffends Crowded ts k → Refusal file (answer 3 k 0)
   -- "first token after which no file of the grammar can follow; the length if the file ends early"
   no-file : {ts : List Token} {k : ℕ} → Past3 file ts → FirstOffends NoFile ts k → Refusal file (answer 4 k 0)

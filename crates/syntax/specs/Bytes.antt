@@ -15,7 +15,7 @@ bytes (text._∷_ c s) = code c ∷ bytes s
 unfoldable pub between : Char → Char → ℕ → Bool
 between a z b = leb (code a) b && leb b (code z)
 
--- "free between tokens": 09, 0A, 0D, 20
+-- the bytes that stand free between tokens: 09, 0A, 0D, 20
 unfoldable pub blank : ℕ → Bool
 blank b = eqb b 9 || eqb b 10 || eqb b 13 || eqb b 32
 
