@@ -1,0 +1,86 @@
+-- `lines::put_places` meets its contract. The invariant: the digits of the threads passed are written. Assumes nothing.
+use Prim.Native.Nat.{_-_, _≤_}
+use native.Mathlib.Omega.{arith}
+use mathlib.Core.Path.{_≡_}
+use Rattle.meaning.specs.Model.{forEach}
+use Rattle.stepper.specs.Shown.{idleThread}
+use Rattle.stepper.specs.Slices.{placesOf}
+use Rattle.lines.specs.Written.{Writes, placeAt, placesAt}
+use Rattle.lines.proofs.Laws.{written-none, place-two, turn-place, turn-length, turn}
+use Rattle.lines.proofs.put_places.Statement.{statement}
+use Rattle.lines.proofs.put_places.Tie as tie
+
+abbrev Inv-loop : tie.InvT-loop
+Inv-loop out₀ at threads to₀ t₀ out to t = Writes (placesAt threads t) out₀ at to out × (t ≤ 16)
+
+abbrev μ-loop : tie.MeasureT-loop
+μ-loop out₀ at threads to₀ t₀ out to t = 16 - t
+
+loop-holds : tie.Need-loop-holds Inv-loop μ-loop
+unfolding placesAt forEach
+loop-holds c = (written-none _ _, omega arith)
+
+mul-thread : tie.Need-mul-thread Inv-loop μ-loop
+mul-thread c = omega arith
+
+array-copy-out-thread : tie.Need-array-copy-out-thread Inv-loop μ-loop
+array-copy-out-thread c = omega arith
+
+place-byte-requires : tie.Need-place-byte-requires Inv-loop μ-loop
+place-byte-requires c κs = tt
+
+put2-requires : tie.Need-put2-requires Inv-loop μ-loop
+unfolding placesAt
+put2-requires c κs =
+    let q = c .before .before .before .before in
+    let a = q .before .before .args in
+    let f = placeAt (a .t3) in
+    let p = turn-place 16 f (place-two (a .t3)) (q .before .before .pre) (q .loop .t) (q .loop .inv .0) in
+    let l = turn-length 16 f (place-two (a .t3)) (q .before .before .pre) (q .loop .t) (q .loop .inv .0) (q .loop .inv .1) in
+    omega arith
+
+add-t : tie.Need-add-t Inv-loop μ-loop
+add-t c = omega arith
+
+loop-less : tie.Need-loop-less Inv-loop μ-loop
+loop-less c = omega arith
+
+loop-again : tie.Need-loop-again Inv-loop μ-loop
+unfolding placesAt placeAt placesOf idleThread
+loop-again c =
+    let w = c .before .before in
+    let q = w .before .before .before .before .before in
+    let a = q .before .before .args in (
+      turn 16 (placeAt (a .t3)) (place-two (a .t3)) (q .before .before .pre) (q .loop .t) (q .loop .inv .0)
+          (w .before .before .before .before .loop-test .taken) (rw (w .before .place-byte .ensures) at (w .put2 .ensures)),
+      omega arith,
+    )
+
+same-length : tie.Need-same-length Inv-loop μ-loop
+unfolding placesAt
+same-length c =
+    let q = c .before in
+    let a = q .before .before .args in
+    turn-length 16 (placeAt (a .t3)) (place-two (a .t3)) (q .before .before .pre) (q .loop .t) (q .loop .inv .0) (q .loop .inv .1)
+
+returns : tie.Need-returns Inv-loop μ-loop
+returns c =
+    let e : c .before .loop .t ≡ 16 = omega arith in
+    rw e at (c .before .loop .inv .0)
+
+pub put-places-spec : {M : Type 1} → statement M
+put-places-spec =
+    tie.close
+    (tie.spec
+    Inv-loop
+    μ-loop
+    loop-holds
+    mul-thread
+    array-copy-out-thread
+    place-byte-requires
+    put2-requires
+    add-t
+    loop-less
+    loop-again
+    same-length
+    returns)

@@ -1,0 +1,84 @@
+-- `lines::put_values` meets its contract. The invariant: the digits of the values passed are written. Assumes nothing.
+use Prim.Native.Nat.{_-_, _≤_}
+use native.Mathlib.Omega.{arith}
+use mathlib.Core.Path.{_≡_}
+use Rattle.meaning.specs.Model.{forEach}
+use Rattle.lines.specs.Written.{Writes, valueAt, valuesAt}
+use Rattle.lines.proofs.Laws.{written-none, value-two, turn-place, turn-length, turn}
+use Rattle.lines.proofs.put_values.Statement.{statement}
+use Rattle.lines.proofs.put_values.Tie as tie
+
+abbrev Inv-loop : tie.InvT-loop
+Inv-loop out₀ at vars values to₀ k₀ out to k = Writes (valuesAt values k) out₀ at to out × (k ≤ vars)
+
+abbrev μ-loop : tie.MeasureT-loop
+μ-loop out₀ at vars values to₀ k₀ out to k = vars - k
+
+loop-holds : tie.Need-loop-holds Inv-loop μ-loop
+unfolding valuesAt forEach
+loop-holds c = (written-none _ _, omega arith)
+
+mul-value : tie.Need-mul-value Inv-loop μ-loop
+mul-value c = omega arith
+
+array-read-value : tie.Need-array-read-value Inv-loop μ-loop
+array-read-value c = omega arith
+
+value-byte-requires : tie.Need-value-byte-requires Inv-loop μ-loop
+value-byte-requires c κs = tt
+
+put2-requires : tie.Need-put2-requires Inv-loop μ-loop
+unfolding valuesAt
+put2-requires c κs =
+    let q = c .before .before .before in
+    let a = q .before .before .args in
+    let f = valueAt (a .t4) in
+    let p = turn-place (a .vars) f (value-two (a .t4)) (q .before .before .pre .1) (q .loop .k) (q .loop .inv .0) in
+    let l = turn-length (a .vars) f (value-two (a .t4)) (q .before .before .pre .1) (q .loop .k) (q .loop .inv .0) (q .loop .inv .1) in
+    omega arith
+
+add-k : tie.Need-add-k Inv-loop μ-loop
+add-k c = omega arith
+
+loop-less : tie.Need-loop-less Inv-loop μ-loop
+loop-less c = omega arith
+
+loop-again : tie.Need-loop-again Inv-loop μ-loop
+unfolding valuesAt valueAt
+loop-again c =
+    let w = c .before .before in
+    let q = w .before .before .before .before in
+    let a = q .before .before .args in (
+      turn (a .vars) (valueAt (a .t4)) (value-two (a .t4)) (q .before .before .pre .1) (q .loop .k) (q .loop .inv .0)
+          (w .before .before .before .loop-test .taken) (rw (w .before .value-byte .ensures) at (w .put2 .ensures)),
+      omega arith,
+    )
+
+same-length : tie.Need-same-length Inv-loop μ-loop
+unfolding valuesAt
+same-length c =
+    let q = c .before in
+    let a = q .before .before .args in
+    turn-length (a .vars) (valueAt (a .t4)) (value-two (a .t4)) (q .before .before .pre .1) (q .loop .k) (q .loop .inv .0) (q .loop .inv .1)
+
+returns : tie.Need-returns Inv-loop μ-loop
+returns c =
+    let e : c .before .loop .k ≡ c .before .before .before .args .vars = omega arith in
+    rw e at (c .before .loop .inv .0)
+
+pub put-values-spec : {M : Type 1} → statement M
+put-values-spec =
+    tie.close
+    (tie.spec
+    Inv-loop
+    μ-loop
+    loop-holds
+    mul-value
+    array-read-value
+    value-byte-requires
+    put2-requires
+    add-k
+    loop-less
+    loop-again
+    same-length
+    returns)

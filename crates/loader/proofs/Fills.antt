@@ -1,0 +1,97 @@
+-- What filling the slices says, by its answer; and where guards and bodies stand, as the tables ask it. Assumes nothing.
+use Prim.Native.Nat.{ℕ, _%_, _≤_, _<_}
+use native.Mathlib.Omega.{arith}
+use mathlib.Core.Path.{_≡_, refl, sym, ap, _∙_}
+use mathlib.Core.Bool.{Bool, true, false, not}
+use mathlib.Core.List.{List}
+use mathlib.Core.Option.{Option, none, some}
+use lib.ListN.{length, getD}
+use Rattle.syntax.specs.Token.{Lexeme}
+use Rattle.syntax.specs.Tree.{Monitor}
+use Rattle.meaning.specs.Bools.{clash}
+use Rattle.meaning.specs.Same.{different}
+use Rattle.meaning.specs.Value.{truth}
+use Rattle.meaning.specs.State.{starts}
+use Rattle.meaning.specs.Check.{broken}
+use Rattle.meaning.specs.Model.{vars, regions, guards}
+use Rattle.variables.specs.declared.Bounds.{Bounds}
+use Rattle.layout.specs.declared.Layout.{Layout}
+use Rattle.tables.specs.Rows.{GuardsAt, BodiesAt, GuardNumbers, KeptAll, HoldsAll, AfterAll, AfterAs}
+use Rattle.tables.specs.HeldLaws.{guards-few}
+use Rattle.tables.specs.declared.Broken.{Broken}
+use Rattle.tables.specs.declared.Broken.the-variants.{Never, At}
+use Rattle.answers.specs.declared.Answer.{Answer}
+use Rattle.loading.specs.Guarded.{guards-stand}
+use Rattle.loader.specs.Filling.{Filling, Filled}
+
+module _ {m : Monitor} {ls : List Lexeme} {kinds values : List ℕ} {b : Bounds} {l : Layout} (f : Filling m ls kinds values b l) where
+  pub few-guards : length (guards m) ≤ 16
+  few-guards = omega (arith, guards-few m, f .few-regions)
+
+  pub guards-of : (ats : List ℕ) → ((g : ℕ) → g < 16 → getD ats g 0 ≡ getD (l .«guards_at») (getD (l .firsts) g 0 % 16) 0) → GuardsAt m ls ats
+  unfolding GuardsAt
+  guards-of ats e =
+      guards-stand m ls ats (l .firsts) (l .«guards_at») (f .laid .first-below) (f .laid .first-has)
+      (λ r h. let q = f .laid .regions-stand r h in (q .behind-guard, q .guard-stands))
+      (λ g h. let low = f .laid .first-below g h in
+      let small : getD (l .firsts) g 0 % 16 ≡ getD (l .firsts) g 0 = omega (arith, f .few-regions) in
+      e g (omega (arith, few-guards)) ∙ ap (λ (k : ℕ). getD (l .«guards_at») k 0) small)
+
+  pub bodies-of : BodiesAt m ls (l .«bodies_at»)
+  unfolding BodiesAt
+  bodies-of r h = let q = f .laid .regions-stand r h in (q .behind-body, q .body-stands)
+
+  pub numbers-of : GuardNumbers m (l .«guard_of»)
+  unfolding GuardNumbers
+  numbers-of = f .laid .guard-numbers
+
+-- a test that fails
+pub failed : {b : Bool} → not b ≡ false → b ≡ true
+failed {b = true} h = refl
+failed {b = false} h = clash refl h
+
+-- the answer for refusal 9, read backwards
+stopped : (m : Monitor) (o : Option (ℕ × ℕ)) (rows : List ℕ) {x : Broken} {k n : ℕ} → AfterAs m x o rows → x ≡ At k n → o ≡ some (k, n)
+unfolding AfterAs
+stopped m none rows a e = let z = a .0 in different (cc)
+stopped m (some (i, j)) rows a e = cc
+
+passed : (m : Monitor) (o : Option (ℕ × ℕ)) (rows : List ℕ) {x : Broken} → AfterAs m x o rows → x ≡ Never → (o ≡ none) × AfterAll m rows
+unfolding AfterAs
+passed m none rows a e = (refl, a .1)
+passed m (some q) rows a e = different (cc)
+
+module _ (m : Monitor) (place : ℕ) (r : Answer) (kept holds after : List ℕ) {t : Bool}
+    (is : t ≡ truth (m .keep) (vars m) (starts (vars m))) where
+  -- 8
+  pub filled-8 : t ≡ false → (r .number ≡ 8) × (r .first ≡ place) × (r .second ≡ 0) → Filled m place r kept holds after
+  filled-8 off (a, b, c) =
+      record {
+        fails = λ _. record { number = a; first = b; second = c };
+        breaks = λ on k n e. clash on (sym is ∙ off);
+        passes = λ on e. clash on (sym is ∙ off);
+      }
+
+  module _ (on : t ≡ true) {x : Broken} (a : AfterAs m x (broken (vars m) (m .keep) 0 (regions m)) after) where
+    -- 9
+    pub filled-9 : (k n : ℕ) → x ≡ At k n → (r .number ≡ 9) × (r .first ≡ k) × (r .second ≡ n) → Filled m place r kept holds after
+    filled-9 k n e (p, q, s) =
+        let stops = stopped m (broken (vars m) (m .keep) 0 (regions m)) after a e in
+        record {
+          fails = λ off. clash on (is ∙ off);
+          breaks = λ _ i j h.
+              let same : _≡_ {A = ℕ × ℕ} (k, n) (i, j) = cc in
+              record { number = p; first = q ∙ ap (λ (x : ℕ × ℕ). x .0) same; second = s ∙ ap (λ (x : ℕ × ℕ). x .1) same };
+          passes = λ _ h. different (cc);
+        }
+
+    -- 0
+    pub filled-0 : x ≡ Never → KeptAll m kept → HoldsAll m holds → (r .number ≡ 0) × (r .first ≡ 0) × (r .second ≡ 0)
+        → Filled m place r kept holds after
+    filled-0 e by-kept by-holds (p, q, s) =
+        let (none-stops, by-after) = passed m (broken (vars m) (m .keep) 0 (regions m)) after a e in
+        record {
+          fails = λ off. clash on (is ∙ off);
+          breaks = λ _ i j h. different (cc);
+          passes = λ _ _. (record { number = p; first = q; second = s }, by-kept, by-holds, by-after);
+        }

@@ -1,0 +1,161 @@
+-- What a loaded file says of its check: of a refused one nothing more, of an accepted one all that the slices hold. Assumes nothing.
+use Prim.Native.Nat.{ℕ, zero, suc, _≤_}
+use native.Mathlib.Omega.{arith}
+use mathlib.Core.Path.{_≡_, refl, sym, subst, ap, _∙_}
+use mathlib.Core.Bool.{true}
+use mathlib.Core.List.{List, [], _∷_, map}
+use mathlib.Core.Option.{Option, none, some}
+use lib.ListN.{length, take, getD, length-map}
+use Rattle.syntax.specs.Token.{Token, lexemes}
+use Rattle.syntax.specs.Tree.{Monitor}
+use Rattle.syntax.specs.Kind.{Words}
+use Rattle.meaning.specs.Bools.{split}
+use Rattle.meaning.specs.Same.{different}
+use Rattle.meaning.specs.Value.{truth}
+use Rattle.meaning.specs.State.{starts}
+use Rattle.meaning.specs.Check.{Answer, answer, accepted, refused, broken, check}
+use Rattle.meaning.specs.Model.{vars, regions}
+use Rattle.meaning.specs.Sizes.{Sizes}
+use Rattle.meaning.specs.Verdicts.{accepted-iff}
+use Rattle.passes.specs.Tokens.{Resolved}
+use Rattle.layout.specs.Laid.{Kinds, IsKeep, Laid, Linked}
+use Rattle.layout.specs.declared.Layout.{Layout}
+use Rattle.tables.specs.HeldLaws.{held}
+use Rattle.answers.specs.Says.{Says, Is, answerOf}
+use Rattle.answers.specs.declared.Answer as code
+use Rattle.loading.specs.Held.{lexemes-length}
+use Rattle.loading.specs.Judged.{kinds-of, says-8, says-9, says-0}
+use Rattle.loading.specs.Limited.{few-tokens, few-parts}
+use Rattle.loading.specs.Named.{codes}
+use Rattle.loading.specs.Placed.{keep-stands}
+use Rattle.loading.specs.Flagged.{held-places}
+use Rattle.loader.specs.Loading.{Past7, JudgedBy, Judges, Monitored, Loads}
+use Rattle.loader.specs.Filling.{Filling, Filled}
+use Rattle.loader.specs.declared.Judged.{Judged}
+use Rattle.loader.specs.declared.Loaded.{Loaded}
+use Rattle.loader.proofs.Fills.{numbers-of}
+
+-- as many elements as tokens were taken, so there are as many
+pub taken : (f : Token → ℕ) (ts : List Token) (n : ℕ) (xs : List ℕ) → n ≡ length ts → take n xs ≡ map f ts → n ≡ length (take n xs)
+taken f ts n xs e t = rw (t, length-map) e
+
+short : (n : ℕ) (xs : List ℕ) → length (take n xs) ≤ length xs
+short zero xs = omega arith
+short (suc n) [] = omega arith
+short (suc n) (x ∷ xs) = omega (arith, short n xs)
+
+pub room : (n : ℕ) (xs : List ℕ) → n ≡ length (take n xs) → n ≤ length xs
+room n xs e = omega (arith, short n xs)
+
+-- an answer other than 0 is that of no accepted file
+loads-refused : (file : List ℕ) (l : Loaded) (kept holds after : List ℕ) → (l .answer .number ≡ 0 → ⊥) → Is (l .answer) (check file)
+    → Loads file l kept holds after
+unfolding Is answerOf
+loads-refused file l kept holds after other is =
+    record { verdict = is; monitored = λ m e. absurd (other (rw e at (is .number))) }
+
+is-refused : (file : List ℕ) {r : code.Answer} {a : Answer} → check file ≡ refused a → Says r a → Is r (check file)
+unfolding Is answerOf
+is-refused file e s = rw e s
+
+-- 1 and 2
+pub loads-said : (file : List ℕ) (l : Loaded) (kept holds after : List ℕ) {r : code.Answer} (n : ℕ) {k : ℕ} → l .answer ≡ r
+    → (r .number ≡ suc n) × (r .first ≡ k) × (r .second ≡ 0) → check file ≡ refused (answer (suc n) k 0) → Loads file l kept holds after
+loads-said file l kept holds after n same (a, b, c) e =
+    loads-refused file l kept holds after (λ z. omega (arith, ap (λ (x : code.Answer). x .number) same))
+    (subst (λ (x : code.Answer). Is x (check file)) (sym same) (is-refused file e (record { number = a; first = b; second = c })))
+
+-- the answer of 3 to 7
+module _ (file : List ℕ) (ts : List Token) (j : Judged) where
+  judged-other : (j .answer .number ≡ 0 → ⊥) → Judges file ts j → Is (j .answer) (check file)
+  unfolding Judges JudgedBy
+  judged-other other q = go (j .answer .number) other q
+    where
+      go : (n : ℕ) → (n ≡ 0 → ⊥) → JudgedBy n file ts j → Is (j .answer) (check file)
+      go zero other q = absurd (other refl)
+      go (suc n) other q = q
+
+  pub loads-judged : (l : Loaded) (kept holds after : List ℕ) → l .answer ≡ j .answer → (j .answer .number ≡ 0 → ⊥) → Judges file ts j
+      → Loads file l kept holds after
+  loads-judged l kept holds after same other q =
+      loads-refused file l kept holds after (λ z. other (ap (λ (x : code.Answer). x .number) (sym same) ∙ z))
+      (subst (λ (x : code.Answer). Is x (check file)) (sym same) (judged-other other q))
+
+  pub judged-tree : j .answer .number ≡ 0 → Judges file ts j → (m : Monitor) × Past7 ts m j
+  unfolding Judges JudgedBy
+  judged-tree e q = subst (λ (n : ℕ). JudgedBy n file ts j) e q
+
+module _ {file : List ℕ} {ts : List Token} {kinds values places : List ℕ} (w : Words file ts kinds values places) (m : Monitor) (j : Judged)
+    (p : Past7 ts m j) where
+  pub sizes : Sizes m
+  sizes = few-parts ts m (p .grammar) (p .counts)
+
+  pub few : length ts ≤ 1024
+  few = few-tokens ts (p .uncrowded)
+
+  pub is-keep : IsKeep m ts (j .keep)
+  unfolding IsKeep
+  is-keep = keep-stands ts m (p .grammar) (j .keep) (p .keep-stands)
+
+  pub few-lexemes : length (lexemes ts) ≤ 1024
+  few-lexemes = omega (arith, few, lexemes-length ts)
+
+  pub kinds-held : Kinds (lexemes ts) kinds
+  unfolding Kinds
+  kinds-held = kinds-of w
+
+  pub resolved-long : (resolved : List ℕ) → Resolved ts resolved → length resolved ≡ length (lexemes ts)
+  unfolding Resolved
+  resolved-long resolved r = rw (r, length-map, lexemes-length)
+
+  -- names and braces resolved
+  pub filling : (l : Layout) (resolved linked : List ℕ) → Laid m (lexemes ts) l → Resolved ts resolved
+      → Linked (lexemes ts) resolved linked → Filling m (lexemes ts) kinds linked (j .bounds) l
+  filling l resolved linked laid r k =
+      record {
+        codes = codes m resolved linked (p .grammar) w r (k .as-long) (k .others) (k .linked);
+        bounded = p .bounded;
+        laid = laid;
+        few = omega (arith, few-lexemes);
+        few-regions = sizes .regions;
+      }
+
+  module _ (l : Layout) (a : code.Answer) (kept holds after : List ℕ) {linked : List ℕ}
+      (f : Filling m (lexemes ts) kinds linked (j .bounds) l) {place : ℕ} (at-keep : place ≡ getD places (j .keep) 0)
+      (filled : Filled m place a kept holds after) where
+    abbrev loaded : Loaded
+    loaded = record { answer = a; bounds = j .bounds; layout = l }
+
+    refuses : {v : Answer} → check file ≡ refused v → Says a v → Loads file loaded kept holds after
+    refuses e s = record { verdict = is-refused file e s; monitored = λ n h. different (cc) }
+
+    accepts : truth (m .keep) (vars m) (starts (vars m)) ≡ true → broken (vars m) (m .keep) 0 (regions m) ≡ none
+        → check file ≡ accepted m → Loads file loaded kept holds after
+    unfolding Is answerOf
+    accepts on none-breaks e =
+        let (says, by-kept, by-holds, by-after) = filled .passes on none-breaks in
+        record {
+          verdict = rw e says;
+          monitored = λ n h.
+              let same : m ≡ n = cc in
+              subst (λ (x : Monitor). Monitored x loaded kept holds after) same (record {
+                bounded = p .bounded;
+                held = held m (accepted-iff file m .0 e .sound) (sizes .regions) by-kept by-holds by-after (numbers-of f);
+                held-places = held-places m (f .laid .begin-flags) (f .laid .follow-flags);
+                region-count = f .laid .region-count;
+                guard-count = f .laid .guard-count;
+              });
+        }
+
+    pub loads : Loads file loaded kept holds after
+    unfolding regions
+    loads =
+        split (truth (m .keep) (vars m) (starts (vars m))) (λ on. go on (broken (vars m) (m .keep) 0 (regions m)) refl)
+        (λ off. refuses (says-8 w (p .uncrowded) m (p .grammar) (p .counts) (p .names) (p .ranges) (j .keep) (p .keep-stands) off)
+        (rw at-keep at (filled .fails off)))
+      where
+        go : truth (m .keep) (vars m) (starts (vars m)) ≡ true → (o : Option (ℕ × ℕ)) → broken (vars m) (m .keep) 0 (regions m) ≡ o
+            → Loads file loaded kept holds after
+        go on (some (k, n)) e =
+            refuses (says-9 w (p .uncrowded) m (p .grammar) (p .counts) (p .names) (p .ranges) on e) (filled .breaks on k n e)
+        go on none e = accepts on e (says-0 w (p .uncrowded) m (p .grammar) (p .counts) (p .names) (p .ranges) on e)

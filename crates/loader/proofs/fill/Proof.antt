@@ -1,0 +1,110 @@
+-- `loader::fill` meets its contract: 8 by the kept condition's truth at the start, 9 by what `fill_after` answers, and the slices as the tables leave them. Assumes nothing.
+use Prim.Native.Nat.{_≤_}
+use native.Mathlib.Omega.{arith}
+use mathlib.Core.Path.{_≡_}
+use mathlib.Core.List.{List, _∷_}
+use lib.ListN.{length}
+use denote.Ref.{now}
+use borrow.Author.Needs.{needs}
+use Rattle.syntax.specs.Token.{Lexeme, mark, semicolon}
+use Rattle.syntax.specs.Tree.{Monitor}
+use Rattle.meaning.specs.Bools.{not-true}
+use Rattle.meaning.specs.Value.{truth}
+use Rattle.meaning.specs.State.{starts}
+use Rattle.meaning.specs.Check.{broken}
+use Rattle.meaning.specs.Model.{vars, regions}
+use Rattle.tables.specs.Rows.{KeptAll, HoldsAll, AfterAs}
+use Rattle.tables.specs.HeldLaws.{kept-of-row}
+use Rattle.loading.specs.Limited.{ends-kept}
+use Rattle.loader.specs.Filling.{Filling}
+use Rattle.loader.proofs.Fills.{few-guards, guards-of, bodies-of, numbers-of, failed, filled-8, filled-9, filled-0}
+use Rattle.loader.proofs.fill.Statement.{statement}
+use Rattle.loader.proofs.fill.Tie as tie
+
+-- what the function is given, where the kept condition has been evaluated
+abbrev Given : tie.After-holds → Monitor → List Lexeme → Type 0
+Given c m ls =
+    let a = c .before .before .before .before .before .before .before .args in
+    Filling m ls (now (a .kinds)) (now (a .values)) (a .bounds) (a .layout)
+
+holds-at-start : (c : tie.After-holds) {m : Monitor} {ls : List Lexeme} → Given c m ls
+    → c .holds .result ≡ truth (m .keep) (vars m) (starts (vars m))
+holds-at-start c {m} {ls} f =
+    c .holds .ensures (vars m) (starts (vars m)) ls (mark semicolon ∷ f .laid .behind-keep) (m .keep) (f .codes) (f .bounded .start-values)
+    (f .laid .keep-stands) (ends-kept (f .laid .behind-keep)) (omega (arith, f .few))
+
+-- where the slices have been filled
+abbrev At : Type 0
+At = tie.After-slice-known6
+
+abbrev row-of : At → tie.After-fill-row
+row-of c = c .before .before .before .before .before .before .before .before .before .before .before .before .before .before .before
+
+abbrev holds-of : At → tie.After-fill-holds
+holds-of c = c .before .before .before .before .before .before .before .before .before .before
+
+abbrev start-of : At → tie.After-holds
+start-of c = row-of c .before .before .before
+
+abbrev entry-of : At → tie.Start
+entry-of c = start-of c .before .before .before .before .before .before .before
+
+module _ (c : At) {m : Monitor} {ls : List Lexeme} (f : Given (start-of c) m ls) (l₁ : 4096 ≤ length (now (entry-of c .args .kept)))
+    (l₂ : 65536 ≤ length (now (entry-of c .args .holds))) (l₃ : 65536 ≤ length (now (entry-of c .args .after))) where
+  by-kept : KeptAll m (row-of c .fill-row .last .1 .1 .1 .1 .0)
+  by-kept =
+      kept-of-row m (row-of c .fill-row .last .1 .1 .1 .1 .0)
+      (row-of c .fill-row .ensures (vars m) ls (mark semicolon ∷ f .laid .behind-keep) (m .keep) (f .codes) (f .bounded)
+      (f .laid .keep-stands) (ends-kept (f .laid .behind-keep)) (f .few) l₁)
+
+  by-holds : HoldsAll m (holds-of c .fill-holds .last .1 .1 .1 .1 .1 .0)
+  by-holds =
+      holds-of c .fill-holds .ensures m ls (f .codes) (f .bounded) (f .few) (f .laid .guard-count)
+      (omega (arith, few-guards f, f .laid .guard-count)) (guards-of f _ (holds-of c .before .before .guards-at .ensures)) l₂
+
+  by-after : AfterAs m (c .before .before .fill-after .result) (broken (vars m) (m .keep) 0 (regions m))
+      (c .before .before .fill-after .last .1 .1 .1 .1 .1 .1 .1 .1 .0)
+  by-after =
+      c .before .before .fill-after .ensures m ls (f .codes) (f .bounded) (f .few) (f .laid .region-count)
+      (omega (arith, f .few-regions, f .laid .region-count)) (bodies-of f) (numbers-of f)
+      (omega (arith, row-of c .fill-row .kept .1 .1 .1 .1 .0)) (omega (arith, holds-of c .fill-holds .kept .1 .1 .1 .1 .1 .0)) l₃ by-kept by-holds
+
+returns : tie.Need-returns
+returns c m ls f l₁ l₂ l₃ =
+    let h = c .before .before in
+    filled-8 m _ _ _ _ _ (holds-at-start h f) (not-true (c .before .if1 .taken)) (c .say .ensures)
+
+returns-2 : tie.Need-returns-2
+returns-2 c m ls f l₁ l₂ l₃ =
+    let g = c .before .before .before .before in
+    filled-9 m _ _ _ _ _ (holds-at-start (start-of g) f) (failed (row-of g .before .before .if1 .left)) (by-after g f l₁ l₂ l₃) _ _ (c .before .before .r .given .1) (c .say2 .ensures)
+
+returns-3 : tie.Need-returns-3
+returns-3 c m ls f l₁ l₂ l₃ =
+    let g = c .before .before .before in
+    filled-0 m _ _ _ _ _ (holds-at-start (start-of g) f) (failed (row-of g .before .before .if1 .left)) (by-after g f l₁ l₂ l₃) (c .before .enum-told .given .1) (by-kept g f l₁ l₂ l₃)
+    (by-holds g f l₁ l₂ l₃) (c .say3 .ensures)
+
+pub fill-spec : {M : Type 1} → statement M
+fill-spec =
+    tie.close
+    (tie.spec
+    (λ c κs. search needs)
+    (λ c κs. search needs)
+    returns
+    (λ c κs. search needs)
+    (λ c κs. search needs)
+    (λ c κs. search needs)
+    (λ c κs. search needs)
+    (λ c. search needs)
+    (λ c κs. search needs)
+    (λ c. search needs)
+    (λ c κs. search needs)
+    (λ c. search needs)
+    (λ c. search needs)
+    (λ c. search needs)
+    returns-2
+    (λ c. search needs)
+    (λ c. search needs)
+    (λ c. search needs)
+    returns-3)

@@ -1,0 +1,36 @@
+-- What is known of a file whose names and braces are resolved, and what filling the slices from it says: refusals 8 and 9.
+use Prim.Native.Nat.{ℕ, _≤_}
+use mathlib.Core.Path.{_≡_}
+use mathlib.Core.Bool.{true, false}
+use mathlib.Core.List.{List}
+use mathlib.Core.Option.{none, some}
+use lib.ListN.{length}
+use Rattle.syntax.specs.Token.{Lexeme}
+use Rattle.syntax.specs.Tree.{Monitor}
+use Rattle.meaning.specs.Value.{truth}
+use Rattle.meaning.specs.State.{starts}
+use Rattle.meaning.specs.Check.{answer, broken}
+use Rattle.meaning.specs.Model.{vars, regions}
+use Rattle.evaluator.specs.Coding.{Codes}
+use Rattle.variables.specs.Bounded.{Bounded}
+use Rattle.variables.specs.declared.Bounds.{Bounds}
+use Rattle.layout.specs.Laid.{Laid}
+use Rattle.layout.specs.declared.Layout.{Layout}
+use Rattle.tables.specs.Rows.{KeptAll, HoldsAll, AfterAll}
+use Rattle.answers.specs.Says.{Says}
+use Rattle.answers.specs.declared.Answer.{Answer}
+
+pub record Filling (m : Monitor) (ls : List Lexeme) (kinds values : List ℕ) (b : Bounds) (l : Layout) : Type 0 where
+  pub codes : Codes (vars m) ls kinds values
+  pub bounded : Bounded (vars m) b
+  pub laid : Laid m ls l
+  pub few : length ls ≤ 8192
+  pub few-regions : length (regions m) ≤ 16
+
+-- 8 with the place of `keep`, 9, or 0 and the slices filled
+pub record Filled (m : Monitor) (place : ℕ) (r : Answer) (kept holds after : List ℕ) : Type 0 where
+  pub fails : truth (m .keep) (vars m) (starts (vars m)) ≡ false → Says r (answer 8 place 0)
+  pub breaks : truth (m .keep) (vars m) (starts (vars m)) ≡ true → (k n : ℕ) → broken (vars m) (m .keep) 0 (regions m) ≡ some (k, n)
+      → Says r (answer 9 k n)
+  pub passes : truth (m .keep) (vars m) (starts (vars m)) ≡ true → broken (vars m) (m .keep) 0 (regions m) ≡ none
+      → Says r (answer 0 0 0) × KeptAll m kept × HoldsAll m holds × AfterAll m after

@@ -1,0 +1,254 @@
+// Loads a file: the refusals 1 to 9 in order, and of an accepted file all that the table and the machines look up.
+use answers::Answer;
+use layout::Layout;
+use passes::Found;
+use reader::Pos;
+use scanner::Scanned;
+use tables::Broken;
+use variables::Bounds;
+ghost use mathlib.Core.Path.{_≡_};
+ghost use mathlib.Core.List.{List};
+ghost use Prim.Native.Nat.{ℕ, _%_, _≤_, _<_};
+ghost use lib.ListN.{length, getD};
+ghost use Rattle.syntax.specs.Kind.{Words};
+ghost use Rattle.syntax.specs.Token.{Lexeme, Token};
+ghost use Rattle.syntax.specs.Tree.{Monitor};
+ghost use Rattle.loader.specs.Loading.{Judges, Loads};
+ghost use Rattle.loader.specs.Filling.{Filling, Filled};
+
+// 3 to 7: the answer so far, and where it is 0 the token of `keep` and the variables.
+struct Judged {
+    answer: Answer,
+    keep: usize,
+    bounds: Bounds,
+}
+
+// 1 to 9: the answer, and of an accepted file its variables and layout.
+pub struct Loaded {
+    pub answer: Answer,
+    pub bounds: Bounds,
+    pub layout: Layout,
+}
+
+fn no_bounds() -> Bounds {
+    Bounds {
+        lows: [1u16; 6],
+        highs: [0u16; 6],
+        starts: [128u16; 6],
+        weights: [1u16; 6],
+        count: 0,
+        states: 1,
+    }
+}
+
+fn no_layout() -> Layout {
+    Layout {
+        keep: 0,
+        regions: 0,
+        guards: 0,
+        guards_at: [0u16; 16],
+        bodies_at: [0u16; 16],
+        guard_of: [0u8; 16],
+        begins: [0u8; 16],
+        goes_on: [0u8; 16],
+        firsts: [0u8; 16],
+    }
+}
+
+// A place as an index; as a call it asks no proof that it fits.
+fn wide(x: u16) -> usize
+    ensures { λ r. ⌜ r ≡ x ⌝ }
+{
+    x as usize
+}
+
+// The byte of a token, or the file's length behind the last one.
+fn place_of(places: &[u16], token: usize, end: usize) -> usize
+    ensures { λ r. ⌜ r ≡ getD (now (places .entry)) token end ⌝ }
+{
+    if token < places.len() {
+        wide(places[token])
+    } else {
+        end
+    }
+}
+
+// A refusal, with nothing read.
+fn not_judged(number: u8, place: usize) -> Judged
+    ensures { λ r. ⌜ (r .answer .number ≡ number) × (r .answer .first ≡ place) × (r .answer .second ≡ 0) ⌝ }
+{
+    Judged {
+        answer: answers::say(number, place, 0),
+        keep: 0,
+        bounds: no_bounds(),
+    }
+}
+
+// 3 to 7, over a file's tokens.
+fn judge(file: &[u8], kinds: &[u8], values: &[u16], places: &[u16]) -> Judged
+    ensures { λ r. ⌜ ((ts : List Token) → Words (now (file .entry)) ts (now (kinds .entry)) (now (values .entry)) (now (places .entry))
+        → Judges (now (file .entry)) ts r) ⌝ }
+{
+    if let Found::At(k) = passes::find_crowded(kinds, places) {
+        return not_judged(3, wide(k));
+    }
+    if let Pos::Stuck(i) = reader::read(kinds) {
+        return not_judged(4, place_of(places, i, file.len()));
+    }
+    if let Found::At(k) = passes::find_past_limit(kinds, places) {
+        return not_judged(5, wide(k));
+    }
+    if let Found::At(k) = passes::find_misnamed(file, kinds, values, places) {
+        return not_judged(6, wide(k));
+    }
+    let declared = variables::read(kinds, values, 3);
+    let token = declared.token;
+    let bounds = declared.bounds;
+    if !declared.ok {
+        return not_judged(7, place_of(places, token, 0));
+    }
+    Judged {
+        answer: answers::say(0, 0, 0),
+        keep: token,
+        bounds: bounds,
+    }
+}
+
+// The tokens at which the guards begin, by guard.
+fn guards_at(layout: Layout) -> [u16; 16]
+    ensures { λ r. ⌜ ((g : ℕ) → g < 16 → getD r g 0 ≡ getD (layout .«guards_at») (getD (layout .firsts) g 0 % 16) 0) ⌝ }
+{
+    let mut ats = [0u16; 16];
+    let mut g = 0;
+    while g < 16 {
+        ats[g] = layout.guards_at[(layout.firsts[g] % 16) as usize];
+        g += 1;
+    }
+    ats
+}
+
+// 8 and 9, once names and braces are resolved: the truths and the states after, into lent slices.
+fn fill(
+    kinds: &[u8],
+    values: &[u16],
+    bounds: Bounds,
+    layout: Layout,
+    place: usize,
+    kept: &mut [u8],
+    holds: &mut [u8],
+    after: &mut [u16],
+) -> Answer
+    ensures { λ r. ⌜ ((m : Monitor) (ls : List Lexeme) → Filling m ls (now (kinds .entry)) (now (values .entry)) bounds layout
+        → 4096 ≤ length (now (kept .entry)) → 65536 ≤ length (now (holds .entry)) → 65536 ≤ length (now (after .entry))
+        → Filled m place r (now (kept .exit)) (now (holds .exit)) (now (after .exit))) ⌝ }
+{
+    let starts = bounds.starts;
+    let keep = layout.keep;
+    if !evaluator::holds(kinds, values, starts, keep) {
+        return answers::say(8, place, 0);
+    }
+    tables::fill_row(kinds, values, bounds, keep, kept);
+    tables::fill_holds(
+        kinds,
+        values,
+        bounds,
+        guards_at(layout),
+        layout.guards,
+        holds,
+    );
+    let bodies = layout.bodies_at;
+    let numbers = layout.guard_of;
+    match tables::fill_after(
+        kinds,
+        values,
+        bounds,
+        bodies,
+        numbers,
+        layout.regions,
+        kept,
+        holds,
+        after,
+    ) {
+        Broken::At(r, s) => answers::say(9, r, s),
+        Broken::Never => answers::say(0, 0, 0),
+    }
+}
+
+fn not_loaded(answer: Answer) -> Loaded
+    ensures { λ r. ⌜ r .answer ≡ answer ⌝ }
+{
+    Loaded {
+        answer: answer,
+        bounds: no_bounds(),
+        layout: no_layout(),
+    }
+}
+
+// 3 to 9, over a file's tokens.
+fn load_tokens(
+    file: &[u8],
+    kinds: &[u8],
+    values: &mut [u16],
+    places: &[u16],
+    kept: &mut [u8],
+    holds: &mut [u8],
+    after: &mut [u16],
+) -> Loaded
+    ensures { λ r. ⌜ ((ts : List Token) → Words (now (file .entry)) ts (now (kinds .entry)) (now (values .entry)) (now (places .entry))
+        → 4096 ≤ length (now (kept .entry)) → 65536 ≤ length (now (holds .entry)) → 65536 ≤ length (now (after .entry))
+        → Loads (now (file .entry)) r (now (kept .exit)) (now (holds .exit)) (now (after .exit))) ⌝ }
+{
+    let judged = judge(file, kinds, values, places);
+    let so_far = judged.answer;
+    if so_far.number != 0 {
+        return not_loaded(so_far);
+    }
+    let keep = judged.keep;
+    let bounds = judged.bounds;
+    let layout = layout::lay_out(file, kinds, values, places, keep);
+    passes::resolve(file, kinds, values, places);
+    layout::link_braces(kinds, values);
+    let last = fill(
+        kinds,
+        values,
+        bounds,
+        layout,
+        place_of(places, keep, 0),
+        kept,
+        holds,
+        after,
+    );
+    Loaded {
+        answer: last,
+        bounds: bounds,
+        layout: layout,
+    }
+}
+
+// 1 to 9: the verdict of a file, and of an accepted one all that the table and the machines look up.
+pub fn load(file: &[u8], kept: &mut [u8], holds: &mut [u8], after: &mut [u16]) -> Loaded
+    ensures { λ r. ⌜ (4096 ≤ length (now (kept .entry)) → 65536 ≤ length (now (holds .entry)) → 65536 ≤ length (now (after .entry))
+        → Loads (now (file .entry)) r (now (kept .exit)) (now (holds .exit)) (now (after .exit))) ⌝ }
+{
+    let mut kinds = [0u8; 8192];
+    let mut values = [0u16; 8192];
+    let mut places = [0u16; 8192];
+    match scanner::scan(file, &mut kinds, &mut values, &mut places) {
+        Scanned::TooLong => not_loaded(answers::say(1, 0, 0)),
+        Scanned::Bad(k) => not_loaded(answers::say(2, k, 0)),
+        Scanned::Tokens(n) => {
+            if 8192 < n {
+                return not_loaded(answers::say(1, 0, 0));
+            }
+            load_tokens(
+                file,
+                &kinds[..n],
+                &mut values[..n],
+                &places[..n],
+                kept,
+                holds,
+                after,
+            )
+        }
+    }
+}

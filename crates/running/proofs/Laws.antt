@@ -1,0 +1,224 @@
+-- From the code's record of a run to the meaning's, how a run of a list can end, and the start of a run by its tests.
+use Prim.Native.Nat.{ℕ, zero, suc, _+_, _/_, _%_, _^_, _<_, _≤_}
+use native.Mathlib.Omega.{arith}
+use native.Mathlib.Nat.{pow-suc}
+use mathlib.Core.Path.{_≡_, refl, sym, ap, _∙_, subst}
+use mathlib.Core.Bool.{Bool, true, false}
+use mathlib.Core.List.{List, [], _∷_, map}
+use mathlib.Core.Logic.{Iff·rfl}
+use lib.ListN.{length, getD, length-map, List·getD-map}
+use lib.Seq.{ext-getD}
+use lib.Arith.{lt-one}
+use lib.Dec.{eqb}
+use lib.Count as count
+use borrow.Author.Tests.{eqb-true, eqb-false}
+use Rattle.sets.specs.Set.{member, size}
+use Rattle.sets.specs.SetLaws.{member-zero, member-suc, size-ones}
+use Rattle.syntax.specs.Tree.{Monitor}
+use Rattle.machine.specs.Machine.{Config, Outcome, moved, refused, Told, Run, accepted, stopped, allIdle, step, run, threads}
+use Rattle.machine.specs.Machine as machine
+use Rattle.machine.specs.Points.{Checked}
+use Rattle.machine.specs.Held.{Held, HeldPlaces, bit}
+use Rattle.machine.specs.Table.{runs}
+use Rattle.machine.specs.Sets.{both-iff}
+use Rattle.meaning.specs.Bools.{split}
+use Rattle.meaning.specs.Same.{different}
+use Rattle.meaning.specs.Check.{answer}
+use Rattle.meaning.specs.Biased.{Biased}
+use Rattle.meaning.specs.State.{stateAt}
+use Rattle.meaning.specs.State as state
+use Rattle.meaning.specs.Trace.{framesOf, frames, none-at}
+use Rattle.meaning.specs.Model.{vars, kept, model}
+use Rattle.meaning.specs.ModelLaws.{kept-below}
+use Rattle.meaning.specs.Calls.{Machine, eachThread, bits, ones, toldBy, not-run, recordOf, runningOf, runList, runFrames, runFrom}
+use Rattle.stepper.specs.declared.Thread.{Thread}
+use Rattle.stepper.specs.declared.Run as code
+use Rattle.stepper.specs.Shown.{Shows, Within, placeOf, idleThread, toldOn}
+use Rattle.stepper.specs.Parts.{verdictOf, nextOf, outcome, step-parts}
+use Rattle.stepper.specs.StepLaws.{start-within, step-within, step-kept}
+use Rattle.runs.specs.Ended.{EndsAs}
+use Rattle.runs.specs.declared.Ended.{Ended}
+use Rattle.running.specs.Results.{Runs, Records, machineOf}
+use Rattle.running.specs.declared.Running.{Running}
+
+-- ---- the record of a point
+
+each-length : {A : Type 0} (n t : ℕ) (f : ℕ → A) → length (eachThread n t f) ≡ n
+unfolding eachThread
+each-length zero t f = refl
+each-length (suc n) t f = ap suc (each-length n (t + 1) f)
+
+each-at : {A : Type 0} (n t : ℕ) (f : ℕ → A) (d : A) (u : ℕ) → u < n → getD (eachThread n t f) u d ≡ f (t + u)
+unfolding eachThread
+each-at zero t f d u h = absurd (omega arith)
+each-at (suc n) t f d zero h = ap f (omega arith)
+each-at (suc n) t f d (suc u) h = each-at n (t + 1) f d u (omega arith) ∙ ap f (omega arith)
+
+-- sixteen threads that show the places are the list of the places
+pub places-shown : (ts : List Thread) (c : Config) → length ts ≡ 16
+    → ((t : ℕ) → t < 16 → placeOf (getD ts t idleThread .place) ≡ c .place t)
+    → map (λ (t : Thread). placeOf (t .place)) ts ≡ eachThread threads 0 (c .place)
+unfolding threads
+places-shown ts c l h =
+    let f : Thread → machine.Place = λ t. placeOf (t .place) in
+    let n = length-map ts f in
+    ext-getD (f idleThread) (map f ts) (eachThread 16 0 (c .place)) (n ∙ l ∙ sym (each-length 16 0 (c .place)))
+    (λ i b.
+    let low : i < 16 = omega arith in
+    List·getD-map f ts i idleThread ∙ h i low ∙ ap (c .place) (omega arith) ∙ sym (each-at 16 0 (c .place) (f idleThread) i low))
+
+-- a number below 2 ^ n whose members are given thread by thread is the bits of the list, and has as many ones
+pub set-shown : (n t s : ℕ) (f : ℕ → Bool) → s < 2 ^ n → ((u : ℕ) → u < n → member s u ≡ f (t + u))
+    → (s ≡ bits (eachThread n t f)) × (count.ones s ≡ ones (eachThread n t f))
+unfolding eachThread bits ones count.ones
+set-shown zero t s f h e = let z : s ≡ 0 = lt-one h in (z, ap count.ones z)
+set-shown (suc n) t s f h e =
+    let p = pow-suc 2 n in
+    let rest = set-shown n (t + 1) (s / 2) f (omega arith)
+    (λ u l. sym (member-suc s u) ∙ e (suc u) (omega arith) ∙ ap f (omega arith)) in
+    go (f t) (sym (member-zero s) ∙ e 0 (omega arith) ∙ ap f (omega arith)) (rest .0) (rest .1)
+  where
+    go : (b : Bool) → eqb (s % 2) 1 ≡ b → s / 2 ≡ bits (eachThread n (t + 1) f) → count.ones (s / 2) ≡ ones (eachThread n (t + 1) f)
+        → (s ≡ bits (b ∷ eachThread n (t + 1) f)) × (count.ones s ≡ ones (b ∷ eachThread n (t + 1) f))
+    go true d x y =
+        let o = eqb-true (s % 2) 1 d in
+        let q = count.ones-step s in
+        (omega arith, omega arith)
+    go false d x y =
+        let o = eqb-false (s % 2) 1 d in
+        let q = count.ones-step s in
+        (omega arith, omega arith)
+
+-- the record of a run that shows a point, with the values of its state
+pub recorded : (m : Monitor) (c : Config) (end : code.Run) (vs : List ℕ) (vars-held many : ℕ) → Shows end c → length (end .threads) ≡ 16
+    → end .notified < 2 ^ 16 → vars-held ≡ length (vars m) → Biased (vars m) (stateAt (vars m) (end .state)) vs
+    → many ≡ size (end .notified) 16
+    → Records (recordOf m c) (record { vars = vars-held; values = vs; threads = end .threads; notified = end .notified; «how_many» = many })
+unfolding recordOf threads
+recorded m c end vs vars-held many s l small counted values sized =
+    let v = subst (λ (n : ℕ). Biased (vars m) (stateAt (vars m) n) vs) (s .state) values in
+    let n = v .each-value in
+    let set = set-shown 16 0 (end .notified) (c .notified) small (λ u h. s .notices u h ∙ ap (c .notified) (omega arith)) in
+    record {
+      vars = counted ∙ sym n;
+      values = λ k h. v .held k (omega arith);
+      unused = λ k h b. v .unused k h (omega arith);
+      places = places-shown (end .threads) c l (s .places);
+      notified = set .0;
+      how-many = sized ∙ size-ones 16 (end .notified) small ∙ set .1;
+    }
+
+-- ---- the end of a run of a list: kept, or a refusal other than 0
+
+unfoldable Good : machine.Monitor → Run → Type 0
+Good m (accepted c) = m .kept (c .state) ≡ true
+Good m (stopped a k) = a ≡ 0 → ⊥
+
+module _ (m : machine.Monitor) (told : Told) (bs os : List ℕ) (places : HeldPlaces m bs os) (ok : Checked m) where
+  bodies : (r s : ℕ) → r < m .regions → runs m r s ≡ true → m .kept (m .after r s) ≡ true
+  unfolding runs
+  bodies r s l h =
+      let b = both-iff (m .kept s) (m .holds (m .guardOf r) s) Iff·rfl Iff·rfl .0 h in
+      ok .keeps r s (b .0) (b .1)
+
+  refused-not-0 : (c : Config) (f : machine.Frame) (a : ℕ) → step m told c f ≡ refused a → a ≡ 0 → ⊥
+  unfolding outcome
+  refused-not-0 c f a e z = go (verdictOf m c f) (sym (step-parts m told c f) ∙ e)
+    where
+      go : (n : ℕ) → outcome n (nextOf m told c f) ≡ refused a → ⊥
+      go zero q = different (cc)
+      go (suc n) q = let s : suc n ≡ a = cc in omega arith
+
+  run-good : (k : ℕ) (c : Config) (fs : List machine.Frame) → Within m c → m .kept (c .state) ≡ true → Good m (run m told k c fs)
+  unfolding Good run
+  run-good k c [] w h = h
+  run-good k c (f ∷ fs) w h = go (λ d. run-good (suc k) d fs) (step m told c f) refl
+    where
+      go : ((d : Config) → Within m d → m .kept (d .state) ≡ true → Good m (run m told (suc k) d fs))
+          → (o : Outcome) → step m told c f ≡ o → Good m (elim o [ moved d ↦ run m told (suc k) d fs | refused a ↦ stopped a k ])
+      go rest (moved d) e = rest d (step-within m told bs os c d f places w e) (step-kept m told c d f bodies w h e)
+      go rest (refused a) e = refused-not-0 c f a e
+
+-- ---- the start of a run
+
+told-same : (m : machine.Monitor) (table : Bool) → toldBy m (machineOf table) ≡ toldOn m table
+unfolding toldBy machineOf toldOn
+told-same m true = refl
+told-same m false = refl
+
+pub past-states : (m : Monitor) (s : ℕ) → state.count (vars m) ≤ s → kept m s ≡ false
+past-states m s h = split (kept m s) (λ t. let b = kept-below m s t in absurd (omega arith)) (λ f. f)
+
+-- what the slice of kept states says at a state of the file
+pub kept-by : (m : Monitor) (ks holds after guardOf : List ℕ) → Held (model m) ks holds after guardOf
+    → (s : ℕ) → s < state.count (vars m) → getD ks s 0 ≡ bit (kept m s)
+unfolding model
+kept-by m ks holds after guardOf h s l = h .by-kept s l
+
+pub kept-one : (b : Bool) (n : ℕ) → n ≡ bit b → n ≡ 1 → b ≡ true
+unfolding bit
+kept-one true n e o = refl
+kept-one false n e o = absurd (omega arith)
+
+pub kept-other : (b : Bool) (n : ℕ) → n ≡ bit b → (n ≡ 1 → ⊥) → b ≡ false
+unfolding bit
+kept-other true n e o = absurd (o e)
+kept-other false n e o = refl
+
+from-other : (m : Monitor) (w : Machine) (s : ℕ) (bytes : List ℕ) → kept m s ≡ false → runFrom m w s bytes ≡ not-run (answer 11 0 0)
+unfolding runFrom
+from-other m w s bytes k = rw (runFrom, k)
+
+from-kept : (m : Monitor) (w : Machine) (s : ℕ) (bytes : List ℕ) → kept m s ≡ true
+    → runFrom m w s bytes ≡ runFrames m w s (framesOf bytes)
+unfolding runFrom
+from-kept m w s bytes k = rw (runFrom, k)
+
+module _ (m : Monitor) (table : Bool) (s : ℕ) (bytes : List ℕ) (r : Running) where
+  abbrev pub Ran : Type 0
+  Ran = Runs (runFrom m (machineOf table) s bytes) r
+
+  pub not-started : kept m s ≡ false → Runs (not-run (answer 11 0 0)) r → Ran
+  not-started k h = subst (λ x. Runs x r) (sym (from-other m (machineOf table) s bytes k)) h
+
+  pub not-framed : (j : ℕ) → kept m s ≡ true → framesOf bytes ≡ none-at j → Runs (not-run (answer 12 j 0)) r → Ran
+  unfolding runFrames
+  not-framed j k e h =
+      subst (λ x. Runs x r) (sym (from-kept m (machineOf table) s bytes k ∙ ap (runFrames m (machineOf table) s) e)) h
+
+  module _ (fs : List machine.Frame) (k : kept m s ≡ true) (read : framesOf bytes ≡ frames fs) where
+    abbrev pub end : Run
+    end = run (model m) (toldOn (model m) table) 0 (allIdle s) fs
+
+    by-end : Runs (runningOf m end) r → Ran
+    unfolding runFrames runList
+    by-end h =
+        let told : runList m (machineOf table) s fs ≡ end =
+        ap (λ (t : Told). run (model m) t 0 (allIdle s) fs) (told-same (model m) table) in
+        subst (λ x. Runs x r)
+        (sym (from-kept m (machineOf table) s bytes k ∙ ap (runFrames m (machineOf table) s) read ∙ ap (runningOf m) told)) h
+
+    module _ (bs os : List ℕ) (places : HeldPlaces (model m) bs os) (ok : Checked (model m)) (e : Ended) (ends : EndsAs e end) where
+      good : Good (model m) end
+      unfolding model allIdle
+      good = run-good (model m) (toldOn (model m) table) bs os places ok 0 (allIdle s) fs (start-within (model m) s) k
+
+      -- a refusal
+      pub ran-refused : (e .number ≡ 0 → ⊥) → Runs (not-run (answer (e .number) (e .frame) 0)) r → Ran
+      unfolding EndsAs runningOf
+      ran-refused other h = by-end (go end ends)
+        where
+          go : (x : Run) → EndsAs e x → Runs (runningOf m x) r
+          go (accepted c) p = absurd (other (p .0))
+          go (stopped a j) p = subst (λ (n : ℕ). Runs (not-run (answer n j 0)) r) (p .0)
+              (subst (λ (i : ℕ). Runs (not-run (answer (e .number) i 0)) r) (p .1) h)
+
+      -- an end
+      pub ran-accepted : e .number ≡ 0
+          → ((c : Config) → Shows (e .run) c → c .state < state.count (vars m) → Runs (runningOf m (accepted c)) r) → Ran
+      unfolding EndsAs Good model
+      ran-accepted zero-number h = by-end (go end ends good)
+        where
+          go : (x : Run) → EndsAs e x → Good (model m) x → Runs (runningOf m x) r
+          go (accepted c) p g = h c (p .1) (kept-below m (c .state) g)
+          go (stopped a j) p g = absurd (g (sym (p .0) ∙ zero-number))
