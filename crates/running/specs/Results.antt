@@ -3,8 +3,9 @@ use Prim.Native.Nat.{ℕ, _<_, _≤_}
 use mathlib.Core.Path.{_≡_}
 use mathlib.Core.Bool.{Bool, true, false}
 use mathlib.Core.List.{List, map}
-use lib.ListN.{length, getD}
+use lib.ListN.{length, getD, replicate}
 use lib.IntN.{ℤ, pos}
+use Rattle.machine.specs.Machine as machine
 use Rattle.stepper.specs.Shown.{placeOf}
 use Rattle.meaning.specs.Biased.{Offset}
 use Rattle.meaning.specs.Check.{answer}
@@ -27,6 +28,7 @@ pub record Records (rec : calls.Record) (r : code.Record) : Type 0 where
 pub record NoRecord (r : code.Record) : Type 0 where
   pub vars : r .vars ≡ 0
   pub values : (k : ℕ) → k < 6 → getD (r .values) k 0 ≡ 128
+  pub places : map (λ t. placeOf (t .place)) (r .threads) ≡ replicate 16 machine.idle
   pub notified : r .notified ≡ 0
   pub how-many : r .«how_many» ≡ 0
 

@@ -1,8 +1,9 @@
--- `running::no_record` meets its contract: six slots of 128, and nobody notified.
+-- `running::no_record` meets its contract: six slots of 128, all threads idle, and nobody notified.
 use Prim.Native.Nat.{ℕ, zero, suc, _<_}
 use native.Mathlib.Omega.{arith}
 use mathlib.Core.Path.{_≡_, refl}
 use lib.ListN.{getD, replicate}
+use Rattle.stepper.specs.Shown.{placeOf}
 use Rattle.running.proofs.no_record.Statement.{statement}
 use Rattle.running.proofs.no_record.Tie as tie
 
@@ -12,7 +13,8 @@ each-at (suc n) a zero h = refl
 each-at (suc n) a (suc t) h = each-at n a t (omega arith)
 
 returns : tie.Need-returns
-returns c = record { vars = refl; values = λ k h. each-at 6 128 k h; notified = refl; how-many = refl }
+unfolding placeOf
+returns c = record { vars = refl; values = λ k h. each-at 6 128 k h; places = refl; notified = refl; how-many = refl }
 
 pub no-record-spec : {M : Type 1} → statement M
 no-record-spec = tie.close (tie.spec returns)
