@@ -1,0 +1,45 @@
+-- `monitor::place` meets its contract: a refused file is answered as it was loaded, an accepted one by what writing its table says. Assumes nothing.
+use borrow.Author.Needs.{needs}
+use Rattle.monitor.proofs.Places.{long, not-placed, too-short, placed}
+use Rattle.monitor.proofs.place.Statement.{statement}
+use Rattle.monitor.proofs.place.Tie as tie
+
+returns : tie.Need-returns
+returns c = not-placed (c .before .before .before .before .before .before .load .ensures (long 4096 0) (long 65536 0) (long 65536 0)) _ (c .if1 .taken)
+
+returns-2 : tie.Need-returns-2
+returns-2 c =
+    too-short
+    (c .before .before .before .before .before .before .before .before .before .before .before .before .before .before .before .before .before .before .before .before .before .before .before .load .ensures
+    (long 4096 0) (long 65536 0) (long 65536 0))
+    (c .before .before .before .before .before .before .before .before .before .before .before .before .before .before .before .before .before .if1 .left)
+    _ (c .before .before .before .before .before .before .before .before .fill-entries .ensures)
+    (c .before .before .before .before .before .write-table .ensures) _ (c .say .ensures) (c .before .enum-told .given .1)
+
+returns-3 : tie.Need-returns-3
+returns-3 c =
+    placed
+    (c .before .before .before .before .before .before .before .before .before .before .before .before .before .before .before .before .before .before .before .before .before .before .before .load .ensures
+    (long 4096 0) (long 65536 0) (long 65536 0))
+    (c .before .before .before .before .before .before .before .before .before .before .before .before .before .before .before .before .before .if1 .left)
+    _ (c .before .before .before .before .before .before .before .before .fill-entries .ensures)
+    (c .before .before .before .before .before .write-table .ensures) _ (c .before .n .given .1)
+
+pub place-spec : {M : Type 1} → statement M
+place-spec =
+    tie.close
+    (tie.spec
+    (λ c. search needs)
+    (λ c. search needs)
+    (λ c. search needs)
+    (λ c κs. search needs)
+    returns
+    (λ c κs. search needs)
+    (λ c κs. search needs)
+    (λ c. search needs)
+    (λ c κs. search needs)
+    (λ c. search needs)
+    (λ c. search needs)
+    returns-2
+    (λ c. search needs)
+    returns-3)
