@@ -5,7 +5,7 @@ use native.Mathlib.Numerals.{add-one}
 use mathlib.Core.Path.{_≡_, refl, sym, ap, _∙_, subst}
 use mathlib.Core.Bool.{Bool, true, false}
 use mathlib.Core.List.{List, [], _∷_}
-use mathlib.Core.Logic.{Iff·rfl, ⊎-elim}
+use mathlib.Core.Logic.{Iff·rfl}
 use lib.ListN.{length, drop, getD}
 use lib.Seq.{drop-cons, drop-length}
 use Rattle.machine.specs.Machine.{Monitor, Config, Outcome, moved, refused, Told, stopped, allIdle, step, run}
@@ -22,13 +22,9 @@ use Rattle.stepper.specs.declared.Outcome as coded
 use Rattle.stepper.specs.Shown.{Shows, Within, Steps, stepBy, toldOn, frameOf}
 use Rattle.stepper.specs.Parts.{verdictOf, nextOf, outcome, step-parts}
 use Rattle.stepper.specs.StepLaws.{start-within, step-within, step-kept}
-use Rattle.trace.specs.Lined.{lineAt}
+use Rattle.trace.specs.Decoded.{numbersAt}
 use Rattle.trace.specs.FrameLaws.{frame-at, frames-end}
-use Rattle.trace.specs.declared.Line as read
-use Rattle.trace.specs.declared.Line.the-variants as line
-use Rattle.trace.proofs.Line.{the-type}
-use denote.Enum.Declared.{tagOf}
-use types.Run.{OneOf}
+use Rattle.trace.specs.declared.Numbers.{Numbers}
 use Rattle.runs.specs.Ended.{EndsAs}
 use Rattle.runs.specs.declared.Ended.{Ended}
 
@@ -102,7 +98,7 @@ point-start m table state fs r shows k = record {
 -- before the end of the bytes there is a frame: its line, and the list from it on
 pub record Here (bytes : List ℕ) (fs : List machine.Frame) (k : ℕ) : Type 0 where
   pub frame : machine.Frame
-  pub found : lineAt bytes (7 * k) ≡ line.Frame (frame .thread) (frame .region) (frame .flag)
+  pub numbers : numbersAt bytes (7 * k) ≡ record { thread = frame .thread; region = frame .region; flag = frame .flag }
   pub thread : frame .thread < 16
   pub rest : drop k fs ≡ frame ∷ drop (suc k) fs
   pub more : k < length fs
@@ -114,13 +110,7 @@ frame-here bytes fs k at e s h =
     let w = frames-end e .whole in
     let l : k < length fs = omega arith in
     let a = frame-at e d k l in
-    record { frame = getD fs k d; found = a .found; thread = a .thread; rest = drop-cons fs k d l; more = l }
-
--- a line that is a frame has tag 0
-pub no-frame : (l : read.Line) (t r : ℕ) (b : Bool) → l ≡ line.Frame t r b → OneOf (1 ∷ 2 ∷ []) (tagOf the-type l) → ⊥
-no-frame l t r b e h =
-    let z : tagOf the-type l ≡ 0 = ap (tagOf the-type) e in
-    ⊎-elim (λ x. omega arith) (λ x. omega arith) h
+    record { frame = getD fs k d; numbers = a .numbers; thread = a .thread; rest = drop-cons fs k d l; more = l }
 
 -- a step of the code on the frame that is next in the list
 pub record Stepped (m : Monitor) (table : Bool) (state : ℕ) (fs : List machine.Frame) (before : code.Run) (k : ℕ) (o : coded.Outcome) : Type 0 where
@@ -133,15 +123,16 @@ pub record Stepped (m : Monitor) (table : Bool) (state : ℕ) (fs : List machine
 pub stepped :
     (m : Monitor) (table : Bool) (state : ℕ) (bytes : List ℕ) (fs : List machine.Frame) (before : code.Run) (k at : ℕ) (o : coded.Outcome)
     (p : Point m table state fs before k) → framesOf bytes ≡ frames fs → at ≡ 7 * k → at < length bytes
-    → (f : Frame) → line.Frame (f .thread) (f .region) (f .flag) ≡ lineAt bytes at
+    → (f : Frame) (n : Numbers) → n ≡ numbersAt bytes at → f ≡ record { thread = n .thread; region = n .region; flag = n .flag }
     → (f .thread < 16 → Steps before o (stepBy m table (p .point) f)) → Stepped m table state fs before k o
 unfolding frameOf
-stepped m table state bytes fs before k at o p e s h f l steps =
+stepped m table state bytes fs before k at o p e s h f n l i steps =
     let x = frame-here bytes fs k at e s h in
-    let q = l ∙ ap (lineAt bytes) s ∙ x .found in
-    let t : f .thread ≡ x .frame .thread = cc in
-    let r : f .region ≡ x .frame .region = cc in
-    let b : f .flag ≡ x .frame .flag = cc in
+    let q : n ≡ record { thread = x .frame .thread; region = x .frame .region; flag = x .frame .flag } =
+    l ∙ ap (numbersAt bytes) s ∙ x .numbers in
+    let t : f .thread ≡ x .frame .thread = ap (λ (y : Frame). y .thread) i ∙ ap (λ (y : Numbers). y .thread) q in
+    let r : f .region ≡ x .frame .region = ap (λ (y : Frame). y .region) i ∙ ap (λ (y : Numbers). y .region) q in
+    let b : f .flag ≡ x .frame .flag = ap (λ (y : Frame). y .flag) i ∙ ap (λ (y : Numbers). y .flag) q in
     let y = x .thread in
     record { from = p; frame = f; rest = rw (t, r, b) (x .rest); more = x .more; steps = steps (omega arith) }
 

@@ -1,7 +1,6 @@
 // Runs a trace of frames on a machine, from a state with all threads idle, over a monitor that is held in slices.
 use stepper::Frame;
 use stepper::Run;
-use trace::Line;
 ghost use mathlib.Core.Path.{_≡_};
 ghost use mathlib.Core.Bool.{true};
 ghost use mathlib.Core.List.{List};
@@ -48,18 +47,11 @@ pub fn run_trace(
     let mut k: usize = 0;
     let mut at: usize = 0;
     while at < bytes.len() {
-        let line = trace::line_at(bytes, at);
-        let Line::Frame(thread, region, flag) = line else {
-            return Ended {
-                number: 0,
-                frame: k,
-                run: run,
-            };
-        };
+        let numbers = trace::numbers_at(bytes, at);
         let frame = Frame {
-            thread: thread,
-            region: region,
-            flag: flag,
+            thread: numbers.thread,
+            region: numbers.region,
+            flag: numbers.flag,
         };
         let out = stepper::step(
             run,

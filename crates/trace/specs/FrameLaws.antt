@@ -1,18 +1,23 @@
 -- A trace whose lines are all frames: its i-th frame is what the code finds at byte 7 * i, and its end at 7 times their number.
-use Prim.Native.Nat.{ℕ, zero, suc, _+_, _*_, _<_, _≤_}
+use Prim.Native.Nat.{ℕ, zero, suc, _+_, _*_, _/_, _%_, _<_, _≤_}
 use native.Mathlib.Omega.{arith}
-use mathlib.Core.Path.{_≡_, refl, ap, _∙_}
+use mathlib.Core.Path.{_≡_, refl, sym, ap, _∙_}
+use mathlib.Core.Bool.{Bool, true, false}
 use mathlib.Core.List.{List, [], _∷_, _++_}
 use mathlib.Core.Option.{Option, none, some}
-use lib.ListN.{length, drop, getD, length-append}
-use lib.Seq.{drop-append-add, drop-cons, drop-length}
+use lib.ListN.{length, drop, getD, length-append, length-drop}
+use lib.Dec.{eqb, ltb}
+use borrow.Author.Tests.{ltb-true, ltb-false, le-leb}
+use lib.Seq.{drop-append-add, drop-cons, drop-length, getD-drop}
 use Rattle.machine.specs.Machine as machine
 use Rattle.meaning.specs.Trace.{frameOf, Frames, frames, none-at, prepend, framesFrom, framesOf}
 use Rattle.meaning.specs.Trace as meaning
 use Rattle.meaning.specs.TraceLaws.{frameLine, IsFrameRecord, FrameRecords, no-frame, one-frame, linesOf, frames-read}
-use Rattle.meaning.specs.Model.{hex2}
+use Rattle.meaning.specs.Bools.{split}
+use Rattle.meaning.specs.Model.{hexDigit, hex2, hexBool}
 use Rattle.meaning.specs.Digits.{bit-digits}
 use Rattle.meaning.specs.Same.{different}
+use Rattle.trace.specs.Decoded.{valueOf, numbersAt}
 use Rattle.trace.specs.Lined.{lineFor, firstOf, lineAt, countedAs, countedOf}
 use Rattle.trace.specs.declared.Line as code
 use Rattle.trace.specs.declared.Line.the-variants as line
@@ -21,6 +26,7 @@ use Rattle.trace.specs.declared.Counted.the-variants.{Frames as Counting
 -- what the code finds where a frame's line begins
 pub record FrameAt (trace : List ℕ) (at : ℕ) (f : machine.Frame) : Type 0 where
   pub found : lineAt trace at ≡ line.Frame (f .thread) (f .region) (f .flag)
+  pub numbers : numbersAt trace at ≡ record { thread = f .thread; region = f .region; flag = f .flag }
   pub thread : f .thread < 16
   pub region : f .region < 256
 
@@ -81,14 +87,54 @@ unfolding lineAt framesOf
 line-of fs i r h =
     rw (lines-drop fs i h) (first-frame 0 _ _ (frames-read (linesOf (drop i fs)) (drop i fs) .1 (records-drop i r, refl)))
 
+-- the value of a digit by arithmetic
+value-digit : (n : ℕ) → n < 16 → valueOf (hexDigit n) ≡ n
+unfolding valueOf hexDigit
+value-digit n h =
+    split (ltb n 10)
+    (λ e. let l = ltb-true n 10 e in
+    let q : (n + 48) / 64 ≡ 0 = omega arith in
+    let m : (n + 48) % 16 ≡ n = omega arith in
+    rw (hexDigit, e, q, m) (omega arith))
+    (λ e. let l = ltb-false n 10 e in
+    let q : (n + 55) / 64 ≡ 1 = omega arith in
+    let m : (n + 55) % 16 + 9 ≡ n = omega arith in
+    rw (hexDigit, e, q, m) (omega arith))
+
+flag-byte : (b : Bool) (more : List ℕ) → eqb (getD ((hexBool b ++ (10 ∷ [])) ++ more) 1 0) 49 ≡ b
+unfolding hexBool hex2 hexDigit
+flag-byte true more = refl
+flag-byte false more = refl
+
+-- the numbers of a frame's line, whatever follows it
+line-numbers : (trace more : List ℕ) (at : ℕ) (f : machine.Frame) → IsFrameRecord f → drop at trace ≡ frameLine f ++ more
+    → numbersAt trace at ≡ record { thread = f .thread; region = f .region; flag = f .flag }
+unfolding IsFrameRecord frameLine hex2 numbersAt
+line-numbers trace more at f ok e =
+    let long : length (frameLine f ++ more) ≡ 7 + length more = rw (length-append, line-seven) refl in
+    let room : at + 7 ≤ length trace = omega (arith, length-drop at trace, ap length e) in
+    let byte : (k : ℕ) → getD trace (at + k) 0 ≡ getD (frameLine f ++ more) k 0 =
+    λ k. sym (getD-drop at trace k 0) ∙ ap (λ (bs : List ℕ). getD bs k 0) e in
+    let one : valueOf (getD trace (at + 1) 0) ≡ f .thread % 16 = ap valueOf (byte 1) ∙ value-digit (f .thread % 16) (omega arith) in
+    let two : valueOf (getD trace (at + 2) 0) ≡ f .region / 16 = ap valueOf (byte 2) ∙ value-digit (f .region / 16) (omega arith) in
+    let three : valueOf (getD trace (at + 3) 0) ≡ f .region % 16 = ap valueOf (byte 3) ∙ value-digit (f .region % 16) (omega arith) in
+    let five : eqb (getD trace (at + 5) 0) 49 ≡ f .flag =
+    ap (λ (b : ℕ). eqb b 49) (byte 5) ∙ flag-byte (f .flag) more in
+    let thread : f .thread % 16 ≡ f .thread = omega arith in
+    let region : f .region / 16 * 16 + f .region % 16 ≡ f .region = omega arith in
+    rw (numbersAt, le-leb (at + 7) (length trace) room, one, two, three, five, thread, region)
+
 module _ {trace : List ℕ} {fs : List machine.Frame} (e : framesOf trace ≡ frames fs) where
   pub frame-at : (d : machine.Frame) (i : ℕ) → i < length fs → FrameAt trace (7 * i) (getD fs i d)
-  unfolding IsFrameRecord firstFrame lineFor
+  unfolding IsFrameRecord firstFrame lineFor linesOf
   frame-at d i h =
       let p = frames-read trace fs .0 e in
       let q = record-at d i (p .0) h in
       record {
         found = rw (p .1, line-of fs i (p .0) (omega arith), drop-cons fs i d h);
+        numbers =
+            line-numbers trace (linesOf (drop (suc i) fs)) (7 * i) (getD fs i d) (record-at d i (p .0) h)
+            (rw (p .1, lines-drop fs i (omega arith), drop-cons fs i d h) refl);
         thread = q .0;
         region = q .1;
       }

@@ -1,3 +1,4 @@
 pub mod Lined
 pub mod Pairs
 pub mod FrameLaws
+pub mod Decoded

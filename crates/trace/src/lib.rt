@@ -1,13 +1,22 @@
 // Reads the frames of a trace: the line at a byte, and how many frames a whole trace has or its first line that is none (12).
 ghost use mathlib.Core.Path.{_≡_};
+ghost use Prim.Native.Nat.{_<_};
 ghost use Rattle.trace.specs.Lined.{lineAt, countedOf};
 ghost use Rattle.trace.specs.Pairs.{digitOf, pairOf};
+ghost use Rattle.trace.specs.Decoded.{valueOf, numbersAt};
 
 // A frame with its thread, region and flag; a line that is no frame; or the trace's end.
 pub enum Line {
     Frame(u8, u8, bool),
     Bad,
     End,
+}
+
+// The numbers of a frame's line.
+pub struct Numbers {
+    pub thread: u8,
+    pub region: u8,
+    pub flag: bool,
 }
 
 // How many frames there are, or the number of the first line that is none.
@@ -61,6 +70,32 @@ pub fn line_at(trace: &[u8], at: usize) -> Line
         return Line::Bad;
     }
     Line::Frame(thread as u8, region as u8, flag == 1)
+}
+
+// The value of a byte that is a digit.
+fn digit(b: u8) -> u8
+    ensures { λ r. ⌜ r ≡ valueOf b ⌝ }
+    ensures within { λ r. ⌜ r < 16 ⌝ }
+{
+    (b % 16 + b / 64 * 9) % 16
+}
+
+// The numbers of the frame at a byte, where that is known to be one: no test of its digits is made again.
+pub fn numbers_at(trace: &[u8], at: usize) -> Numbers
+    ensures { λ r. ⌜ r ≡ numbersAt (now (trace .entry)) at ⌝ }
+{
+    if trace.len() <= at || trace.len() - at < FRAME {
+        return Numbers {
+            thread: 0,
+            region: 0,
+            flag: false,
+        };
+    }
+    Numbers {
+        thread: digit(trace[at + 1]),
+        region: digit(trace[at + 2]) * 16 + digit(trace[at + 3]),
+        flag: trace[at + 5] == 49,
+    }
 }
 
 // The frames of a whole trace, counted.

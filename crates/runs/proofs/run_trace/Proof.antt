@@ -2,14 +2,13 @@
 -- the frames left end as the whole list does. The measure is what is left of the length.
 use Prim.Native.Nat.{ℕ, _*_, _-_}
 use native.Mathlib.Omega.{arith}
-use mathlib.Core.Path.{_≡_, refl, sym, ap, _∙_}
+use mathlib.Core.Path.{_≡_, refl}
 use mathlib.Core.List.{List}
 use lib.ListN.{length}
 use borrow.Author.Needs.{needs}
 use denote.Ref.{now}
-use Rattle.trace.specs.Lined.{lineAt}
 use Rattle.machine.specs.Machine.{Monitor, Frame}
-use Rattle.runs.proofs.Laws.{Asked, Point, Stepped, for-asked, point-start, no-frame, frame-here, stepped, ends-refused, point-next, ends-accepted}
+use Rattle.runs.proofs.Laws.{Asked, Point, Stepped, for-asked, point-start, stepped, ends-refused, point-next, ends-accepted}
 use Rattle.runs.proofs.run_trace.Statement.{statement}
 use Rattle.runs.proofs.run_trace.Tie as tie
 
@@ -28,42 +27,30 @@ start-requires c κs = search needs
 loop-holds : tie.Need-loop-holds Inv-loop μ-loop
 loop-holds c = (omega arith, λ m kept fs a. point-start m _ _ fs _ (c .start .ensures) (a .start))
 
-line-at-requires : tie.Need-line-at-requires Inv-loop μ-loop
-line-at-requires c κs = search needs
-
-enum-known-line : tie.Need-enum-known-line Inv-loop μ-loop
-enum-known-line c = search needs
-
-returns : tie.Need-returns Inv-loop μ-loop
-returns c =
-    let l = c .before .before .before .loop in
-    for-asked _ _ _ _ _ _ _ _ _ _ _
-    (λ m kept fs a.
-    let x = frame-here _ fs (l .k) (l .at) (a .read) (l .inv .0) (c .before .before .loop-test .taken) in
-    absurd (no-frame _ _ _ _ (c .before .line-at .ensures ∙ ap (lineAt _) (l .inv .0) ∙ x .found) (c .match .keys2)))
+numbers-at-requires : tie.Need-numbers-at-requires Inv-loop μ-loop
+numbers-at-requires c κs = search needs
 
 step-requires : tie.Need-step-requires Inv-loop μ-loop
 step-requires c κs = search needs
 
 -- the step is the machine's at the frame that is next
 facts : (c : tie.After-step Inv-loop μ-loop) →
-    let l = c .before .before .before .before .before .before .loop in
-    let a = c .before .before .before .before .before .before .before .before .before .args in
+    let l = c .before .before .before .loop in
+    let a = c .before .before .before .before .before .before .args in
     (m : Monitor) (kept : List ℕ) (fs : List Frame)
     → Asked (now (a .bytes)) (a .state) (a .table) (now (a .holds)) (now (a .after)) (now (a .guard-of)) (now (a .begins)) (now (a .goes-on))
     (now (a .entries)) (a .regions) m kept fs
     → Stepped m (a .table) (a .state) fs (l .run) (l .k) (c .step .result)
 facts c m kept fs x =
-    let l = c .before .before .before .before .before .before .loop in
-    let a = c .before .before .before .before .before .before .before .before .before .args in
+    let l = c .before .before .before .loop in
+    let a = c .before .before .before .before .before .before .args in
     let p = l .inv .1 m kept fs x in
     stepped m (a .table) (a .state) (now (a .bytes)) fs (l .run) (l .k) (l .at) (c .step .result) p (x .read) (l .inv .0)
-    (c .before .before .before .before .before .loop-test .taken) _
-    (sym (c .before .before .line .given .1) ∙ c .before .before .before .before .line-at .ensures)
+    (c .before .before .loop-test .taken) _ (c .before .numbers-at .result) (c .before .numbers-at .ensures) refl
     (λ t. c .step .ensures m (p .point) kept (x .count) (x .held) (x .places) (x .table-held) t (p .within) (p .keeps) (p .shows))
 
-returns-2 : tie.Need-returns-2 Inv-loop μ-loop
-returns-2 c = for-asked _ _ _ _ _ _ _ _ _ _ _
+returns : tie.Need-returns Inv-loop μ-loop
+returns c = for-asked _ _ _ _ _ _ _ _ _ _ _
     (λ m kept fs a. ends-refused m _ _ fs _ _ _ (facts (c .before .before .before) m kept fs a) (c .if1 .taken) _ refl refl)
 
 add-k : tie.Need-add-k Inv-loop μ-loop
@@ -82,8 +69,8 @@ loop-again c = (
       point-next m _ _ fs _ _ _ (facts (c .before .before .before) m kept fs a) _ _ (a .places) (a .checked) (c .if1 .left),
 )
 
-returns-3 : tie.Need-returns-3 Inv-loop μ-loop
-returns-3 c =
+returns-2 : tie.Need-returns-2 Inv-loop μ-loop
+returns-2 c =
     let l = c .before .loop in
     for-asked _ _ _ _ _ _ _ _ _ _ _
     (λ m kept fs a. ends-accepted m _ _ _ fs _ (l .k) (l .inv .1 m kept fs a) (a .read) (omega arith) _ refl refl)
@@ -96,13 +83,11 @@ run-trace-spec =
     μ-loop
     start-requires
     loop-holds
-    line-at-requires
-    enum-known-line
-    returns
+    numbers-at-requires
     step-requires
-    returns-2
+    returns
     add-k
     add-at
     loop-less
     loop-again
-    returns-3)
+    returns-2)
