@@ -1,10 +1,10 @@
 -- What the cursor's method finds, by the definitions of `syntax`.
-use Prim.Native.Nat.{ℕ, _+_}
+use Prim.Native.Nat.{ℕ, suc, _+_}
 use mathlib.Core.Bool.{Bool, true, false}
-use mathlib.Core.List.{List}
+use mathlib.Core.List.{List, [], _∷_}
 use lib.ListN.{take, drop}
 use lib.Dec.{eqb}
-use Rattle.syntax.specs.Bytes.{blank, digit, wordByte, leading, decimal}
+use Rattle.syntax.specs.Bytes.{blank, digit, wordByte, leading, decimal, sameBytes}
 use Rattle.syntax.specs.Token.{Lexeme, name, key, number, mark, nothing, found, markNumber, keywordNumber, scan, atMost, wordOf, keywords}
 use Rattle.syntax.specs.Token as syntax
 use Rattle.scanner.specs.declared.Token.{Token}
@@ -26,6 +26,11 @@ marked (found (name x) n) = record { 0 = 0; 1 = 0 }
 marked (found (key k) n) = record { 0 = 0; 1 = 0 }
 marked (found (number v) n) = record { 0 = 0; 1 = 0 }
 marked (found (mark m) n) = record { 0 = markNumber m; 1 = n }
+
+-- the number of the first of some words that a text is, and their count where it is none of them
+unfoldable pub place : List (List ℕ) → List ℕ → ℕ
+place [] w = 0
+place (k ∷ ks) w = elim (sameBytes k w) [ true ↦ 0 | false ↦ suc (place ks w) ]
 
 -- the number of a keyword, and 10 for a name
 unfoldable pub keyCode : Lexeme → ℕ

@@ -1,12 +1,13 @@
-// Cuts a file into tokens: a cursor by value whose method hands out the token and the advanced cursor, and the tokens of a
-// whole file as numbers in lent arrays. Each promise cites the definitions of `syntax`.
+// Cuts a file into tokens: a cursor by value whose method hands out the token and the advanced cursor, a reader that holds the
+// file's slice and calls the cursor, and the tokens of a whole file as numbers in lent arrays. Each promise cites the
+// definitions of `syntax`.
 ghost use mathlib.Core.Path.{_≡_};
 ghost use mathlib.Core.List.{[], _∷_};
 ghost use Prim.Native.Nat.{_+_, _-_, _≤_, _<_};
 ghost use lib.ListN.{take, drop, getD, length};
 ghost use Rattle.syntax.specs.Bytes.{blank, letter, digit, wordByte, leading, decimal, sameBytes};
 ghost use Rattle.syntax.specs.Token.{markOf, marks, wordOf, keywords, nothing, scan as scanned};
-ghost use Rattle.scanner.specs.Step.{passes, marked, keyCode, wordAt, numberAt, stepOf, stepTo, stepAt};
+ghost use Rattle.scanner.specs.Step.{passes, marked, place, keyCode, wordAt, numberAt, stepOf, stepTo, stepAt};
 ghost use Rattle.scanner.specs.Coded.{lexemeCode, Within, codeOf, Scans};
 
 // A token: a word with its offsets, a number with its value, a mark with its kind, or none.
@@ -18,6 +19,12 @@ pub enum Token {
 }
 
 pub struct Cursor {
+    pub at: usize,
+}
+
+// A file and a byte of it. Its functions are thin: each unpacks the slice and the byte and leaves the work to the cursor.
+pub struct Reader<'a> {
+    pub file: &'a [u8],
     pub at: usize,
 }
 
@@ -185,42 +192,34 @@ fn is_word(part: &[u8], word: &[u8]) -> bool
     true
 }
 
-// The number of the reserved word of regions and conditions that a part of the file is.
-fn inner_keyword_of(part: &[u8]) -> u8
-    ensures { λ r. ⌜ r ≡ keyCode (wordOf (drop 5 keywords) (now (part .entry))) ⌝ }
+// The number of the first of five words that a part of the file is, and 5 where it is none of them.
+fn place_of(part: &[u8], a: &[u8], b: &[u8], c: &[u8], d: &[u8], e: &[u8]) -> u8
+    ensures { λ r. ⌜ r ≡ place (now (a .entry) ∷ now (b .entry) ∷ now (c .entry) ∷ now (d .entry) ∷ now (e .entry) ∷ []) (now (part .entry)) ⌝ }
 {
-    if is_word(part, b"waituntil") {
-        5
-    } else if is_word(part, b"if") {
-        6
-    } else if is_word(part, b"else") {
-        7
-    } else if is_word(part, b"true") {
-        8
-    } else if is_word(part, b"false") {
-        9
+    if is_word(part, a) {
+        0
+    } else if is_word(part, b) {
+        1
+    } else if is_word(part, c) {
+        2
+    } else if is_word(part, d) {
+        3
+    } else if is_word(part, e) {
+        4
     } else {
-        NO_KEYWORD
+        5
     }
 }
 
-// The number of the reserved word that a part of the file is.
+// The number of the reserved word that a part of the file is, and 10 where it is none.
 fn keyword_of(part: &[u8]) -> u8
     ensures { λ r. ⌜ r ≡ keyCode (wordOf keywords (now (part .entry))) ⌝ }
 {
-    if is_word(part, b"monitor") {
-        0
-    } else if is_word(part, b"var") {
-        1
-    } else if is_word(part, b"in") {
-        2
-    } else if is_word(part, b"keep") {
-        3
-    } else if is_word(part, b"method") {
-        4
-    } else {
-        inner_keyword_of(part)
+    let outer = place_of(part, b"monitor", b"var", b"in", b"keep", b"method");
+    if outer < 5 {
+        return outer;
     }
+    5 + place_of(part, b"waituntil", b"if", b"else", b"true", b"false")
 }
 
 // The value of at most three digits.
@@ -332,6 +331,31 @@ impl Cursor {
     }
 }
 
+impl<'a> Reader<'a> {
+    // A reader of a file from a byte of it.
+    pub fn open(file: &'a [u8], at: usize) -> Reader<'a>
+        ensures { λ r. ⌜ (r .file ≡ file .entry) × (r .at ≡ at) ⌝ }
+    {
+        Reader { file: file, at: at }
+    }
+
+    // The next token behind blanks.
+    pub fn token(self) -> Step
+        ensures { λ r. ⌜ r ≡ stepAt (now (self .entry .file)) (self .entry .at) ⌝ }
+    {
+        let cursor = Cursor { at: self.at };
+        cursor.next(self.file)
+    }
+}
+
+// The next token behind blanks from a byte of a file, by a reader that is opened there: callers have plain parameters, and
+// their proofs no walk.
+fn read_token(file: &[u8], at: usize) -> Step
+    ensures { λ r. ⌜ r ≡ stepAt (now (file .entry)) at ⌝ }
+{
+    Reader::open(file, at).token()
+}
+
 // How a word of the file is held.
 fn word_code(file: &[u8], from: usize, end: usize) -> Code
     requires { ⌜ (from ≤ end) × (end ≤ length (now file)) × (end ≤ from + 16) ⌝ }
@@ -381,7 +405,8 @@ fn scan_into(file: &[u8], kinds: &mut [u8], values: &mut [u16], places: &mut [u1
     let mut cursor = Cursor::new();
     let mut n: usize = 0;
     while n < 8192 {
-        let step = cursor.next(file);
+        let at = cursor.at;
+        let step = read_token(file, at);
         let start = step.start;
         let next = step.next;
         if next.at == start {

@@ -30,7 +30,7 @@ token-taken : (c : tie.Else2 Inv-loop μ-loop)
 token-taken c =
     let g = c .before .before .before .before .before in
     taken (file-of g) (g .loop .cursor .at)
-    (rw (c .before .before .before .next .ensures) at (c .if2 .left))
+    (rw (c .before .before .before .read-token .ensures) at (c .if2 .left))
 
 returns : tie.Need-returns Inv-loop μ-loop
 returns c = scans-long _ _ _ _ (c .if1 .taken)
@@ -44,8 +44,8 @@ loop-holds c =
     let p = c .before .before .before .before .before .before .pre in
     (rw (c .new .ensures) (held-none (now (a .file)) (now (a .kinds)) (now (a .values)) (now (a .places))), p .0, p .1, p .2)
 
-next-requires : tie.Need-next-requires Inv-loop μ-loop
-next-requires c κs = search needs
+read-token-requires : tie.Need-read-token-requires Inv-loop μ-loop
+read-token-requires c κs = search needs
 
 same-length : tie.Need-same-length Inv-loop μ-loop
 same-length c = search needs
@@ -60,7 +60,7 @@ returns-2 : tie.Need-returns-2 Inv-loop μ-loop
 returns-2 c =
     let g = c .before .before .before .before .before .before in
     let file = file-of g in
-    let e = c .before .before .before .before .next .ensures in
+    let e = c .before .before .before .before .read-token .ensures in
     rw e
     (scans-bad file _ _ _ _ _ (g .loop .inv .0) (g .before .before .if1 .left) _
     (ended-bad file (g .loop .cursor .at) (rw e at (c .before .if2 .taken)) (rw e at (c .if3 .taken))))
@@ -78,12 +78,12 @@ returns-3 : tie.Need-returns-3 Inv-loop μ-loop
 returns-3 c =
     let g = c .before .before .before .before .before .before in
     let file = file-of g in
-    let e = c .before .before .before .before .next .ensures in
+    let e = c .before .before .before .before .read-token .ensures in
     scans-all file _ _ _ _ _ (g .loop .inv .0) (g .before .before .if1 .left)
     (ended-all file (g .loop .cursor .at) (rw e at (c .before .if2 .taken)) (rw e at (c .if3 .left)))
 
 code-of-requires : tie.Need-code-of-requires Inv-loop μ-loop
-code-of-requires c κs = rw (c .before .before .before .next .ensures) (token-taken c .words)
+code-of-requires c κs = rw (c .before .before .before .read-token .ensures) (token-taken c .words)
 
 slice-write-kinds : tie.Need-slice-write-kinds Inv-loop μ-loop
 slice-write-kinds c = search needs
@@ -96,7 +96,7 @@ slice-write-values c = search needs
 
 cast-places : tie.Need-cast-places Inv-loop μ-loop
 cast-places c =
-    let step = c .before .before .before .before .next in
+    let step = c .before .before .before .before .read-token in
     let file = file-of (c .before .before .before .before .before .before) in
     let inside : step .result .start < length file = rw (step .ensures) (token-taken (c .before) .inside) in
     omega arith
@@ -117,7 +117,7 @@ loop-again : tie.Need-loop-again Inv-loop μ-loop
 loop-again c =
     let g = c .before .before .before .before .before .before in
     let file = file-of g in (
-      rw (c .code-of .ensures, c .before .before .before .before .next .ensures)
+      rw (c .code-of .ensures, c .before .before .before .before .read-token .ensures)
           (held-one file _ _ _ _ _ (g .loop .inv .0) _ (token-taken (c .before)) (omega arith) (omega arith) (omega arith)),
       simp length-set (g .loop .inv .1),
       simp length-set (g .loop .inv .2),
@@ -148,7 +148,7 @@ scan-into-spec =
     returns
     new-requires
     loop-holds
-    next-requires
+    read-token-requires
     same-length
     same-length-2
     same-length-3
