@@ -1,0 +1,187 @@
+//! inputs DIR    writes the inputs to measure: directories of `monitor.txt` and
+//! `trace.txt`. No clock is read: they are the same every time.
+
+use std::fs;
+use std::io;
+use std::path::Path;
+
+use twin::check::{check, Checked};
+use twin::machines::{Frame, Machine, Machines, Place, Run, THREADS};
+use twin::table::entries;
+
+/// As many frames as `runner` reads: 65,534 bytes.
+const MOST_FRAMES: usize = 9362;
+
+const MOST_STATES: usize = 4096;
+
+const NAMES: [&str; 6] = ["a", "b", "c", "d", "e", "f"];
+
+fn main() -> io::Result<()> {
+    let directory = std::env::args().nth(1).ok_or(io::Error::other("usage: inputs DIR"))?;
+    let directory = Path::new(&directory);
+    write(directory, "worst", &worst_file(), MOST_FRAMES)?;
+    write(directory, "guards", &guards_file(), 0)?;
+    write(directory, "longest", LONGEST, MOST_FRAMES)?;
+    for eighths in 0..=8 {
+        let frames = MOST_FRAMES * eighths / 8;
+        write(directory, &format!("frames-{frames:04}"), LONGEST, frames)?;
+    }
+    for power in 0..=MOST_STATES.ilog2() {
+        let states = 1 << power;
+        write(directory, &format!("states-{states:04}"), &growing_file(states), 0)?;
+    }
+    Ok(())
+}
+
+fn write(directory: &Path, name: &str, file: &str, frames: usize) -> io::Result<()> {
+    let refused = |refusal| io::Error::other(format!("{name}: {refusal:?}"));
+    let checked = check(file.as_bytes()).map_err(refused)?;
+    let directory = directory.join(name);
+    fs::create_dir_all(&directory)?;
+    fs::write(directory.join("monitor.txt"), file)?;
+    fs::write(directory.join("trace.txt"), trace(&checked, frames))
+}
+
+/// The worst file: 1,024 tokens, 4,096 states, 16 regions, 16 guards, and a table
+/// of 240 lines. Little of it is passed over: all comparisons of a guard but the
+/// last hold in every state, and the last in most; a body is a list of assignments.
+fn worst_file() -> String {
+    file_of(MOST_STATES, guard, |region| {
+        let [a, b, c, d, e, f] = [0, 1, 2, 3, 4, 5].map(|k| name(region + k));
+        format!("{a} := 3 - {b}; {b} := {d}; {d} := {c}; {c} := {f}; {f} := {e};")
+    })
+}
+
+/// As many tokens and states, but all in the guards: bodies are empty, and so is the
+/// table, so that a search for an entry never ends before the last state.
+fn guards_file() -> String {
+    let guard = |region| {
+        let [x, y] = [region, region + 1].map(name);
+        format!("{}{x} + {y} != {}", comparisons(region, 12), region / 6)
+    };
+    file_of(MOST_STATES, guard, |_| String::new())
+}
+
+/// A file like the worst one with any power of two of states up to 4,096. Only the
+/// ranges differ, and no body leaves them, however small they are.
+fn growing_file(states: usize) -> String {
+    file_of(states, guard, |region| {
+        let [x, y, z] = [region, region + 2, region + 3].map(name);
+        format!("{x} := 0; if ({y} > 0) {{ {y} := {y} - 1; }} {z} := {x};")
+    })
+}
+
+fn file_of(
+    states: usize,
+    guard: impl Fn(usize) -> String,
+    body: impl Fn(usize) -> String,
+) -> String {
+    let mut file = String::from("monitor worst {\n");
+    let mut left = states;
+    for name in NAMES {
+        let size = left.min(4);
+        left /= size;
+        file += &format!("  var {name} = 0 in 0..{};\n", size - 1);
+    }
+    file += "  keep !a > 3;\n";
+    for method in 0..8 {
+        file += &format!("  method m{method} {{\n");
+        // The last method has nine regions, the others one each.
+        let behind = if method == 7 { 16 } else { method + 1 };
+        for region in method..behind {
+            file += &format!("    waituntil ({}) {{ {} }}\n", guard(region), body(region));
+        }
+        file += "  }\n";
+    }
+    file + "}\n"
+}
+
+fn guard(region: usize) -> String {
+    let [x, y, z] = [region, region + 1, region + 2].map(name);
+    format!("{}{x} + {y} - {z} != {}", comparisons(region, 6), region / 6)
+}
+
+/// Comparisons that hold in every state, each with `&&` behind it.
+fn comparisons(region: usize, count: usize) -> String {
+    (region..region + count).map(|number| format!("{} <= 3 && ", name(number))).collect()
+}
+
+fn name(number: usize) -> &'static str {
+    NAMES[number % NAMES.len()]
+}
+
+/// A file of few states for the longest trace: signals and broadcasts, guards that
+/// two regions share, methods of one and of two regions.
+const LONGEST: &str = "monitor longest {
+  var items = 0 in 0..3;
+  var turn = 0 in 0..3;
+  var busy = 0 in 0..1;
+  keep true;
+  method put { waituntil (items < 3) { items := items + 1; } }
+  method get { waituntil (items > 0) { items := items - 1; } }
+  method fill { waituntil (items < 2) { items := items + 2; } }
+  method even { waituntil (turn == 0) { turn := 1; } waituntil (turn == 2) { turn := 3; } }
+  method odd { waituntil (turn == 1) { turn := 2; } waituntil (items > 0) { items := items - 1; } }
+  method start { waituntil (busy == 0) { busy := 1; } }
+  method stop { waituntil (busy == 1) { busy := 0; } }
+  method tick {
+    waituntil (true) { if (turn < 3) { turn := turn + 1; } else { turn := 0; } }
+  }
+}
+";
+
+/// Frames that both machines take, drawn so that many threads wait.
+fn trace(checked: &Checked, count: usize) -> String {
+    let machines = Machines::new(checked, &entries(checked));
+    let mut plain = machines.start();
+    let mut table = machines.start();
+    let mut draws = Draws(1);
+    let mut trace = String::new();
+    for _ in 0..count {
+        let mut frames = Vec::new();
+        for frame in all_frames(checked) {
+            let taken = machines.step(&mut plain.clone(), frame, Machine::Plain).is_ok()
+                && machines.step(&mut table.clone(), frame, Machine::Table).is_ok();
+            if taken {
+                frames.extend((0..weight(checked, &plain, frame)).map(|_| frame));
+            }
+        }
+        let frame = frames[draws.next() % frames.len()];
+        machines.step(&mut plain, frame, Machine::Plain).expect("an allowed frame");
+        machines.step(&mut table, frame, Machine::Table).expect("an allowed frame");
+        let flag = u8::from(frame.flag);
+        trace += &format!("{:02X}{:02X}{:02X}\n", frame.thread, frame.region, flag);
+    }
+    trace
+}
+
+fn all_frames(checked: &Checked) -> impl Iterator<Item = Frame> {
+    let regions = checked.monitor.regions.len() as u8;
+    let pairs = (0..THREADS as u8).flat_map(move |t| (0..regions).map(move |r| (t, r)));
+    pairs.flat_map(|(thread, region)| [false, true].map(|flag| Frame { thread, region, flag }))
+}
+
+/// How often a frame is put to the draw. While only two threads are idle, these
+/// run methods of one region alone, so that someone can always move.
+fn weight(checked: &Checked, run: &Run, frame: Frame) -> usize {
+    let idle = run.places.iter().filter(|place| **place == Place::Idle).count();
+    let is_last = checked.monitor.regions[usize::from(frame.region)].is_last;
+    match (run.places[usize::from(frame.thread)], frame.flag) {
+        (Place::Due(_), _) => 1,
+        (Place::Waiting(_), false) => 2,
+        (Place::Waiting(_), true) => 16,
+        (Place::Idle, true) if idle > 2 || is_last => 1,
+        (Place::Idle, false) if idle > 2 => 4,
+        (Place::Idle, _) => 0,
+    }
+}
+
+/// Numbers by a linear congruence, of each the upper sixteen bits.
+struct Draws(u32);
+
+impl Draws {
+    fn next(&mut self) -> usize {
+        self.0 = self.0.wrapping_mul(1_664_525).wrapping_add(1_013_904_223);
+        (self.0 >> 16) as usize
+    }
+}
