@@ -1,5 +1,4 @@
 -- What an answer of the code says: document 01's number and places.
-use Prim.Native.Nat.{ℕ}
 use mathlib.Core.Path.{_≡_}
 use Rattle.meaning.specs.Check.{Answer, answer, Verdict, accepted, refused}
 use Rattle.answers.specs.declared.Answer as code

@@ -1,16 +1,16 @@
--- Whole numbers as differences p less m: sums, order and comparisons of such are those of natural numbers.
-use Prim.Native.Nat.{ℕ, zero, suc, _+_, _-_}
+-- Whole numbers as differences p less m, and as sums less 2 ^ 30: their sums and comparisons are those of natural numbers.
+use Prim.Native.Nat.{ℕ, zero, suc, _+_, _-_, _≤_}
 use native.Mathlib.Omega.{arith}
 use native.Mathlib.Nat.{add-comm}
 use mathlib.Core.Path.{_≡_, refl, sym, ap, _∙_}
-use mathlib.Core.Bool.{Bool, true, false, not, _||_, cond}
-use lib.Dec.{ltb, leb, eqb}
-use lib.IntN.{ℤ, pos, negsuc, negℤ, _+ℤ_, _-ℤ_, +ℤ-assoc, +ℤ-comm, +ℤ-idr, +ℤ-invr, negℤ-+ℤ, negℤ-negℤ}
-use borrow.Author.Tests.{ltb-true, ltb-false, le-ltb, le-leb, lt-leb, eq-eqb, ne-eqb}
+use mathlib.Core.Bool.{Bool, true, false, cond}
+use lib.Dec.{ltb}
+use lib.IntN.{ℤ, pos, negsuc, negℤ, _+ℤ_, _-ℤ_, +ℤ-assoc, +ℤ-comm, +ℤ-idl, +ℤ-idr, +ℤ-invr, negℤ-+ℤ, negℤ-negℤ}
+use borrow.Author.Tests.{ltb-true, ltb-false, lt-ltb, le-ltb}
 use Rattle.syntax.specs.Token.{markNumber}
 use Rattle.syntax.specs.Tree.{Comparison, eq, ne, lt, le, gt, ge, comparisonMark}
-use Rattle.meaning.specs.Value.{negative, less, compares}
-use Rattle.evaluator.specs.Steps.{testOf}
+use Rattle.meaning.specs.Value.{negative, less, compares, joined}
+use Rattle.evaluator.specs.Steps.{worth, signOf, testOf}
 
 shuffle : (a b c d : ℤ) → (a +ℤ b) +ℤ (c +ℤ d) ≡ (a +ℤ c) +ℤ (b +ℤ d)
 shuffle a b c d =
@@ -25,10 +25,10 @@ turned : (c d : ℤ) → negℤ (c -ℤ d) ≡ d -ℤ c
 turned c d = negℤ-+ℤ c (negℤ d) ∙ ap (λ z. negℤ c +ℤ z) (negℤ-negℤ d) ∙ +ℤ-comm (negℤ c) d
 
 -- sums and differences, part by part
-pub added-parts : (p m q n : ℕ) → (pos p -ℤ pos m) +ℤ (pos q -ℤ pos n) ≡ pos (p + q) -ℤ pos (m + n)
+added-parts : (p m q n : ℕ) → (pos p -ℤ pos m) +ℤ (pos q -ℤ pos n) ≡ pos (p + q) -ℤ pos (m + n)
 added-parts p m q n = difference (pos p) (pos m) (pos q) (pos n)
 
-pub taken-parts : (p m q n : ℕ) → (pos p -ℤ pos m) -ℤ (pos q -ℤ pos n) ≡ pos (p + n) -ℤ pos (m + q)
+taken-parts : (p m q n : ℕ) → (pos p -ℤ pos m) -ℤ (pos q -ℤ pos n) ≡ pos (p + n) -ℤ pos (m + q)
 taken-parts p m q n = ap (λ z. (pos p -ℤ pos m) +ℤ z) (turned (pos q) (pos n)) ∙ added-parts p m n q
 
 negative-cond : (c : Bool) (m n : ℕ) → negative (cond c (negsuc m) (pos n)) ≡ c
@@ -57,35 +57,36 @@ same-difference p m q n e =
     wider p m n ∙ ap (λ (k : ℕ). pos k -ℤ pos (m + n)) e ∙ ap (λ (k : ℕ). pos (q + m) -ℤ pos k) (add-comm m n)
     ∙ sym (wider q n m)
 
--- Tests by order
+-- Sums
 
-leb-not : (x y : ℕ) → not (ltb y x) ≡ leb x y
-leb-not x y = go (ltb y x) refl
+shifted : (p q m : ℕ) → ltb (p + m) (q + m) ≡ ltb p q
+shifted p q m = go (ltb p q) refl
   where
-    go : (b : Bool) → ltb y x ≡ b → not b ≡ leb x y
-    go true h = sym (lt-leb x y (ltb-true y x h))
-    go false h = sym (le-leb x y (ltb-false y x h))
+    go : (b : Bool) → ltb p q ≡ b → ltb (p + m) (q + m) ≡ b
+    go true h = lt-ltb (p + m) (q + m) (omega (arith, ltb-true p q h))
+    go false h = le-ltb (p + m) (q + m) (omega (arith, ltb-false p q h))
 
-eqb-not : (x y : ℕ) → not (ltb x y || ltb y x) ≡ eqb x y
-eqb-not x y = go (ltb x y) (ltb y x) refl refl
-  where
-    go : (a b : Bool) → ltb x y ≡ a → ltb y x ≡ b → not (a || b) ≡ eqb x y
-    go true b h k = sym (ne-eqb x y (λ e. omega (arith, ltb-true x y h)))
-    go false true h k = sym (ne-eqb x y (λ e. omega (arith, ltb-true y x k)))
-    go false false h k = sym (eq-eqb x y (omega (arith, ltb-false x y h, ltb-false y x k)))
+less-worth : (p q : ℕ) → less (worth p) (worth q) ≡ ltb p q
+less-worth p q = less-parts p 1073741824 q 1073741824 ∙ shifted p q 1073741824
 
-not-not : (b : Bool) → not (not b) ≡ b
-not-not true = refl
-not-not false = refl
-
-pub compares-parts : (o : Comparison) (p m q n : ℕ)
-    → testOf (markNumber (comparisonMark o)) (p + n) (q + m) ≡ compares o (pos p -ℤ pos m) (pos q -ℤ pos n)
+pub compares-worth : (o : Comparison) (p q : ℕ) → testOf (markNumber (comparisonMark o)) p q ≡ compares o (worth p) (worth q)
 unfolding testOf compares comparisonMark markNumber
-compares-parts eq p m q n =
-    sym (rw (less-parts p m q n, less-parts q n p m) (eqb-not (p + n) (q + m)))
-compares-parts ne p m q n =
-    sym (rw (less-parts p m q n, less-parts q n p m) (sym (not-not (ltb (p + n) (q + m) || ltb (q + m) (p + n))) ∙ ap not (eqb-not (p + n) (q + m))))
-compares-parts lt p m q n = sym (less-parts p m q n)
-compares-parts le p m q n = sym (rw (less-parts q n p m) (leb-not (p + n) (q + m)))
-compares-parts gt p m q n = sym (less-parts q n p m)
-compares-parts ge p m q n = sym (rw (less-parts p m q n) (leb-not (q + m) (p + n)))
+compares-worth eq p q = sym (rw (less-worth p q, less-worth q p))
+compares-worth ne p q = sym (rw (less-worth p q, less-worth q p))
+compares-worth lt p q = sym (less-worth p q)
+compares-worth le p q = sym (rw (less-worth q p))
+compares-worth gt p q = sym (less-worth q p)
+compares-worth ge p q = sym (rw (less-worth p q))
+
+pub joined-zero : (a : ℤ) → joined (signOf false) (worth 1073741824) a ≡ a
+unfolding joined signOf
+joined-zero a = ap (λ z. z +ℤ a) (+ℤ-invr (pos 1073741824)) ∙ +ℤ-idl a
+
+-- of an operand a less b, what a sum is moved up by and then down by, as it is added or taken away
+pub joined-parts : (minus : Bool) (q a b : ℕ) → cond minus a b ≤ q + cond minus b a
+    → joined (signOf minus) (worth q) (pos a -ℤ pos b) ≡ worth (q + cond minus b a - cond minus a b)
+unfolding joined signOf
+joined-parts false q a b h =
+    added-parts q 1073741824 a b ∙ same-difference (q + a) (1073741824 + b) (q + a - b) 1073741824 (omega arith)
+joined-parts true q a b h =
+    taken-parts q 1073741824 a b ∙ same-difference (q + b) (1073741824 + a) (q + b - a) 1073741824 (omega arith)

@@ -22,18 +22,18 @@ front-map [] (suc at) = refl
 front-map (l ∷ ls) zero = refl
 front-map (l ∷ ls) (suc at) = front-map ls at
 
-pub drop-more : (ls : List Lexeme) (at : ℕ) {l : Lexeme} {xs : List Lexeme} → drop at ls ≡ l ∷ xs
+drop-more : (ls : List Lexeme) (at : ℕ) {l : Lexeme} {xs : List Lexeme} → drop at ls ≡ l ∷ xs
     → (drop (suc at) ls ≡ xs) × (getElem? ls at ≡ some l) × (at < length ls)
 drop-more [] zero e = let z : _≡_ {A = ℕ} 0 1 = cc in absurd (omega arith)
 drop-more [] (suc at) e = let z : _≡_ {A = ℕ} 0 1 = cc in absurd (omega arith)
 drop-more (k ∷ ls) zero e = (cc, cc, omega arith)
 drop-more (k ∷ ls) (suc at) e = let t = drop-more ls at e in (t .0, t .1, omega (arith, t .2))
 
-pub kinds-front : (ls : List Lexeme) (ks : List ℕ) → Kinds ls ks → (at : ℕ) → getD ks at 255 ≡ frontKind (drop at ls)
+kinds-front : (ls : List Lexeme) (ks : List ℕ) → Kinds ls ks → (at : ℕ) → getD ks at 255 ≡ frontKind (drop at ls)
 unfolding Kinds
 kinds-front ls ks kinds at = ap (λ (l : List ℕ). getD l at 255) (sym kinds) ∙ front-map ls at
 
-pub kinds-length : (ls : List Lexeme) (ks : List ℕ) → Kinds ls ks → length ls ≡ length ks
+kinds-length : (ls : List Lexeme) (ks : List ℕ) → Kinds ls ks → length ls ≡ length ks
 unfolding Kinds
 kinds-length ls ks kinds = sym (length-map ls kindOf) ∙ ap length kinds
 

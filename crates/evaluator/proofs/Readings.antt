@@ -1,25 +1,26 @@
 -- Readings of expressions and conditions, one law for each way that the code goes: what is read at a place from what was read at its parts.
-use Prim.Native.Nat.{ℕ, _+_, _≤_}
+use Prim.Native.Nat.{ℕ, suc, _+_, _-_, _≤_, _<_}
 use native.Mathlib.Omega.{arith}
 use native.Mathlib.Nat.{add-zero}
-use mathlib.Core.Path.{_≡_, refl, sym, ap, _∙_}
-use mathlib.Core.Bool.{Bool, true, false, not, _&&_, _||_}
+use native.Mathlib.Numerals.{add-one}
+use mathlib.Core.Path.{_≡_, refl, sym, ap, _∙_, subst}
+use mathlib.Core.Bool.{Bool, true, false, not, _&&_, _||_, cond}
 use mathlib.Core.List.{List, [], _∷_, _++_, append-assoc}
 use mathlib.Core.Logic.{_⊎_, inl, inr, ⊎-elim}
 use lib.Dec.{eqb}
-use lib.ListN.{length, getD, drop}
+use lib.ListN.{length, getD, drop, replicate, getD-replicate}
 use lib.IntN.{ℤ, pos, negℤ, _-ℤ_, +ℤ-idl}
 use borrow.Author.Tests.{eqb-false}
 use Rattle.syntax.specs.Token.{Lexeme, mark, key, Mark, markNumber, keywordNumber, rparen, and-and, or-or, semicolon, k-true, k-false}
 use Rattle.syntax.specs.Kind.{kindOf}
 use Rattle.syntax.specs.Tree.{Var, plain, negated, Atom, literal, variable, Sign, added, taken, Term, Expr, Comparison, eq, ne, lt, le, gt, ge, only, or, just, and, Simple, negation, bracketed, constant, compare, each, spellInt, spellAtom, signMark, spellTerm, spellExpr, comparisonMark, spellConstant, spellCond, spellConj, spellSimple}
 use Rattle.meaning.specs.Value.{intOf, atomValue, joined, termsValue, exprValue, compares, truth, conjTruth, simpleTruth}
-use Rattle.evaluator.specs.Coding.{Codes, EndsCond}
+use Rattle.evaluator.specs.Coding.{Codes, EndsCond, lane}
 use Rattle.meaning.specs.Biased.{Biased}
-use Rattle.evaluator.specs.Steps.{Next, frontKind, EndsAtom, EndsExpr, EndsConj, EndsWhole, Sums, Small, Truths, AtomRead, TermsRead, ExprRead, testOf, Compared, spellCompared, comparedTruth, CompareRead, SimpleRead, ConjRead, CondRead}
-use Rattle.evaluator.proofs.Numbers.{added-parts, taken-parts, compares-parts}
-use Rattle.evaluator.proofs.Places.{front-is, behind, number-at, name-at, apart}
-use Rattle.evaluator.proofs.Slots.{slot-value}
+use Rattle.evaluator.specs.Steps.{Next, frontKind, EndsAtom, EndsExpr, EndsConj, EndsWhole, operand, AtomRead, worth, signOf, Near, Sums, TermRead, ExprRead, testOf, Truths, spellCompared, comparedTruth, CompareRead, SimpleRead, ConjRead, CondRead}
+use Rattle.evaluator.proofs.Numbers.{compares-worth, joined-zero, joined-parts}
+use Rattle.evaluator.proofs.Places.{front-is, behind, number-at, name-at, apart, kind-within}
+use Rattle.evaluator.proofs.Slots.{slot-value, slot-held}
 
 -- Atoms
 
@@ -29,39 +30,37 @@ atomKind (literal (plain n)) = 29
 atomKind (literal (negated n)) = 15
 atomKind (variable x) = 30
 
-module _ {ks values vars : List ℕ} where
-  pub atom-name : {at n : ℕ} (p m : ℕ) → getD ks at 255 ≡ 30 → Next ks at n → p ≤ 65535 → m ≤ 65535
-      → ((vs : List Var) (as′ : List ℤ) → Biased vs as′ vars → getD as′ (getD values at 0) (pos 0) ≡ pos p -ℤ pos m)
-      → AtomRead ks values vars at p m n
+module _ {ks values : List ℕ} where
+  pub atom-name : {at n slot : ℕ} → getD ks at 255 ≡ 30 → Next ks at n → slot ≡ getD values at 0 → AtomRead ks values at slot 128 128 n
   unfolding frontKind spellAtom spellInt kindOf markNumber atomValue
-  atom-name {at} {n} p m kind next p-small m-small held = record {
+  atom-name {at} {n} {slot} kind next value = record {
     from = next .from;
     to = next .to;
-    plus-small = p-small;
-    minus-small = m-small;
-    reads = λ vs as′ ls us x codes biased e ends. go vs as′ ls us x codes biased e (front-is codes at kind e);
+    plus-small = omega arith;
+    minus-small = omega arith;
+    reads = λ vs as′ vars ls us a codes biased e. go vs as′ vars ls us a codes biased e (front-is codes at kind e);
   }
     where
-      go : (vs : List Var) (as′ : List ℤ) (ls us : List Lexeme) (a : Atom) → Codes vs ls ks values → Biased vs as′ vars
+      go : (vs : List Var) (as′ : List ℤ) (vars : List ℕ) (ls us : List Lexeme) (a : Atom) → Codes vs ls ks values → Biased vs as′ vars
           → drop at ls ≡ spellAtom a ++ us → frontKind (spellAtom a ++ us) ≡ 30
-          → (atomValue vs as′ a ≡ pos p -ℤ pos m) × (drop n ls ≡ us)
-      go vs as′ ls us (literal (plain k)) codes biased e f = apart 29 30 refl refl f
-      go vs as′ ls us (literal (negated k)) codes biased e f = apart 15 30 refl refl f
-      go vs as′ ls us (variable x) codes biased e f = (
+          → (atomValue vs as′ a ≡ pos (operand vars slot 128) -ℤ pos 128) × (drop n ls ≡ us)
+      go vs as′ vars ls us (literal (plain k)) codes biased e f = apart 29 30 refl refl f
+      go vs as′ vars ls us (literal (negated k)) codes biased e f = apart 15 30 refl refl f
+      go vs as′ vars ls us (variable x) codes biased e f = (
         slot-value vs as′ x (biased .each-value)
-            ∙ ap (λ (k : ℕ). getD as′ k (pos 0)) (sym (name-at codes at x e)) ∙ held vs as′ biased,
+            ∙ ap (λ (k : ℕ). getD as′ k (pos 0)) (sym (value ∙ name-at codes at x e)) ∙ slot-held biased slot,
         behind codes next e,
       )
 
-  pub atom-minus : {at r n : ℕ} (m : ℕ) → getD ks at 255 ≡ 15 → Next ks at r → Next ks r n → m ≤ 65535 → m ≡ getD values r 0
-      → AtomRead ks values vars at 0 m n
-  unfolding frontKind spellAtom spellInt kindOf markNumber atomValue intOf
-  atom-minus {at} {r} {n} m kind one two small value = record {
+  pub atom-minus : {at r n m : ℕ} → getD ks at 255 ≡ 15 → Next ks at r → Next ks r n → m ≤ 65535 → m ≡ getD values r 0
+      → AtomRead ks values at 6 0 m n
+  unfolding frontKind spellAtom spellInt kindOf markNumber atomValue intOf operand
+  atom-minus {at} {r} {n} {m} kind one two small value = record {
     from = omega (arith, one .from, two .from);
     to = two .to;
     plus-small = omega arith;
     minus-small = small;
-    reads = λ vs as′ ls us x codes biased e ends. go vs as′ ls us x codes e (front-is codes at kind e);
+    reads = λ vs as′ vars ls us a codes biased e. go vs as′ ls us a codes e (front-is codes at kind e);
   }
     where
       go : (vs : List Var) (as′ : List ℤ) (ls us : List Lexeme) (a : Atom) → Codes vs ls ks values
@@ -74,15 +73,15 @@ module _ {ks values vars : List ℕ} where
       )
       go vs as′ ls us (variable x) codes e f = apart 30 15 refl refl f
 
-  pub atom-number : {at n : ℕ} (p : ℕ) → (getD ks at 255 ≡ 30 → ⊥) → (getD ks at 255 ≡ 15 → ⊥) → Next ks at n
-      → p ≤ 65535 → p ≡ getD values at 0 → AtomRead ks values vars at p 0 n
-  unfolding frontKind spellAtom spellInt kindOf markNumber atomValue intOf
-  atom-number {at} {n} p no-name no-minus next small value = record {
+  pub atom-number : {at n p : ℕ} → (getD ks at 255 ≡ 30 → ⊥) → (getD ks at 255 ≡ 15 → ⊥) → Next ks at n
+      → p ≤ 65535 → p ≡ getD values at 0 → AtomRead ks values at 6 p 0 n
+  unfolding frontKind spellAtom spellInt kindOf markNumber atomValue intOf operand
+  atom-number {at} {n} {p} no-name no-minus next small value = record {
     from = next .from;
     to = next .to;
     plus-small = small;
     minus-small = omega arith;
-    reads = λ vs as′ ls us x codes biased e ends. go vs as′ ls us x codes e (front-is codes at refl e);
+    reads = λ vs as′ vars ls us a codes biased e. go vs as′ ls us a codes e (front-is codes at refl e);
   }
     where
       go : (vs : List Var) (as′ : List ℤ) (ls us : List Lexeme) (a : Atom) → Codes vs ls ks values
@@ -107,82 +106,168 @@ unfolding markNumber signMark
 sign-ends added k f g e = absurd (f e)
 sign-ends taken k f g e = absurd (g e)
 
-module _ {ks values vars : List ℕ} where
+-- a sign is a token
+pub past-sign : {ks : List ℕ} {at r : ℕ} (s : Sign) → Next ks at r → getD ks at 255 ≡ markNumber (signMark s) → r ≡ suc at
+unfolding markNumber signMark
+past-sign added next e = kind-within 14 next e refl .1
+past-sign taken next e = kind-within 15 next e refl .1
+
+small : (minus : Bool) (x y : ℕ) → x ≤ 65535 → y ≤ 65535 → cond minus x y ≤ 65535
+small true x y h k = h
+small false x y h k = k
+
+-- an operand added to a sum in each lane, or taken away
+module _ {ks values lanes : List ℕ} {at slot a b n : ℕ} (atom : AtomRead ks values at slot a b n) (near : Near at lanes) (short : at ≤ 8192)
+    (vars one : List ℕ) (ones : (j : ℕ) → j < 16 → (getD one j 0 ≡ operand (lane vars j) slot a) × (a ≤ 65535 → getD one j 0 ≤ 65535))
+    (minus : Bool) where
+  two : (j : ℕ) → j < 16 → getD (replicate 16 b) j 0 ≡ b
+  two j l = getD-replicate {A = ℕ} 16 j b 0 l
+
+  up : (j : ℕ) → j < 16 → cond minus (getD (replicate 16 b) j 0) (getD one j 0) ≤ 65535
+  up j l = small minus (getD (replicate 16 b) j 0) (getD one j 0) (omega (arith, two j l, atom .minus-small)) (ones j l .1 (atom .plus-small))
+
+  down : (j : ℕ) → j < 16 → cond minus (getD one j 0) (getD (replicate 16 b) j 0) ≤ 65535
+  down j l = small minus (getD one j 0) (getD (replicate 16 b) j 0) (ones j l .1 (atom .plus-small)) (omega (arith, two j l, atom .minus-small))
+
+  pub term-fits : (j : ℕ) → j < 16
+      → (getD lanes j 0 + cond minus (getD (replicate 16 b) j 0) (getD one j 0) < 4294967296)
+      × (cond minus (getD one j 0) (getD (replicate 16 b) j 0) ≤ getD lanes j 0 + cond minus (getD (replicate 16 b) j 0) (getD one j 0))
+  term-fits j l = (omega (arith, up j l, near .most j l), omega (arith, down j l, near .least j l))
+
+  pub term-reads : {sums : List ℕ}
+      → ((j : ℕ) → j < 16
+      → getD sums j 0 ≡ getD lanes j 0 + cond minus (getD (replicate 16 b) j 0) (getD one j 0) - cond minus (getD one j 0) (getD (replicate 16 b) j 0))
+      → TermRead ks values vars minus lanes at sums n
+  term-reads {sums} sum = record {
+    from = atom .from;
+    to = atom .to;
+    near = record {
+      most = λ j l. omega (arith, sum j l, up j l, near .most j l, atom .from);
+      least = λ j l. omega (arith, sum j l, down j l, near .least j l, atom .from);
+    };
+    reads = λ j l vs as′ ls us x codes biased e ends.
+        let t = atom .reads vs as′ (lane vars j) ls us x codes biased e in (
+          ap (λ z. joined (signOf minus) (worth (getD lanes j 0)) z)
+              (t .0 ∙ ap (λ (k : ℕ). pos k -ℤ pos b) (sym (ones j l .0)) ∙ ap (λ (k : ℕ). pos (getD one j 0) -ℤ pos k) (sym (two j l)))
+              ∙ joined-parts minus (getD lanes j 0) (getD one j 0) (getD (replicate 16 b) j 0) (term-fits j l .1)
+              ∙ ap worth (sym (sum j l)),
+          t .1,
+        );
+  }
+
+-- an expression behind sums and a sign
+abbrev RestRead : List ℕ → List ℕ → List ℕ → Bool → List ℕ → ℕ → List ℕ → ℕ → Type 0
+RestRead ks values vars minus lanes at sums n =
+    Sums spellExpr EndsExpr
+    (λ j vs as′ x. termsValue vs as′ (joined (signOf minus) (worth (getD lanes j 0)) (atomValue vs as′ (x .first))) (x .more))
+    ks values vars at sums n
+
+module _ {ks values vars : List ℕ} (minus : Bool) (lanes : List ℕ) {at n : ℕ} {sums : List ℕ} (term : TermRead ks values vars minus lanes at sums n) where
+  -- the first atom of an expression, and what stands behind it
+  first : (j : ℕ) → j < 16 → (vs : List Var) (as′ : List ℤ) (ls us : List Lexeme) (x : Expr) → Codes vs ls ks values → Biased vs as′ (lane vars j)
+      → drop at ls ≡ spellExpr x ++ us
+      → (joined (signOf minus) (worth (getD lanes j 0)) (atomValue vs as′ (x .first)) ≡ worth (getD sums j 0))
+      × (drop n ls ≡ each spellTerm (x .more) ++ us)
+  unfolding spellExpr EndsAtom
+  first j l vs as′ ls us x codes biased e =
+      term .reads j l vs as′ ls (each spellTerm (x .more) ++ us) (x .first) codes biased
+      (e ∙ append-assoc (spellAtom (x .first)) (each spellTerm (x .more)) us) tt
+
   -- no further term
-  pub terms-end : (q o at : ℕ) → at ≤ length ks → Small at q o → (getD ks at 255 ≡ 14 → ⊥) → (getD ks at 255 ≡ 15 → ⊥)
-      → TermsRead ks values vars q o at q o at
+  rest-end : (getD ks n 255 ≡ 14 → ⊥) → (getD ks n 255 ≡ 15 → ⊥) → RestRead ks values vars minus lanes at sums n
   unfolding frontKind each spellTerm kindOf termsValue
-  terms-end q o at within small no-plus no-minus = record {
-    from = omega arith;
-    to = within;
-    plus-small = small .plus-small;
-    minus-small = small .minus-small;
-    reads = λ vs as′ ls us x codes biased e ends. go vs as′ ls us x e (front-is codes at refl e);
+  rest-end no-plus no-minus = record {
+    from = term .from;
+    to = term .to;
+    near = term .near;
+    reads = λ j l vs as′ ls us x codes biased e ends.
+        let t = first j l vs as′ ls us x codes biased e in
+        go vs as′ ls us (x .more) _ _ (t .0) (t .1) (front-is codes n refl (t .1));
   }
     where
-      go : (vs : List Var) (as′ : List ℤ) (ls us : List Lexeme) (ts : List Term)
-          → drop at ls ≡ each spellTerm ts ++ us → frontKind (each spellTerm ts ++ us) ≡ getD ks at 255
-          → (termsValue vs as′ (pos q -ℤ pos o) ts ≡ pos q -ℤ pos o) × (drop at ls ≡ us)
-      go vs as′ ls us [] e f = (refl, e)
-      go vs as′ ls us (t ∷ ts) e f = sign-ends (t .sign) (getD ks at 255) no-plus no-minus (sym f)
+      go : (vs : List Var) (as′ : List ℤ) (ls us : List Lexeme) (ts : List Term) (z y : ℤ) → z ≡ y
+          → drop n ls ≡ each spellTerm ts ++ us → frontKind (each spellTerm ts ++ us) ≡ getD ks n 255
+          → (termsValue vs as′ z ts ≡ y) × (drop n ls ≡ us)
+      go vs as′ ls us [] z y h e f = (h, e)
+      go vs as′ ls us (t ∷ ts) z y h e f = sign-ends (t .sign) (getD ks n 255) no-plus no-minus (sym f)
 
   -- a term more
-  pub terms-more : (s : Sign) (q o q′ o′ : ℕ) {at r a b k p m n : ℕ} → getD ks at 255 ≡ markNumber (signMark s) → Next ks at r
-      → AtomRead ks values vars r a b k → joined s (pos q -ℤ pos o) (pos a -ℤ pos b) ≡ pos q′ -ℤ pos o′
-      → TermsRead ks values vars q′ o′ k p m n → TermsRead ks values vars q o at p m n
-  unfolding frontKind each spellTerm kindOf termsValue EndsExpr EndsAtom
-  terms-more s q o q′ o′ {at} {r} {a} {b} {k} {p} {m} {n} kind next atom sum more = record {
-    from = omega (arith, next .from, atom .from, more .from);
-    to = more .to;
-    plus-small = more .plus-small;
-    minus-small = more .minus-small;
-    reads = λ vs as′ ls us x codes biased e ends. go vs as′ ls us x codes biased e ends (front-is codes at kind e);
+  rest-more : (minus′ : Bool) {r n′ : ℕ} {sums′ : List ℕ} → getD ks n 255 ≡ markNumber (signMark (signOf minus′)) → Next ks n r
+      → RestRead ks values vars minus′ sums r sums′ n′ → RestRead ks values vars minus lanes at sums′ n′
+  unfolding frontKind spellExpr each spellTerm kindOf termsValue EndsExpr
+  rest-more minus′ {r} {n′} {sums′} kind next rest = record {
+    from = omega (arith, term .from, next .from, rest .from);
+    to = rest .to;
+    near = rest .near;
+    reads = λ j l vs as′ ls us x codes biased e ends.
+        let t = first j l vs as′ ls us x codes biased e in
+        go j l vs as′ ls us (x .more) codes biased _ (t .0) (t .1) ends (front-is codes n kind (t .1));
   }
     where
-      go : (vs : List Var) (as′ : List ℤ) (ls us : List Lexeme) (ts : List Term) → Codes vs ls ks values → Biased vs as′ vars
-          → drop at ls ≡ each spellTerm ts ++ us → EndsExpr us → frontKind (each spellTerm ts ++ us) ≡ markNumber (signMark s)
-          → (termsValue vs as′ (pos q -ℤ pos o) ts ≡ pos p -ℤ pos m) × (drop n ls ≡ us)
-      go vs as′ ls us [] codes biased e ends f = sign-ends s (frontKind us) (ends .0) (ends .1) f
-      go vs as′ ls us (t ∷ ts) codes biased e ends f =
-          let same : t .sign ≡ s = sign-same (t .sign) s f in
-          let at-atom : drop r ls ≡ spellAtom (t .atom) ++ (each spellTerm ts ++ us) =
-          behind codes next e ∙ append-assoc (spellAtom (t .atom)) (each spellTerm ts) us in
-          let one = atom .reads vs as′ ls (each spellTerm ts ++ us) (t .atom) codes biased at-atom tt in
-          let rest = more .reads vs as′ ls us ts codes biased (one .1) ends in (
-            ap (λ z. termsValue vs as′ z ts)
-                (ap (λ g. joined g (pos q -ℤ pos o) (atomValue vs as′ (t .atom))) same
-                ∙ ap (λ z. joined s (pos q -ℤ pos o) z) (one .0) ∙ sum)
-                ∙ rest .0,
-            rest .1,
+      go : (j : ℕ) → j < 16 → (vs : List Var) (as′ : List ℤ) (ls us : List Lexeme) (ts : List Term) → Codes vs ls ks values
+          → Biased vs as′ (lane vars j) → (z : ℤ) → z ≡ worth (getD sums j 0)
+          → drop n ls ≡ each spellTerm ts ++ us → EndsExpr us → frontKind (each spellTerm ts ++ us) ≡ markNumber (signMark (signOf minus′))
+          → (termsValue vs as′ z ts ≡ worth (getD sums′ j 0)) × (drop n′ ls ≡ us)
+      go j l vs as′ ls us [] codes biased z h e ends f = sign-ends (signOf minus′) (frontKind us) (ends .0) (ends .1) f
+      go j l vs as′ ls us (t ∷ ts) codes biased z h e ends f =
+          let s = rest .reads j l vs as′ ls us (record { first = t .atom; more = ts }) codes biased (behind codes next e) ends in (
+            ap (λ y. termsValue vs as′ (joined (t .sign) y (atomValue vs as′ (t .atom))) ts) h
+                ∙ ap (λ g. termsValue vs as′ (joined g (worth (getD sums j 0)) (atomValue vs as′ (t .atom))) ts)
+                (sign-same (t .sign) (signOf minus′) f)
+                ∙ s .0,
+            s .1,
           )
 
-  pub expr-reads : {at a b k p m n : ℕ} → AtomRead ks values vars at a b k → TermsRead ks values vars a b k p m n
-      → ExprRead ks values vars at p m n
-  unfolding spellExpr exprValue EndsAtom
-  expr-reads {at} {a} {b} {k} {p} {m} {n} atom more = record {
-    from = omega (arith, atom .from, more .from);
-    to = more .to;
-    plus-small = more .plus-small;
-    minus-small = more .minus-small;
-    reads = λ vs as′ ls us x codes biased e ends. go vs as′ ls us x codes biased e ends;
+pub near-more : {m k : ℕ} {lanes : List ℕ} → Near m lanes → m ≤ k → Near k lanes
+near-more near h = record {
+  most = λ j l. omega (arith, near .most j l);
+  least = λ j l. omega (arith, near .least j l);
+}
+
+-- an expression from a place, of which the operand at another comes next: what is read there is the whole
+pub record Open (ks values vars : List ℕ) (at : ℕ) (lanes : List ℕ) (minus : Bool) (place : ℕ) : Type 0 where
+  pub to : place ≤ length ks
+  pub near : Near place lanes
+  pub whole : (sums : List ℕ) (n : ℕ) → RestRead ks values vars minus lanes place sums n → ExprRead ks values vars at sums n
+
+module _ {ks values vars : List ℕ} {at : ℕ} where
+  pub open-first : at ≤ length ks → Open ks values vars at (replicate 16 1073741824) false at
+  unfolding exprValue
+  open-first within = record {
+    to = within;
+    near = record {
+      most = λ j l. omega (arith, zero j l);
+      least = λ j l. omega (arith, zero j l);
+    };
+    whole = λ sums n rest. record {
+      from = rest .from;
+      to = rest .to;
+      near = rest .near;
+      reads = λ j l vs as′ ls us x codes biased e ends.
+          let t = rest .reads j l vs as′ ls us x codes biased e ends in (
+            ap (λ z. termsValue vs as′ z (x .more))
+                (sym (ap (λ (k : ℕ). joined (signOf false) (worth k) (atomValue vs as′ (x .first))) (zero j l) ∙ joined-zero (atomValue vs as′ (x .first))))
+                ∙ t .0,
+            t .1,
+          );
+    };
   }
     where
-      go : (vs : List Var) (as′ : List ℤ) (ls us : List Lexeme) (x : Expr) → Codes vs ls ks values → Biased vs as′ vars
-          → drop at ls ≡ spellExpr x ++ us → EndsExpr us → (exprValue vs as′ x ≡ pos p -ℤ pos m) × (drop n ls ≡ us)
-      go vs as′ ls us x codes biased e ends =
-          let at-atom : drop at ls ≡ spellAtom (x .first) ++ (each spellTerm (x .more) ++ us) =
-          e ∙ append-assoc (spellAtom (x .first)) (each spellTerm (x .more)) us in
-          let one = atom .reads vs as′ ls (each spellTerm (x .more) ++ us) (x .first) codes biased at-atom tt in
-          let rest = more .reads vs as′ ls us (x .more) codes biased (one .1) ends in
-          (ap (λ z. termsValue vs as′ z (x .more)) (one .0) ∙ rest .0, rest .1)
+      zero : (j : ℕ) → j < 16 → _≡_ {A = ℕ} (getD (replicate 16 1073741824) j 0) 1073741824
+      zero j l = getD-replicate {A = ℕ} 16 j 1073741824 0 l
 
-pub joined-added : (q o a b : ℕ) → joined added (pos q -ℤ pos o) (pos a -ℤ pos b) ≡ pos (q + a) -ℤ pos (o + b)
-unfolding joined
-joined-added q o a b = added-parts q o a b
+  module _ {lanes sums : List ℕ} {minus : Bool} {place n : ℕ} (open′ : Open ks values vars at lanes minus place)
+      (term : TermRead ks values vars minus lanes place sums n) where
+    pub open-last : (getD ks n 255 ≡ 14 → ⊥) → (getD ks n 255 ≡ 15 → ⊥) → ExprRead ks values vars at sums n
+    open-last no-plus no-minus = open′ .whole sums n (rest-end minus lanes term no-plus no-minus)
 
-pub joined-taken : (q o a b : ℕ) → joined taken (pos q -ℤ pos o) (pos a -ℤ pos b) ≡ pos (q + b) -ℤ pos (o + a)
-unfolding joined
-joined-taken q o a b = taken-parts q o a b
+    pub open-more : (minus′ : Bool) {r : ℕ} → getD ks n 255 ≡ markNumber (signMark (signOf minus′)) → Next ks n r
+        → Open ks values vars at sums minus′ r
+    open-more minus′ {r} kind next = record {
+      to = next .to;
+      near = subst (λ (k : ℕ). Near k sums) (add-one n ∙ sym (past-sign (signOf minus′) next kind)) (term .near);
+      whole = λ sums′ n′ rest. open′ .whole sums′ n′ (rest-more minus lanes term minus′ kind next rest);
+    }
 
 -- What ends what
 
@@ -220,30 +305,25 @@ rparen-ends us = whole-ends (mark rparen ∷ us) 3 refl refl refl refl refl
 -- Conditions
 
 module _ {ks values vars : List ℕ} where
-  pub compare-reads : {at p m k r q o n : ℕ} (kind : ℕ) (h : Bool) → ExprRead ks values vars at p m k → kind ≡ getD ks k 255 → Next ks k r
-      → ExprRead ks values vars r q o n → h ≡ testOf kind (p + o) (q + m) → CompareRead ks values vars at h n
+  pub compare-reads : {at k r n kind : ℕ} {a b : List ℕ} {holds : List Bool} → ExprRead ks values vars at a k → kind ≡ getD ks k 255 → Next ks k r
+      → ExprRead ks values vars r b n → ((j : ℕ) → j < 16 → getD holds j false ≡ testOf kind (getD a j 0) (getD b j 0))
+      → CompareRead ks values vars at holds n
   unfolding spellCompared comparedTruth frontKind kindOf
-  compare-reads {at} {p} {m} {k} {r} {q} {o} {n} kind h one is next two tests = record {
+  compare-reads {k = k} {a = a} {b = b} one is next two tests = record {
     from = omega (arith, one .from, next .from, two .from);
     to = two .to;
-    reads = λ vs as′ ls us x codes biased e ends. go vs as′ ls us x codes biased e ends;
+    reads = λ j l vs as′ ls us x codes biased e ends.
+        let at-one = e ∙ append-assoc (spellExpr (x .one)) (mark (comparisonMark (x .by)) ∷ spellExpr (x .two)) us in
+        let p = one .reads j l vs as′ ls (mark (comparisonMark (x .by)) ∷ (spellExpr (x .two) ++ us)) (x .one) codes biased at-one
+        (comparison-ends (x .by) (spellExpr (x .two) ++ us)) in
+        let q = two .reads j l vs as′ ls us (x .two) codes biased (behind codes next (p .1)) ends in (
+          tests j l ∙ ap (λ (m : ℕ). testOf m (getD a j 0) (getD b j 0)) (is ∙ sym (front-is codes k refl (p .1)))
+              ∙ compares-worth (x .by) (getD a j 0) (getD b j 0)
+              ∙ ap (λ z. compares (x .by) z (worth (getD b j 0))) (sym (p .0))
+              ∙ ap (λ z. compares (x .by) (exprValue vs as′ (x .one)) z) (sym (q .0)),
+          q .1,
+        );
   }
-    where
-      go : (vs : List Var) (as′ : List ℤ) (ls us : List Lexeme) (x : Compared) → Codes vs ls ks values → Biased vs as′ vars
-          → drop at ls ≡ spellCompared x ++ us → EndsExpr us
-          → (h ≡ comparedTruth x vs as′) × (drop n ls ≡ us)
-      go vs as′ ls us x codes biased e ends =
-          let at-one : drop at ls ≡ spellExpr (x .one) ++ (mark (comparisonMark (x .by)) ∷ (spellExpr (x .two) ++ us)) =
-          e ∙ append-assoc (spellExpr (x .one)) (mark (comparisonMark (x .by)) ∷ spellExpr (x .two)) us in
-          let a = one .reads vs as′ ls (mark (comparisonMark (x .by)) ∷ (spellExpr (x .two) ++ us)) (x .one) codes biased at-one
-          (comparison-ends (x .by) (spellExpr (x .two) ++ us)) in
-          let b = two .reads vs as′ ls us (x .two) codes biased (behind codes next (a .1)) ends in (
-            tests ∙ ap (λ (j : ℕ). testOf j (p + o) (q + m)) (is ∙ sym (front-is codes k refl (a .1)))
-                ∙ compares-parts (x .by) p m q o
-                ∙ ap (λ z. compares (x .by) z (pos q -ℤ pos o)) (sym (a .0))
-                ∙ ap (λ z. compares (x .by) (exprValue vs as′ (x .one)) z) (sym (b .0)),
-            b .1,
-          )
 
 -- what a simple condition begins with
 unfoldable pub constantKind : Bool → ℕ
@@ -305,50 +385,52 @@ constant-spelled true us = (key k-true, refl)
 constant-spelled false us = (key k-false, refl)
 
 module _ {ks values vars : List ℕ} where
-  pub simple-not : {at r n : ℕ} {h : Bool} → getD ks at 255 ≡ 16 → Next ks at r → SimpleRead ks values vars r h n
-      → SimpleRead ks values vars at (not h) n
+  pub simple-not : {at r n : ℕ} {holds turned : List Bool} → getD ks at 255 ≡ 16 → Next ks at r → SimpleRead ks values vars r holds n
+      → ((j : ℕ) → j < 16 → getD turned j false ≡ not (getD holds j false)) → SimpleRead ks values vars at turned n
   unfolding spellSimple simpleTruth simpleKind
-  simple-not {at} {r} {n} {h} kind next simple = record {
+  simple-not {at} {r} {n} {holds} {turned} kind next simple turns = record {
     from = omega (arith, next .from, simple .from);
     to = simple .to;
-    reads = λ vs as′ ls us x codes biased e ends. go vs as′ ls us x codes biased e ends (sym (simple-front x us) ∙ front-is codes at kind e);
+    reads = λ j l vs as′ ls us x codes biased e ends. go j l vs as′ ls us x codes biased e ends (sym (simple-front x us) ∙ front-is codes at kind e);
   }
     where
-      go : (vs : List Var) (as′ : List ℤ) (ls us : List Lexeme) (x : Simple) → Codes vs ls ks values → Biased vs as′ vars
+      go : (j : ℕ) → j < 16 → (vs : List Var) (as′ : List ℤ) (ls us : List Lexeme) (x : Simple) → Codes vs ls ks values → Biased vs as′ (lane vars j)
           → drop at ls ≡ spellSimple x ++ us → EndsExpr us → simpleKind x ≡ 16
-          → (not h ≡ simpleTruth x vs as′) × (drop n ls ≡ us)
-      go vs as′ ls us (negation s) codes biased e ends f =
-          let t = simple .reads vs as′ ls us s codes biased (behind codes next e) ends in
-          (ap not (t .0), t .1)
-      go vs as′ ls us (bracketed c) codes biased e ends f = apart 2 16 refl refl f
-      go vs as′ ls us (constant b) codes biased e ends f = not-constant b 16 refl refl f
-      go vs as′ ls us (compare a o b) codes biased e ends f = not-atom (a .first) 16 refl refl refl f
+          → (getD turned j false ≡ simpleTruth x vs as′) × (drop n ls ≡ us)
+      go j l vs as′ ls us (negation s) codes biased e ends f =
+          let t = simple .reads j l vs as′ ls us s codes biased (behind codes next e) ends in
+          (turns j l ∙ ap not (t .0), t .1)
+      go j l vs as′ ls us (bracketed c) codes biased e ends f = apart 2 16 refl refl f
+      go j l vs as′ ls us (constant b) codes biased e ends f = not-constant b 16 refl refl f
+      go j l vs as′ ls us (compare a o b) codes biased e ends f = not-atom (a .first) 16 refl refl refl f
 
-  pub simple-bracketed : {at r k n : ℕ} {h : Bool} → getD ks at 255 ≡ 2 → Next ks at r → CondRead ks values vars r h k → Next ks k n
-      → SimpleRead ks values vars at h n
+  pub simple-bracketed : {at r k n : ℕ} {holds : List Bool} → getD ks at 255 ≡ 2 → Next ks at r → CondRead ks values vars r holds k → Next ks k n
+      → SimpleRead ks values vars at holds n
   unfolding spellSimple simpleTruth simpleKind
-  simple-bracketed {at} {r} {k} {n} {h} kind next whole last = record {
+  simple-bracketed {at} {r} {k} {n} {holds} kind next whole last = record {
     from = omega (arith, next .from, whole .from, last .from);
     to = last .to;
-    reads = λ vs as′ ls us x codes biased e ends. go vs as′ ls us x codes biased e (sym (simple-front x us) ∙ front-is codes at kind e);
+    reads = λ j l vs as′ ls us x codes biased e ends. go j l vs as′ ls us x codes biased e (sym (simple-front x us) ∙ front-is codes at kind e);
   }
     where
-      go : (vs : List Var) (as′ : List ℤ) (ls us : List Lexeme) (x : Simple) → Codes vs ls ks values → Biased vs as′ vars
-          → drop at ls ≡ spellSimple x ++ us → simpleKind x ≡ 2 → (h ≡ simpleTruth x vs as′) × (drop n ls ≡ us)
-      go vs as′ ls us (negation s) codes biased e f = apart 16 2 refl refl f
-      go vs as′ ls us (bracketed c) codes biased e f =
-          let t = whole .reads vs as′ ls (mark rparen ∷ us) c codes biased
+      go : (j : ℕ) → j < 16 → (vs : List Var) (as′ : List ℤ) (ls us : List Lexeme) (x : Simple) → Codes vs ls ks values → Biased vs as′ (lane vars j)
+          → drop at ls ≡ spellSimple x ++ us → simpleKind x ≡ 2 → (getD holds j false ≡ simpleTruth x vs as′) × (drop n ls ≡ us)
+      go j l vs as′ ls us (negation s) codes biased e f = apart 16 2 refl refl f
+      go j l vs as′ ls us (bracketed c) codes biased e f =
+          let t = whole .reads j l vs as′ ls (mark rparen ∷ us) c codes biased
           (behind codes next e ∙ append-assoc (spellCond c) (mark rparen ∷ []) us) (rparen-ends us) in
           (t .0, behind codes last (t .1))
-      go vs as′ ls us (constant b) codes biased e f = not-constant b 2 refl refl f
-      go vs as′ ls us (compare a o b) codes biased e f = not-atom (a .first) 2 refl refl refl f
+      go j l vs as′ ls us (constant b) codes biased e f = not-constant b 2 refl refl f
+      go j l vs as′ ls us (compare a o b) codes biased e f = not-atom (a .first) 2 refl refl refl f
 
-  pub simple-constant : (h : Bool) {at n : ℕ} → getD ks at 255 ≡ constantKind h → Next ks at n → SimpleRead ks values vars at h n
+  pub simple-constant : (h : Bool) {at n : ℕ} → getD ks at 255 ≡ constantKind h → Next ks at n → SimpleRead ks values vars at (replicate 16 h) n
   unfolding spellSimple simpleTruth simpleKind
   simple-constant h {at} {n} kind next = record {
     from = next .from;
     to = next .to;
-    reads = λ vs as′ ls us x codes biased e ends. go vs as′ ls us x codes e (sym (simple-front x us) ∙ front-is codes at kind e);
+    reads = λ j l vs as′ ls us x codes biased e ends.
+        let t = go vs as′ ls us x codes e (sym (simple-front x us) ∙ front-is codes at kind e) in
+        (getD-replicate 16 j h false l ∙ t .0, t .1);
   }
     where
       go : (vs : List Var) (as′ : List ℤ) (ls us : List Lexeme) (x : Simple) → Codes vs ls ks values
@@ -359,24 +441,24 @@ module _ {ks values vars : List ℕ} where
           (sym (constant-same b h f), behind codes next (e ∙ constant-spelled b us .1))
       go vs as′ ls us (compare a o b) codes e f = atom-constant (a .first) h f
 
-  pub simple-compare : {at n : ℕ} {h : Bool} → (getD ks at 255 ≡ 16 → ⊥) → (getD ks at 255 ≡ 2 → ⊥) → (getD ks at 255 ≡ 27 → ⊥)
-      → (getD ks at 255 ≡ 28 → ⊥) → CompareRead ks values vars at h n → SimpleRead ks values vars at h n
+  pub simple-compare : {at n : ℕ} {holds : List Bool} → (getD ks at 255 ≡ 16 → ⊥) → (getD ks at 255 ≡ 2 → ⊥) → (getD ks at 255 ≡ 27 → ⊥)
+      → (getD ks at 255 ≡ 28 → ⊥) → CompareRead ks values vars at holds n → SimpleRead ks values vars at holds n
   unfolding spellSimple simpleTruth simpleKind constantKind spellCompared comparedTruth
-  simple-compare {at} {n} {h} no-not no-bracket no-true no-false two = record {
+  simple-compare {at} {n} {holds} no-not no-bracket no-true no-false two = record {
     from = two .from;
     to = two .to;
-    reads = λ vs as′ ls us x codes biased e ends. go vs as′ ls us x codes biased e ends (sym (front-is codes at refl e) ∙ simple-front x us);
+    reads = λ j l vs as′ ls us x codes biased e ends. go j l vs as′ ls us x codes biased e ends (sym (front-is codes at refl e) ∙ simple-front x us);
   }
     where
-      go : (vs : List Var) (as′ : List ℤ) (ls us : List Lexeme) (x : Simple) → Codes vs ls ks values → Biased vs as′ vars
+      go : (j : ℕ) → j < 16 → (vs : List Var) (as′ : List ℤ) (ls us : List Lexeme) (x : Simple) → Codes vs ls ks values → Biased vs as′ (lane vars j)
           → drop at ls ≡ spellSimple x ++ us → EndsExpr us → getD ks at 255 ≡ simpleKind x
-          → (h ≡ simpleTruth x vs as′) × (drop n ls ≡ us)
-      go vs as′ ls us (negation s) codes biased e ends f = absurd (no-not f)
-      go vs as′ ls us (bracketed c) codes biased e ends f = absurd (no-bracket f)
-      go vs as′ ls us (constant true) codes biased e ends f = absurd (no-true f)
-      go vs as′ ls us (constant false) codes biased e ends f = absurd (no-false f)
-      go vs as′ ls us (compare a o b) codes biased e ends f =
-          two .reads vs as′ ls us (record { one = a; by = o; two = b }) codes biased e ends
+          → (getD holds j false ≡ simpleTruth x vs as′) × (drop n ls ≡ us)
+      go j l vs as′ ls us (negation s) codes biased e ends f = absurd (no-not f)
+      go j l vs as′ ls us (bracketed c) codes biased e ends f = absurd (no-bracket f)
+      go j l vs as′ ls us (constant true) codes biased e ends f = absurd (no-true f)
+      go j l vs as′ ls us (constant false) codes biased e ends f = absurd (no-false f)
+      go j l vs as′ ls us (compare a o b) codes biased e ends f =
+          two .reads j l vs as′ ls us (record { one = a; by = o; two = b }) codes biased e ends
 
 -- Conjunctions and conditions are chains: items joined by a mark
 
@@ -415,59 +497,65 @@ module _ {X Y : Type 0} {spellX : X → List Lexeme} {EndsX : List Lexeme → Ty
     {spellY : Y → List Lexeme} {EndsY : List Lexeme → Type 0} {meansY : Y → List Var → List ℤ → Bool} {m : Mark} {op : Bool → Bool → Bool}
     (chain : Chain spellX EndsX meansX spellY EndsY meansY m op) {ks values vars : List ℕ} where
   -- no mark behind the item
-  chain-one : {at n : ℕ} {h : Bool} → Truths spellX EndsX meansX ks values vars at h n → (getD ks n 255 ≡ markNumber m → ⊥)
-      → Truths spellY EndsY meansY ks values vars at h n
+  chain-one : {at n : ℕ} {holds : List Bool} → Truths spellX EndsX meansX ks values vars at holds n → (getD ks n 255 ≡ markNumber m → ⊥)
+      → Truths spellY EndsY meansY ks values vars at holds n
   unfolding frontKind kindOf
-  chain-one {at} {n} {h} item none = record {
+  chain-one {at} {n} {holds} item none = record {
     from = item .from;
     to = item .to;
-    reads = λ vs as′ ls us y codes biased e ends.
+    reads = λ j l vs as′ ls us y codes biased e ends.
         ⊎-elim
-        (λ t. let one = item .reads vs as′ ls us (t .0) codes biased (e ∙ ap (λ l. l ++ us) (t .1)) (chain .item-ends us ends) in
+        (λ t. let one = item .reads j l vs as′ ls us (t .0) codes biased (e ∙ ap (λ z. z ++ us) (t .1)) (chain .item-ends us ends) in
         (one .0 ∙ ap (λ f. f vs as′) (sym (t .2)), one .1))
-        (λ t. let one = item .reads vs as′ ls (mark m ∷ (spellY (t .1) ++ us)) (t .0) codes biased
-        (e ∙ ap (λ l. l ++ us) (t .2) ∙ append-assoc (spellX (t .0)) (mark m ∷ spellY (t .1)) us)
+        (λ t. let one = item .reads j l vs as′ ls (mark m ∷ (spellY (t .1) ++ us)) (t .0) codes biased
+        (e ∙ ap (λ z. z ++ us) (t .2) ∙ append-assoc (spellX (t .0)) (mark m ∷ spellY (t .1)) us)
         (chain .mark-ends (spellY (t .1) ++ us)) in
         absurd (none (sym (front-is codes n refl (one .1)))))
         (chain .split y);
   }
 
   -- the mark, and a chain behind it
-  chain-more : {at n r n′ : ℕ} {h h′ : Bool} → Truths spellX EndsX meansX ks values vars at h n → getD ks n 255 ≡ markNumber m → Next ks n r
-      → Truths spellY EndsY meansY ks values vars r h′ n′ → Truths spellY EndsY meansY ks values vars at (op h h′) n′
-  chain-more {at} {n} {r} {n′} {h} {h′} item kind next more = record {
+  chain-more : {at n r n′ : ℕ} {holds holds′ both : List Bool} → Truths spellX EndsX meansX ks values vars at holds n
+      → getD ks n 255 ≡ markNumber m → Next ks n r → Truths spellY EndsY meansY ks values vars r holds′ n′
+      → ((j : ℕ) → j < 16 → getD both j false ≡ op (getD holds j false) (getD holds′ j false))
+      → Truths spellY EndsY meansY ks values vars at both n′
+  chain-more {at} {n} {r} {n′} {holds} {holds′} item kind next more joins = record {
     from = omega (arith, item .from, next .from, more .from);
     to = more .to;
-    reads = λ vs as′ ls us y codes biased e ends.
+    reads = λ j l vs as′ ls us y codes biased e ends.
         ⊎-elim
-        (λ t. let one = item .reads vs as′ ls us (t .0) codes biased (e ∙ ap (λ l. l ++ us) (t .1)) (chain .item-ends us ends) in
+        (λ t. let one = item .reads j l vs as′ ls us (t .0) codes biased (e ∙ ap (λ z. z ++ us) (t .1)) (chain .item-ends us ends) in
         absurd (chain .no-mark us ends (front-is codes n kind (one .1))))
-        (λ t. let one = item .reads vs as′ ls (mark m ∷ (spellY (t .1) ++ us)) (t .0) codes biased
-        (e ∙ ap (λ l. l ++ us) (t .2) ∙ append-assoc (spellX (t .0)) (mark m ∷ spellY (t .1)) us)
+        (λ t. let one = item .reads j l vs as′ ls (mark m ∷ (spellY (t .1) ++ us)) (t .0) codes biased
+        (e ∙ ap (λ z. z ++ us) (t .2) ∙ append-assoc (spellX (t .0)) (mark m ∷ spellY (t .1)) us)
         (chain .mark-ends (spellY (t .1) ++ us)) in
-        let two = more .reads vs as′ ls us (t .1) codes biased (behind codes next (one .1)) ends in
-        (ap (λ b. op b h′) (one .0) ∙ ap (λ b. op (meansX (t .0) vs as′) b) (two .0) ∙ sym (t .3 vs as′), two .1))
+        let two = more .reads j l vs as′ ls us (t .1) codes biased (behind codes next (one .1)) ends in (
+          joins j l ∙ ap (λ b. op b (getD holds′ j false)) (one .0) ∙ ap (λ b. op (meansX (t .0) vs as′) b) (two .0) ∙ sym (t .3 vs as′),
+          two .1,
+        ))
         (chain .split y);
   }
 
 module _ {ks values vars : List ℕ} where
-  pub conj-one : {at n : ℕ} {h : Bool} → SimpleRead ks values vars at h n → (getD ks n 255 ≡ 17 → ⊥) → ConjRead ks values vars at h n
+  pub conj-one : {at n : ℕ} {holds : List Bool} → SimpleRead ks values vars at holds n → (getD ks n 255 ≡ 17 → ⊥) → ConjRead ks values vars at holds n
   unfolding markNumber
   conj-one item none = chain-one conj-chain item none
 
-  pub conj-more : {at n r n′ : ℕ} {h h′ : Bool} → SimpleRead ks values vars at h n → getD ks n 255 ≡ 17 → Next ks n r
-      → ConjRead ks values vars r h′ n′ → ConjRead ks values vars at (h && h′) n′
+  pub conj-more : {at n r n′ : ℕ} {holds holds′ both : List Bool} → SimpleRead ks values vars at holds n → getD ks n 255 ≡ 17 → Next ks n r
+      → ConjRead ks values vars r holds′ n′ → ((j : ℕ) → j < 16 → getD both j false ≡ getD holds j false && getD holds′ j false)
+      → ConjRead ks values vars at both n′
   unfolding markNumber
-  conj-more item kind next more = chain-more conj-chain item kind next more
+  conj-more item kind next more joins = chain-more conj-chain item kind next more joins
 
-  pub cond-one : {at n : ℕ} {h : Bool} → ConjRead ks values vars at h n → (getD ks n 255 ≡ 18 → ⊥) → CondRead ks values vars at h n
+  pub cond-one : {at n : ℕ} {holds : List Bool} → ConjRead ks values vars at holds n → (getD ks n 255 ≡ 18 → ⊥) → CondRead ks values vars at holds n
   unfolding markNumber
   cond-one item none = chain-one cond-chain item none
 
-  pub cond-more : {at n r n′ : ℕ} {h h′ : Bool} → ConjRead ks values vars at h n → getD ks n 255 ≡ 18 → Next ks n r
-      → CondRead ks values vars r h′ n′ → CondRead ks values vars at (h || h′) n′
+  pub cond-more : {at n r n′ : ℕ} {holds holds′ both : List Bool} → ConjRead ks values vars at holds n → getD ks n 255 ≡ 18 → Next ks n r
+      → CondRead ks values vars r holds′ n′ → ((j : ℕ) → j < 16 → getD both j false ≡ getD holds j false || getD holds′ j false)
+      → CondRead ks values vars at both n′
   unfolding markNumber
-  cond-more item kind next more = chain-more cond-chain item kind next more
+  cond-more item kind next more joins = chain-more cond-chain item kind next more joins
 
 -- what stands behind a condition in a file ends it
 pub condition-ends : (us : List Lexeme) → EndsCond us → EndsWhole us

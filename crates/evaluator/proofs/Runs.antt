@@ -1,21 +1,19 @@
--- Runs of blocks and statements, one law for each way that the code goes: what is run from a place from what was read and run at its parts.
+-- Runs of blocks and statements in the lanes of a set, one law for each way that the code goes: what is run from a place from what was read and run at its parts.
 use Prim.Native.Nat.{ℕ, suc, _+_, _-_, _<_}
 use native.Mathlib.Omega.{arith}
 use mathlib.Core.Path.{_≡_, refl, sym, ap, _∙_, subst}
-use mathlib.Core.Bool.{Bool, true, false, cond, true≢false}
+use mathlib.Core.Bool.{Bool, true, false, not, _&&_, cond}
 use mathlib.Core.List.{List, [], _∷_, _++_, append-assoc}
 use mathlib.Core.Option.{Option, none, some}
-use lib.ListN.{length, getD, drop, length-drop, length-append}
+use lib.ListN.{length, getD, drop, replicate, length-drop, length-append, getD-replicate}
 use lib.IntN.{ℤ}
 use Rattle.syntax.specs.Token.{Lexeme, key, mark, markNumber, keywordNumber, rbrace, rparen, semicolon, k-else}
 use Rattle.syntax.specs.Kind.{kindOf}
 use Rattle.syntax.specs.Tree.{Var, Cond, Block, end, then, Stmt, assign, if-then, if-else, spellExpr, spellBlock, spellStmt}
 use Rattle.meaning.specs.Value.{truth, assigned, andThen, runBlock, runStmt}
-use Rattle.evaluator.specs.Coding.{Codes, RunAs}
+use Rattle.evaluator.specs.Coding.{Codes, RunAs, lane}
 use Rattle.meaning.specs.Biased.{Biased, Ranges}
-use Rattle.evaluator.specs.Steps.{Next, Closes, frontKind, ExprRead, CondRead, Stored, BlockRun, StmtRun, BranchRun, oneBlock}
-use Rattle.evaluator.specs.declared.Ran.{Ran}
-use Rattle.evaluator.specs.declared.Step.{Step}
+use Rattle.evaluator.specs.Steps.{Next, Closes, frontKind, ExprRead, CondRead, Stored, BlockRun, StmtRun, BranchRun, RunIn, oneBlock}
 use Rattle.evaluator.proofs.Places.{front-is, behind, name-at, apart, same-length}
 use Rattle.evaluator.proofs.Readings.{semicolon-ends, rparen-ends}
 
@@ -50,66 +48,79 @@ no-else (then s b) us h =
     not-stmt s (λ e. apart 26 30 refl refl e) (λ e. apart 26 25 refl refl e)
     (sym h ∙ ap frontKind (split s b (mark rbrace ∷ us)) ∙ stmt-front s (spellBlock b ++ (mark rbrace ∷ us)))
 
+-- Runs one after the other, where a fault stays one
+
+then-runs : (vs : List Var) (ok ok′ : Bool) {both : Bool} (held held′ : List ℕ) (o : Option (List ℤ)) (f : List ℤ → Option (List ℤ))
+    → RunAs vs ok held o → ((bs : List ℤ) → Biased vs bs held → RunAs vs ok′ held′ (f bs)) → both ≡ ok && ok′
+    → RunAs vs both held′ (andThen o f)
+unfolding RunAs andThen
+then-runs vs ok ok′ held held′ none f one two e = e ∙ ap (λ b. b && ok′) one
+then-runs vs ok ok′ held held′ (some bs) f one two e =
+    subst (λ b. RunAs vs b held′ (f bs)) (sym (e ∙ ap (λ b. b && ok′) (one .0))) (two bs (one .1))
+
+-- a lane that is off stays as it is
+steps : (on : Bool) (o : Option (List ℤ)) (f : List ℤ → Option (List ℤ)) (as′ : List ℤ)
+    → andThen (cond on o (some as′)) (λ bs. cond on (f bs) (some bs)) ≡ cond on (andThen o f) (some as′)
+unfolding andThen
+steps true o f as′ = refl
+steps false o f as′ = refl
+
+whole : (o : Option (List ℤ)) → andThen o (λ bs. some bs) ≡ o
+unfolding andThen
+whole none = refl
+whole (some bs) = refl
+
+-- a lane goes through the block of its side
+sides : (on h : Bool) (o : Option (List ℤ)) (f : List ℤ → Option (List ℤ)) (as′ : List ℤ)
+    → andThen (cond (on && h) o (some as′)) (λ bs. cond (on && not h) (f bs) (some bs)) ≡ cond on (cond h o (f as′)) (some as′)
+unfolding andThen
+sides true true o f as′ = whole o
+sides true false o f as′ = refl
+sides false h o f as′ = refl
+
+side : (on h : Bool) (o p : Option (List ℤ)) → cond (on && h) o p ≡ cond on (cond h o p) p
+side true h o p = refl
+side false h o p = refl
+
 -- Blocks
 
-fault-then : (vs : List Var) (ok : Bool) (held : List ℕ) (o : Option (List ℤ)) (f : List ℤ → Option (List ℤ)) → ok ≡ false
-    → RunAs vs ok held o → RunAs vs ok held (andThen o f)
-unfolding RunAs andThen
-fault-then vs ok held none f e h = h
-fault-then vs ok held (some bs) f e h = absurd (true≢false (sym (h .0) ∙ e))
-
-right-then : (vs : List Var) (ok ok′ : Bool) (held held′ : List ℕ) (o : Option (List ℤ)) (f : List ℤ → Option (List ℤ)) → ok ≡ true
-    → RunAs vs ok held o → ((bs : List ℤ) → Biased vs bs held → RunAs vs ok′ held′ (f bs)) → RunAs vs ok′ held′ (andThen o f)
-unfolding RunAs andThen
-right-then vs ok ok′ held held′ none f e h k = absurd (true≢false (sym e ∙ h))
-right-then vs ok ok′ held held′ (some bs) f e h k = k bs (h .1)
-
-module _ {ks values lows highs vars : List ℕ} where
+module _ {ks values lows highs vars : List ℕ} {on : List Bool} where
   -- no statement
-  pub block-end : (at : ℕ) → (getD ks at 255 ≡ 30 → ⊥) → (getD ks at 255 ≡ 25 → ⊥)
-      → BlockRun ks values lows highs vars at (record { ok = true; values = vars })
+  pub block-end : (at : ℕ) → length vars ≡ 96 → (getD ks at 255 ≡ 30 → ⊥) → (getD ks at 255 ≡ 25 → ⊥)
+      → BlockRun ks values lows highs vars on at (replicate 16 true) vars
   unfolding spellBlock runBlock RunAs
-  block-end at no-name no-if = record {
-    runs = λ vs as′ ls us b codes biased ranges e. go vs as′ ls us b codes biased e;
+  block-end at long no-name no-if = record {
+    long = long;
+    runs = λ j l vs as′ ls us b codes biased ranges e. rw (getD-replicate 16 j true false l) (go (lane vars j) (getD on j false) vs as′ ls us b codes biased e);
   }
     where
-      go : (vs : List Var) (as′ : List ℤ) (ls us : List Lexeme) (b : Block) → Codes vs ls ks values → Biased vs as′ vars
-          → drop at ls ≡ spellBlock b ++ (mark rbrace ∷ us) → RunAs vs true vars (runBlock b vs as′)
-      go vs as′ ls us end codes biased e = (refl, biased)
-      go vs as′ ls us (then s b) codes biased e =
+      go : (held : List ℕ) (h : Bool) (vs : List Var) (as′ : List ℤ) (ls us : List Lexeme) (b : Block) → Codes vs ls ks values → Biased vs as′ held
+          → drop at ls ≡ spellBlock b ++ (mark rbrace ∷ us) → RunAs vs true held (cond h (runBlock b vs as′) (some as′))
+      go held true vs as′ ls us end codes biased e = (refl, biased)
+      go held false vs as′ ls us end codes biased e = (refl, biased)
+      go held h vs as′ ls us (then s b) codes biased e =
           not-stmt s no-name no-if
           (sym (front-is codes at refl (e ∙ split s b (mark rbrace ∷ us))) ∙ stmt-front s (spellBlock b ++ (mark rbrace ∷ us)))
 
-  -- a statement that assigns outside a range ends the run
-  pub block-fault : {at : ℕ} {one : Step} → StmtRun ks values lows highs vars at one → one .ok ≡ false → (getD ks at 255 ≡ 1 → ⊥)
-      → BlockRun ks values lows highs vars at (record { ok = one .ok; values = one .values })
-  unfolding spellBlock runBlock frontKind kindOf markNumber
-  block-fault {at} {one} stmt fault more = record {
-    runs = λ vs as′ ls us b codes biased ranges e. go vs as′ ls us b codes biased ranges e;
-  }
-    where
-      go : (vs : List Var) (as′ : List ℤ) (ls us : List Lexeme) (b : Block) → Codes vs ls ks values → Biased vs as′ vars → Ranges vs lows highs
-          → drop at ls ≡ spellBlock b ++ (mark rbrace ∷ us) → RunAs vs (one .ok) (one .values) (runBlock b vs as′)
-      go vs as′ ls us end codes biased ranges e = absurd (more (sym (front-is codes at refl e)))
-      go vs as′ ls us (then s b) codes biased ranges e =
-          fault-then vs (one .ok) (one .values) (runStmt s vs as′) (λ bs. runBlock b vs bs) fault
-          (stmt .runs vs as′ ls (spellBlock b ++ (mark rbrace ∷ us)) s codes biased ranges (e ∙ split s b (mark rbrace ∷ us)) (no-else b us) .0)
-
   -- the statements behind the first go on from its values
-  pub block-more : {at : ℕ} {one : Step} {r : Ran} → StmtRun ks values lows highs vars at one → one .ok ≡ true → (getD ks at 255 ≡ 1 → ⊥)
-      → BlockRun ks values lows highs (one .values) (one .next) r → BlockRun ks values lows highs vars at r
+  pub block-more : {at n : ℕ} {held held′ : List ℕ} {ok ok′ both : List Bool} → StmtRun ks values lows highs vars on at ok held n
+      → (getD ks at 255 ≡ 1 → ⊥) → BlockRun ks values lows highs held on n ok′ held′
+      → ((j : ℕ) → j < 16 → getD both j false ≡ getD ok j false && getD ok′ j false) → BlockRun ks values lows highs vars on at both held′
   unfolding spellBlock runBlock frontKind kindOf markNumber
-  block-more {at} {one} {r} stmt right more rest = record {
-    runs = λ vs as′ ls us b codes biased ranges e. go vs as′ ls us b codes biased ranges e;
+  block-more {at} {n} {held} {held′} {ok} {ok′} {both} stmt more rest joins = record {
+    long = rest .long;
+    runs = λ j l vs as′ ls us b codes biased ranges e. go j l vs as′ ls us b codes biased ranges e;
   }
     where
-      go : (vs : List Var) (as′ : List ℤ) (ls us : List Lexeme) (b : Block) → Codes vs ls ks values → Biased vs as′ vars → Ranges vs lows highs
-          → drop at ls ≡ spellBlock b ++ (mark rbrace ∷ us) → RunAs vs (r .ok) (r .values) (runBlock b vs as′)
-      go vs as′ ls us end codes biased ranges e = absurd (more (sym (front-is codes at refl e)))
-      go vs as′ ls us (then s b) codes biased ranges e =
-          let t = stmt .runs vs as′ ls (spellBlock b ++ (mark rbrace ∷ us)) s codes biased ranges (e ∙ split s b (mark rbrace ∷ us)) (no-else b us) in
-          right-then vs (one .ok) (r .ok) (one .values) (r .values) (runStmt s vs as′) (λ bs. runBlock b vs bs) right (t .0)
-          (λ bs held. rest .runs vs bs ls us b codes held ranges (t .1))
+      go : (j : ℕ) → j < 16 → (vs : List Var) (as′ : List ℤ) (ls us : List Lexeme) (b : Block) → Codes vs ls ks values → Biased vs as′ (lane vars j)
+          → Ranges vs lows highs → drop at ls ≡ spellBlock b ++ (mark rbrace ∷ us)
+          → RunIn vs on both held′ j as′ (runBlock b vs as′)
+      go j l vs as′ ls us end codes biased ranges e = absurd (more (sym (front-is codes at refl e)))
+      go j l vs as′ ls us (then s b) codes biased ranges e =
+          let t = stmt .runs j l vs as′ ls (spellBlock b ++ (mark rbrace ∷ us)) s codes biased ranges (e ∙ split s b (mark rbrace ∷ us)) (no-else b us) in
+          subst (RunAs vs (getD both j false) (lane held′ j)) (steps (getD on j false) (runStmt s vs as′) (λ bs. runBlock b vs bs) as′)
+          (then-runs vs (getD ok j false) (getD ok′ j false) (lane held j) (lane held′ j) (cond (getD on j false) (runStmt s vs as′) (some as′)) (λ bs. cond (getD on j false) (runBlock b vs bs) (some bs)) (t .0)
+          (λ bs held-so. rest .runs j l vs bs ls us b codes held-so ranges (t .1)) (joins j l))
 
 -- Statements
 
@@ -125,53 +136,55 @@ unfolding runStmt
 if-else-runs c a b vs as′ true h = cc
 if-else-runs c a b vs as′ false h = cc
 
-module _ {ks values lows highs vars : List ℕ} where
-  pub stmt-assign : {at a b k n p m slot : ℕ} {r : Step} → (getD ks at 255 ≡ 25 → ⊥) → at < length ks → Next ks at a → Next ks a b
-      → ExprRead ks values vars b p m k → Next ks k n → slot ≡ getD values at 0 → Stored lows highs vars slot p m n r
-      → StmtRun ks values lows highs vars at r
+module _ {ks values lows highs vars : List ℕ} {on ok : List Bool} {held : List ℕ} where
+  pub stmt-assign : {at a b k n slot : ℕ} {sums : List ℕ} → (getD ks at 255 ≡ 25 → ⊥) → at < length ks → Next ks at a → Next ks a b
+      → ExprRead ks values vars b sums k → Next ks k n → slot ≡ getD values at 0 → Stored lows highs vars on slot sums ok held
+      → StmtRun ks values lows highs vars on at ok held n
   unfolding spellStmt runStmt frontKind kindOf keywordNumber
-  stmt-assign {at} {a} {b} {k} {n} {p} {m} {slot} {r} no-if within one two expr last value stored = record {
-    from = omega (arith, one .one-more within, two .from, expr .from, last .from, stored .behind);
-    to = omega (arith, last .to, stored .behind);
-    runs = λ vs as′ ls us s codes biased ranges e no-else. go vs as′ ls us s codes biased ranges e;
+  stmt-assign {at} {a} {b} {k} {n} {slot} {sums} no-if within one two expr last value stored = record {
+    long = stored .long;
+    from = omega (arith, one .one-more within, two .from, expr .from, last .from);
+    to = last .to;
+    runs = λ j l vs as′ ls us s codes biased ranges e no-else. go j l vs as′ ls us s codes biased ranges e;
   }
     where
-      go : (vs : List Var) (as′ : List ℤ) (ls us : List Lexeme) (s : Stmt) → Codes vs ls ks values → Biased vs as′ vars → Ranges vs lows highs
-          → drop at ls ≡ spellStmt s ++ us → RunAs vs (r .ok) (r .values) (runStmt s vs as′) × (drop (r .next) ls ≡ us)
-      go vs as′ ls us (assign x e) codes biased ranges h =
-          let t = expr .reads vs as′ ls (mark semicolon ∷ us) e codes biased
+      go : (j : ℕ) → j < 16 → (vs : List Var) (as′ : List ℤ) (ls us : List Lexeme) (s : Stmt) → Codes vs ls ks values → Biased vs as′ (lane vars j)
+          → Ranges vs lows highs → drop at ls ≡ spellStmt s ++ us → RunIn vs on ok held j as′ (runStmt s vs as′) × (drop n ls ≡ us)
+      go j l vs as′ ls us (assign x e) codes biased ranges h =
+          let t = expr .reads j l vs as′ ls (mark semicolon ∷ us) e codes biased
           (behind codes two (behind codes one h) ∙ append-assoc (spellExpr e) (mark semicolon ∷ []) us) (semicolon-ends us) in (
-            subst (λ z. RunAs vs (r .ok) (r .values) (assigned vs as′ x z)) (sym (t .0))
-                (stored .stores vs as′ x biased ranges (value ∙ name-at codes at x h)),
-            ap (λ (j : ℕ). drop j ls) (stored .behind) ∙ behind codes last (t .1),
+            subst (λ z. RunIn vs on ok held j as′ (assigned vs as′ x z)) (sym (t .0))
+                (stored .stores j l vs as′ x biased ranges (value ∙ name-at codes at x h)),
+            behind codes last (t .1),
           )
-      go vs as′ ls us (if-then c d) codes biased ranges h = absurd (no-if (sym (front-is codes at refl h)))
-      go vs as′ ls us (if-else c d d′) codes biased ranges h = absurd (no-if (sym (front-is codes at refl h)))
+      go j l vs as′ ls us (if-then c d) codes biased ranges h = absurd (no-if (sym (front-is codes at refl h)))
+      go j l vs as′ ls us (if-else c d d′) codes biased ranges h = absurd (no-if (sym (front-is codes at refl h)))
 
-  pub stmt-if : {at a b k open′ : ℕ} {h : Bool} {r : Step} → getD ks at 255 ≡ 25 → at < length ks → Next ks at a → Next ks a b
-      → CondRead ks values vars b h k → Next ks k open′ → BranchRun ks values lows highs vars open′ h r
-      → StmtRun ks values lows highs vars at r
+  pub stmt-if : {at a b k open′ n : ℕ} {holds : List Bool} → getD ks at 255 ≡ 25 → at < length ks → Next ks at a → Next ks a b
+      → CondRead ks values vars b holds k → Next ks k open′ → BranchRun ks values lows highs vars on open′ holds ok held n
+      → StmtRun ks values lows highs vars on at ok held n
   unfolding spellStmt runStmt frontKind kindOf keywordNumber oneBlock
-  stmt-if {at} {a} {b} {k} {open′} {h} {r} kind within one two test last branch = record {
+  stmt-if {at} {a} {b} {k} {open′} {n} {holds} kind within one two test last branch = record {
+    long = branch .long;
     from = omega (arith, one .one-more within, two .from, test .from, last .from, branch .from);
     to = branch .to;
-    runs = λ vs as′ ls us s codes biased ranges e no-else. go vs as′ ls us s codes biased ranges e no-else;
+    runs = λ j l vs as′ ls us s codes biased ranges e no-else. go j l vs as′ ls us s codes biased ranges e no-else;
   }
     where
-      go : (vs : List Var) (as′ : List ℤ) (ls us : List Lexeme) (s : Stmt) → Codes vs ls ks values → Biased vs as′ vars → Ranges vs lows highs
-          → drop at ls ≡ spellStmt s ++ us → (frontKind us ≡ 26 → ⊥)
-          → RunAs vs (r .ok) (r .values) (runStmt s vs as′) × (drop (r .next) ls ≡ us)
-      go vs as′ ls us (assign x e) codes biased ranges d f = apart 30 25 refl refl (front-is codes at kind d)
-      go vs as′ ls us (if-then c b) codes biased ranges d f =
-          let t = test .reads vs as′ ls (mark rparen ∷ oneBlock b us) c codes biased
+      go : (j : ℕ) → j < 16 → (vs : List Var) (as′ : List ℤ) (ls us : List Lexeme) (s : Stmt) → Codes vs ls ks values → Biased vs as′ (lane vars j)
+          → Ranges vs lows highs → drop at ls ≡ spellStmt s ++ us → (frontKind us ≡ 26 → ⊥)
+          → RunIn vs on ok held j as′ (runStmt s vs as′) × (drop n ls ≡ us)
+      go j l vs as′ ls us (assign x e) codes biased ranges d f = apart 30 25 refl refl (front-is codes at kind d)
+      go j l vs as′ ls us (if-then c b) codes biased ranges d f =
+          let t = test .reads j l vs as′ ls (mark rparen ∷ oneBlock b us) c codes biased
           (behind codes two (behind codes one d) ∙ simp append-assoc) (rparen-ends (oneBlock b us)) in
-          let u = branch .runs-one vs as′ ls us b codes biased ranges (behind codes last (t .1)) f in
-          (subst (RunAs vs (r .ok) (r .values)) (if-runs c b vs as′ h (t .0)) (u .0), u .1)
-      go vs as′ ls us (if-else c a b) codes biased ranges d f =
-          let t = test .reads vs as′ ls (mark rparen ∷ oneBlock a (key k-else ∷ oneBlock b us)) c codes biased
+          let u = branch .runs-one j l vs as′ ls us b codes biased ranges (behind codes last (t .1)) f in
+          (subst (RunIn vs on ok held j as′) (if-runs c b vs as′ (getD holds j false) (t .0)) (u .0), u .1)
+      go j l vs as′ ls us (if-else c a b) codes biased ranges d f =
+          let t = test .reads j l vs as′ ls (mark rparen ∷ oneBlock a (key k-else ∷ oneBlock b us)) c codes biased
           (behind codes two (behind codes one d) ∙ simp append-assoc) (rparen-ends (oneBlock a (key k-else ∷ oneBlock b us))) in
-          let u = branch .runs-two vs as′ ls us a b codes biased ranges (behind codes last (t .1)) in
-          (subst (RunAs vs (r .ok) (r .values)) (if-else-runs c a b vs as′ h (t .0)) (u .0), u .1)
+          let u = branch .runs-two j l vs as′ ls us a b codes biased ranges (behind codes last (t .1)) in
+          (subst (RunIn vs on ok held j as′) (if-else-runs c a b vs as′ (getD holds j false) (t .0)) (u .0), u .1)
 
 -- Branches
 
@@ -187,59 +200,59 @@ closed {vs} {ls} {ks} {values} {open′} {close} b us codes closes e =
     sym (length-drop open′ ls) ∙ ap length e ∙ ap suc (length-append (spellBlock b) (mark rbrace ∷ us)) in
     ap (λ (i : ℕ). drop i ls) (closes .held (omega arith) (omega (arith, same-length codes))) ∙ d
 
-module _ {ks values lows highs vars : List ℕ} {open′ close next : ℕ} (closes : Closes ks values open′ close) (past : Next ks close next) where
-  -- one block, which is run
-  pub branch-one : {first : ℕ} (h : Bool) {ran : Ran} → h ≡ true → (getD ks next 255 ≡ 26 → ⊥) → Next ks open′ first
-      → BlockRun ks values lows highs vars first ran
-      → BranchRun ks values lows highs vars open′ h (record { ok = ran .ok; values = ran .values; next = next })
-  unfolding oneBlock frontKind kindOf keywordNumber
-  branch-one h {ran} holds no-else enter run = record {
-    from = omega (arith, closes .from, past .from);
-    to = past .to;
-    runs-one = λ vs as′ ls us b codes biased ranges e f. (
-      subst (λ (z : Bool). RunAs vs (ran .ok) (ran .values) (cond z (runBlock b vs as′) (some as′))) (sym holds)
-          (run .runs vs as′ ls us b codes biased ranges (behind codes enter e)),
-      behind codes past (closed b us codes closes e),
-    );
-    runs-two = λ vs as′ ls us a b codes biased ranges e.
-        absurd (no-else (sym (front-is codes next refl (behind codes past (closed a (key k-else ∷ oneBlock b us) codes closes e)))));
-  }
-
-  -- one block, which is passed over
-  pub branch-none : (h : Bool) → h ≡ false → (getD ks next 255 ≡ 26 → ⊥)
-      → BranchRun ks values lows highs vars open′ h (record { ok = true; values = vars; next = next })
-  unfolding oneBlock frontKind kindOf keywordNumber RunAs
-  branch-none h fails no-else = record {
-    from = omega (arith, closes .from, past .from);
-    to = past .to;
-    runs-one = λ vs as′ ls us b codes biased ranges e f. (
-      subst (λ (z : Bool). RunAs vs true vars (cond z (runBlock b vs as′) (some as′))) (sym fails) (refl, biased),
-      behind codes past (closed b us codes closes e),
-    );
-    runs-two = λ vs as′ ls us a b codes biased ranges e.
-        absurd (no-else (sym (front-is codes next refl (behind codes past (closed a (key k-else ∷ oneBlock b us) codes closes e)))));
-  }
-
-  -- two blocks, of which one is run
-  pub branch-two : {other last final from : ℕ} (h : Bool) {ran : Ran} → getD ks next 255 ≡ 26 → Next ks next other → Closes ks values other last
-      → Next ks last final → (h ≡ true → Next ks open′ from) → (h ≡ false → Next ks other from)
-      → BlockRun ks values lows highs vars from ran
-      → BranchRun ks values lows highs vars open′ h (record { ok = ran .ok; values = ran .values; next = final })
+module _ {ks values lows highs vars : List ℕ} (on holds : List Bool) {on₁ : List Bool} {open′ close next first : ℕ}
+    (closes : Closes ks values open′ close) (past : Next ks close next) (enter : Next ks open′ first)
+    (taken : (j : ℕ) → j < 16 → getD on₁ j false ≡ getD on j false && getD holds j false) {ok₁ : List Bool} {held₁ : List ℕ}
+    (run : BlockRun ks values lows highs vars on₁ first ok₁ held₁) where
+  -- the block of the lanes in which the condition holds
+  one-side : (j : ℕ) → j < 16 → (vs : List Var) (as′ : List ℤ) (ls us : List Lexeme) (b : Block) → Codes vs ls ks values
+      → Biased vs as′ (lane vars j) → Ranges vs lows highs → drop open′ ls ≡ oneBlock b us
+      → RunAs vs (getD ok₁ j false) (lane held₁ j) (cond (getD on j false && getD holds j false) (runBlock b vs as′) (some as′))
   unfolding oneBlock
-  branch-two {other} {last} {final} {from} h {ran} kind step closes′ end′ one two run = record {
+  one-side j l vs as′ ls us b codes biased ranges e =
+      subst (λ z. RunAs vs (getD ok₁ j false) (lane held₁ j) (cond z (runBlock b vs as′) (some as′))) (taken j l)
+      (run .runs j l vs as′ ls us b codes biased ranges (behind codes enter e))
+
+  -- one block
+  pub branch-one : (getD ks next 255 ≡ 26 → ⊥) → BranchRun ks values lows highs vars on open′ holds ok₁ held₁ next
+  unfolding oneBlock frontKind kindOf keywordNumber
+  branch-one no-else = record {
+    long = run .long;
+    from = omega (arith, closes .from, past .from);
+    to = past .to;
+    runs-one = λ j l vs as′ ls us b codes biased ranges e f. (
+      subst (RunAs vs (getD ok₁ j false) (lane held₁ j)) (side (getD on j false) (getD holds j false) (runBlock b vs as′) (some as′))
+          (one-side j l vs as′ ls us b codes biased ranges e),
+      behind codes past (closed b us codes closes e),
+    );
+    runs-two = λ j l vs as′ ls us a b codes biased ranges e.
+        absurd (no-else (sym (front-is codes next refl (behind codes past (closed a (key k-else ∷ oneBlock b us) codes closes e)))));
+  }
+
+  -- two blocks
+  pub branch-two : {other last final second : ℕ} {on₂ ok₂ both : List Bool} {held₂ : List ℕ} → getD ks next 255 ≡ 26 → Next ks next other
+      → Closes ks values other last → Next ks last final → Next ks other second
+      → ((j : ℕ) → j < 16 → getD on₂ j false ≡ getD on j false && not (getD holds j false))
+      → BlockRun ks values lows highs held₁ on₂ second ok₂ held₂
+      → ((j : ℕ) → j < 16 → getD both j false ≡ getD ok₁ j false && getD ok₂ j false)
+      → BranchRun ks values lows highs vars on open′ holds both held₂ final
+  unfolding oneBlock
+  branch-two {on₂ = on₂} {ok₂ = ok₂} {both = both} {held₂ = held₂} kind step closes′ end′ enter′ left more joins = record {
+    long = more .long;
     from = omega (arith, closes .from, past .from, step .from, closes′ .from, end′ .from);
     to = end′ .to;
-    runs-one = λ vs as′ ls us b codes biased ranges e f.
+    runs-one = λ j l vs as′ ls us b codes biased ranges e f.
         absurd (f (front-is codes next kind (behind codes past (closed b us codes closes e))));
-    runs-two = λ vs as′ ls us a b codes biased ranges e.
-        let second : drop other ls ≡ oneBlock b us = behind codes step (behind codes past (closed a (key k-else ∷ oneBlock b us) codes closes e)) in
-        (go vs as′ ls us a b codes biased ranges e second h refl, behind codes end′ (closed b us codes closes′ second));
+    runs-two = λ j l vs as′ ls us a b codes biased ranges e.
+        let second-at = behind codes step (behind codes past (closed a (key k-else ∷ oneBlock b us) codes closes e)) in
+        let h = getD holds j false in (
+          subst (RunAs vs (getD both j false) (lane held₂ j)) (sides (getD on j false) h (runBlock a vs as′) (λ bs. runBlock b vs bs) as′)
+              (then-runs vs (getD ok₁ j false) (getD ok₂ j false) (lane held₁ j) (lane held₂ j) (cond (getD on j false && h) (runBlock a vs as′) (some as′))
+              (λ bs. cond (getD on j false && not h) (runBlock b vs bs) (some bs))
+              (one-side j l vs as′ ls (key k-else ∷ oneBlock b us) a codes biased ranges e)
+              (λ bs held. subst (λ z. RunAs vs (getD ok₂ j false) (lane held₂ j) (cond z (runBlock b vs bs) (some bs))) (left j l)
+              (more .runs j l vs bs ls us b codes held ranges (behind codes enter′ second-at)))
+              (joins j l)),
+          behind codes end′ (closed b us codes closes′ second-at),
+        );
   }
-    where
-      go : (vs : List Var) (as′ : List ℤ) (ls us : List Lexeme) (a b : Block) → Codes vs ls ks values → Biased vs as′ vars → Ranges vs lows highs
-          → drop open′ ls ≡ oneBlock a (key k-else ∷ oneBlock b us) → drop other ls ≡ oneBlock b us → (z : Bool) → h ≡ z
-          → RunAs vs (ran .ok) (ran .values) (cond z (runBlock a vs as′) (runBlock b vs as′))
-      go vs as′ ls us a b codes biased ranges e second true z =
-          run .runs vs as′ ls (key k-else ∷ oneBlock b us) a codes biased ranges (behind codes (one z) e)
-      go vs as′ ls us a b codes biased ranges e second false z =
-          run .runs vs as′ ls us b codes biased ranges (behind codes (two z) second)

@@ -1,21 +1,22 @@
 -- A variable's value and an assignment to it go by its slot.
-use Prim.Native.Nat.{ℕ, zero, suc, _+_, _-_, _≤_, _<_}
+use Prim.Native.Nat.{ℕ, zero, suc, _+_, _-_, _%_, _≤_, _<_}
 use native.Mathlib.Omega.{arith}
 use native.Mathlib.Decide.{decLt}
 use mathlib.Core.Path.{_≡_, refl, sym, ap, _∙_}
-use mathlib.Core.Bool.{Bool, true, false, not, _&&_}
+use mathlib.Core.Bool.{Bool, true, false, not, _&&_, _||_, and-false, cond}
 use mathlib.Core.List.{List, [], _∷_}
 use mathlib.Core.Option.{Option, none, some}
 use lib.ListN.{length, getD, set, getElem?, length-set, List·getD-eq-default}
-use lib.Seq.{getD-set-same, getD-set-other}
+use lib.Seq.{getD-set-same, getD-set-other, set-getD}
 use lib.Dec.{ltb, eqb}
 use lib.IntN.{ℤ, pos, _-ℤ_}
-use borrow.Author.Tests.{le-ltb, lt-ltb, eqb-true, eqb-false}
+use borrow.Author.Tests.{le-ltb, lt-ltb, ltb-true, ltb-false, eqb-true, eqb-false}
 use Rattle.syntax.specs.Bytes.{sameBytes}
 use Rattle.syntax.specs.Tree.{Var}
-use Rattle.meaning.specs.Value.{intOf, less, valueOf, inRange, assigned}
-use Rattle.evaluator.specs.Coding.{slotOf, RunAs}
+use Rattle.meaning.specs.Value.{intOf, valueOf, inRange, assigned}
+use Rattle.evaluator.specs.Coding.{slotOf, RunAs, lane}
 use Rattle.meaning.specs.Biased.{Offset, Biased, Ranges}
+use Rattle.evaluator.specs.Steps.{operand, worth, Stored}
 use Rattle.evaluator.proofs.Numbers.{less-parts, same-difference}
 
 found : (b : Bool) (a v : ℤ) (as′ : List ℤ) (k : ℕ) → v ≡ getD as′ k (pos 0)
@@ -111,23 +112,24 @@ range-parts v lo hi p m l h = rw (l, h, less-parts p m lo 128, less-parts hi 128
 
 module _ {vs : List Var} {as′ : List ℤ} {vars : List ℕ} (biased : Biased vs as′ vars) where
   -- what a slot holds is the value of its variable, and 0 where it has none
-  pub slot-held : (k : ℕ) → k < 6 → getD as′ k (pos 0) ≡ pos (getD vars k 0) -ℤ pos 128
-  unfolding Offset
-  slot-held k h = elim (decLt k (length vs)) [
-    | yes i ↦ biased .held k i
+  pub slot-held : (k : ℕ) → getD as′ k (pos 0) ≡ pos (operand vars k 128) -ℤ pos 128
+  unfolding Offset operand
+  slot-held k = elim (decLt k (length vs)) [
+    | yes i ↦ biased .held k i ∙ ap (λ b. pos (cond b (getD vars k 0) 128) -ℤ pos 128) (sym (lt-ltb k 6 (omega (arith, biased .few))))
     | no o ↦ List·getD-eq-default as′ (pos 0) (omega (arith, biased .each-value))
-        ∙ ap (λ (n : ℕ). pos n -ℤ pos 128) (sym (biased .unused k h (omega arith)))
+        ∙ ap (λ (n : ℕ). pos n -ℤ pos 128) (sym (past (ltb k 6) refl (omega arith)))
   ]
-
-  pub slot-past : (k : ℕ) → 6 ≤ k → getD as′ k (pos 0) ≡ pos 128 -ℤ pos 128
-  slot-past k h = List·getD-eq-default as′ (pos 0) (omega (arith, biased .each-value, biased .few))
+    where
+      past : (b : Bool) → ltb k 6 ≡ b → length vs ≤ k → cond b (getD vars k 0) 128 ≡ 128
+      past true e u = biased .unused k (ltb-true k 6 e) u
+      past false e u = refl
 
   -- a value in range is stored
   module _ {lows highs : List ℕ} (ranges : Ranges vs lows highs) (k p m : ℕ) (x : List ℕ) (slot : k ≡ slotOf vs x) where
     by-slot : assigned vs as′ x (pos p -ℤ pos m) ≡ assignAt vs as′ k (pos p -ℤ pos m)
     by-slot = assigned-slot vs as′ x (pos p -ℤ pos m) ∙ ap (λ (n : ℕ). assignAt vs as′ n (pos p -ℤ pos m)) (sym slot)
 
-    pub no-slot : (ok : Bool) (held : List ℕ) → ok ≡ false → length vs ≤ k → RunAs vs ok held (assigned vs as′ x (pos p -ℤ pos m))
+    no-slot : (ok : Bool) (held : List ℕ) → ok ≡ false → length vs ≤ k → RunAs vs ok held (assigned vs as′ x (pos p -ℤ pos m))
     unfolding RunAs
     no-slot ok held f h = rw (by-slot ∙ assign-past vs as′ k (pos p -ℤ pos m) h) f
 
@@ -140,7 +142,7 @@ module _ {vs : List Var} {as′ : List ℤ} {vars : List ℕ} (biased : Biased v
         → inRange v (pos p -ℤ pos m) ≡ (not (ltb (p + 128) (getD lows k 0 + m)) && not (ltb (getD highs k 0 + m) (p + 128)))
     in-parts v e = range-parts v (getD lows k 0) (getD highs k 0) p m (ranges .lows-held k v e) (ranges .highs-held k v e)
 
-    pub too-low : p + 128 < getD lows k 0 + m → (ok : Bool) (held : List ℕ) → ok ≡ false
+    too-low : p + 128 < getD lows k 0 + m → (ok : Bool) (held : List ℕ) → ok ≡ false
         → RunAs vs ok held (assigned vs as′ x (pos p -ℤ pos m))
     too-low h ok held f = elim (decLt k (length vs)) [
       | yes i ↦ let t = var-at vs k i in
@@ -148,11 +150,7 @@ module _ {vs : List Var} {as′ : List ℤ} {vars : List ℕ} (biased : Biased v
       | no o ↦ no-slot ok held f (omega arith)
     ]
 
-    and-false : (a : Bool) → (a && false) ≡ false
-    and-false true = refl
-    and-false false = refl
-
-    pub too-high : getD highs k 0 + m < p + 128 → (ok : Bool) (held : List ℕ) → ok ≡ false
+    too-high : getD highs k 0 + m < p + 128 → (ok : Bool) (held : List ℕ) → ok ≡ false
         → RunAs vs ok held (assigned vs as′ x (pos p -ℤ pos m))
     too-high h ok held f = elim (decLt k (length vs)) [
       | yes i ↦ let t = var-at vs k i in
@@ -193,7 +191,7 @@ module _ {vs : List Var} {as′ : List ℤ} {vars : List ℕ} (biased : Biased v
         unused = λ j h u. getD-set-other vars k j (p + 128 - m) 0 (λ e. omega arith) ∙ biased .unused j h u;
       }
 
-    pub in-range : k < 6 → getD lows k 0 + m ≤ p + 128 → p + 128 ≤ getD highs k 0 + m
+    in-range : k < 6 → getD lows k 0 + m ≤ p + 128 → p + 128 ≤ getD highs k 0 + m
         → RunAs vs true (set vars k (p + 128 - m)) (assigned vs as′ x (pos p -ℤ pos m))
     unfolding RunAs
     in-range s low high = elim (decLt k (length vs)) [
@@ -204,3 +202,50 @@ module _ {vs : List Var} {as′ : List ℤ} {vars : List ℕ} (biased : Biased v
           (refl, stored i high (omega arith))
       | no o ↦ absurd (omega (arith, ranges .unused-range k s (omega arith)))
     ]
+
+-- An assignment of sums, in lanes that are on or off
+
+module _ {lows highs : List ℕ} {slot : ℕ} where
+  stored-in : slot < 6 → {vs : List Var} {as′ : List ℤ} {vars : List ℕ} (p : ℕ) → Biased vs as′ vars → Ranges vs lows highs
+      → (x : List ℕ) → slot ≡ slotOf vs x → (on low high : Bool)
+      → ltb p (getD lows slot 0 + 1073741696) ≡ low → ltb (getD highs slot 0 + 1073741696) p ≡ high
+      → RunAs vs (not (on && (low || high))) (set vars slot (cond on (p + 128) (getD vars slot 0) % 65536))
+      (cond on (assigned vs as′ x (worth p)) (some as′))
+  unfolding RunAs
+  stored-in s {vars = vars} p biased ranges x at false low high l h =
+      let e : getD vars slot 0 % 65536 ≡ getD vars slot 0 = omega (arith, biased .small slot) in
+      (refl, rw (e, set-getD vars slot 0) biased)
+  stored-in s p biased ranges x at true true high l h =
+      too-low biased ranges slot p 1073741824 x at (omega (arith, ltb-true p (getD lows slot 0 + 1073741696) l)) false _ refl
+  stored-in s p biased ranges x at true false true l h =
+      too-high biased ranges slot p 1073741824 x at (omega (arith, ltb-true (getD highs slot 0 + 1073741696) p h)) false _ refl
+  stored-in s p biased ranges x at true false false l h =
+      let low = ltb-false p (getD lows slot 0 + 1073741696) l in
+      let high = ltb-false (getD highs slot 0 + 1073741696) p h in
+      let e : (p + 128) % 65536 ≡ p + 128 - 1073741824 = omega (arith, low, high, ranges .highs-small slot) in
+      rw e (in-range biased ranges slot p 1073741824 x at s (omega arith) (omega arith))
+
+  module _ {vars sums : List ℕ} {on ok : List Bool} where
+    pub in-slot : {held : List ℕ} → slot < 6 → length held ≡ 96
+        → ((j : ℕ) → j < 16 → getD ok j false ≡ not (getD on j false
+        && (ltb (getD sums j 0) (getD lows slot 0 + 1073741696) || ltb (getD highs slot 0 + 1073741696) (getD sums j 0))))
+        → ((j : ℕ) → j < 16
+        → lane held j ≡ set (lane vars j) slot (cond (getD on j false) (getD sums j 0 + 128) (getD (lane vars j) slot 0) % 65536))
+        → Stored lows highs vars on slot sums ok held
+    in-slot s long right new = record {
+      long = long;
+      stores = λ j l vs as′ x biased ranges at. rw (right j l, new j l) (stored-in s (getD sums j 0) biased ranges x at (getD on j false) _ _ refl refl);
+    }
+
+    pub past-slots : 6 ≤ slot → length vars ≡ 96 → ((j : ℕ) → j < 16 → getD ok j false ≡ not (getD on j false))
+        → Stored lows highs vars on slot sums ok vars
+    unfolding RunAs
+    past-slots s long right = record {
+      long = long;
+      stores = λ j l vs as′ x biased ranges at. rw (right j l) (go (getD sums j 0) biased ranges x at (getD on j false));
+    }
+      where
+        go : {vs : List Var} {as′ : List ℤ} {held : List ℕ} (p : ℕ) → Biased vs as′ held → Ranges vs lows highs → (x : List ℕ) → slot ≡ slotOf vs x
+            → (b : Bool) → RunAs vs (not b) held (cond b (assigned vs as′ x (worth p)) (some as′))
+        go {held = held} p biased ranges x at true = no-slot biased ranges slot p 1073741824 x at false held refl (omega (arith, biased .few))
+        go p biased ranges x at false = (refl, biased)

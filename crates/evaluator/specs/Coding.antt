@@ -1,18 +1,17 @@
 -- How a file's lexemes, its variables' values and their ranges are held as numbers for the evaluator.
-use Prim.Native.Nat.{ℕ, suc, _<_, _≤_}
+use Prim.Native.Nat.{ℕ, suc, _+_}
 use mathlib.Core.Path.{_≡_}
 use mathlib.Core.Bool.{Bool, true, false}
 use mathlib.Core.List.{List, [], _∷_, _++_, map}
 use mathlib.Core.Logic.{_⊎_}
 use mathlib.Core.Option.{Option, none, some}
 use lib.ListN.{length, getD, drop, getElem?}
-use lib.IntN.{ℤ, pos, _-ℤ_}
+use lib.IntN.{ℤ}
 use Rattle.syntax.specs.Bytes.{sameBytes}
-use Rattle.syntax.specs.Token.{Lexeme, name, number, mark, lbrace, rbrace, semicolon}
+use Rattle.syntax.specs.Token.{Lexeme, name, number, mark, lbrace, rbrace}
 use Rattle.syntax.specs.Kind.{kindOf}
 use Rattle.syntax.specs.Tree.{Var, Block, spellBlock}
 use Rattle.meaning.specs.Biased.{Biased}
-use Rattle.evaluator.specs.declared.Ran.{Ran}
 
 -- the place of the first variable of a name, and their count where there is none
 unfoldable pub slotOf : List Var → List ℕ → ℕ
@@ -36,10 +35,12 @@ pub record Codes (vs : List Var) (ls : List Lexeme) (kinds values : List ℕ) : 
 unfoldable pub EndsCond : List Lexeme → Type 0
 EndsCond us = (rest : List Lexeme) × (l : Lexeme) × (us ≡ l ∷ rest) × ((kindOf l ≡ 3) ⊎ (kindOf l ≡ 4))
 
+-- the six values of a lane: that of variable v in lane j stands at v * 16 + j
+unfoldable pub lane : List ℕ → ℕ → List ℕ
+lane xs j =
+    getD xs j 0 ∷ getD xs (16 + j) 0 ∷ getD xs (32 + j) 0 ∷ getD xs (48 + j) 0 ∷ getD xs (64 + j) 0 ∷ getD xs (80 + j) 0 ∷ []
+
 -- a body's run, as the code answers it: whether it stayed in its ranges, and the values held after it
 unfoldable pub RunAs : List Var → Bool → List ℕ → Option (List ℤ) → Type 0
 RunAs vs ok held none = ok ≡ false
 RunAs vs ok held (some bs) = (ok ≡ true) × Biased vs bs held
-
-unfoldable pub RanAs : List Var → Ran → Option (List ℤ) → Type 0
-RanAs vs r o = RunAs vs (r .ok) (r .values) o

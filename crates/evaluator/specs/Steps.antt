@@ -1,20 +1,18 @@
--- What the evaluator's inner functions promise: bounds on places and sums for any tokens, and for tokens that a tree spells its meaning and the place behind it.
+-- What the evaluator's inner functions promise: bounds on places and sums for any tokens, and in each lane, for tokens that a tree spells, its meaning and the place behind it.
 use Prim.Native.Nat.{ℕ, suc, _+_, _*_, _<_, _≤_}
 use mathlib.Core.Path.{_≡_}
-use mathlib.Core.Bool.{Bool, not, cond}
+use mathlib.Core.Bool.{Bool, true, false, not, _||_, cond}
 use mathlib.Core.List.{List, [], _∷_, _++_}
-use mathlib.Core.Option.{some}
-use lib.Dec.{eqb, ltb, leb}
+use mathlib.Core.Option.{Option, some}
+use lib.Dec.{eqb, ltb}
 use lib.ListN.{length, getD, drop}
 use lib.IntN.{ℤ, pos, _-ℤ_}
 use Rattle.syntax.specs.Token.{Lexeme, key, mark, lbrace, rbrace, k-else}
 use Rattle.syntax.specs.Kind.{kindOf}
-use Rattle.syntax.specs.Tree.{Var, Expr, Comparison, Block, Stmt, each, spellAtom, spellTerm, spellExpr, comparisonMark, spellCond, spellConj, spellSimple, spellBlock, spellStmt}
-use Rattle.meaning.specs.Value.{atomValue, termsValue, exprValue, compares, truth, conjTruth, simpleTruth, runBlock, runStmt, assigned}
-use Rattle.evaluator.specs.Coding.{Codes, RunAs, slotOf}
+use Rattle.syntax.specs.Tree.{Var, Atom, Sign, added, taken, Expr, Comparison, Block, Stmt, spellAtom, spellExpr, comparisonMark, spellCond, spellConj, spellSimple, spellBlock, spellStmt}
+use Rattle.meaning.specs.Value.{atomValue, joined, exprValue, compares, truth, conjTruth, simpleTruth, runBlock, runStmt, assigned}
 use Rattle.meaning.specs.Biased.{Biased, Ranges}
-use Rattle.evaluator.specs.declared.Ran.{Ran}
-use Rattle.evaluator.specs.declared.Step.{Step}
+use Rattle.evaluator.specs.Coding.{Codes, RunAs, slotOf, lane}
 
 -- a place among few enough tokens
 pub record Placed (ks : List ℕ) (at : ℕ) : Type 0 where
@@ -51,46 +49,67 @@ EndsConj us = EndsExpr us × (frontKind us ≡ 17 → ⊥)
 unfoldable pub EndsWhole : List Lexeme → Type 0
 EndsWhole us = EndsConj us × (frontKind us ≡ 18 → ⊥)
 
--- a sum read from a place: its parts are at most a bound, and p less m is the value of the tree that is spelled there
-pub record Sums {X : Type 0} (spell : X → List Lexeme) (Ends : List Lexeme → Type 0) (value : List Var → List ℤ → X → ℤ)
-    (most : ℕ) (ks values vars : List ℕ) (at p m n : ℕ) : Type 0 where
+-- what an operand adds: the value in its slot, and where that is none of the six a number
+unfoldable pub operand : List ℕ → ℕ → ℕ → ℕ
+operand vars slot p = cond (ltb slot 6) (getD vars slot 0) p
+
+-- an operand read from a place: what it adds, less m
+pub record AtomRead (ks values : List ℕ) (at slot p m n : ℕ) : Type 0 where
   pub from : at ≤ n
   pub to : n ≤ length ks
-  pub plus-small : p ≤ most
-  pub minus-small : m ≤ most
+  pub plus-small : p ≤ 65535
+  pub minus-small : m ≤ 65535
   pub reads :
-      (vs : List Var) (as′ : List ℤ) (ls us : List Lexeme) (x : X) → Codes vs ls ks values → Biased vs as′ vars
-      → drop at ls ≡ spell x ++ us → Ends us → (value vs as′ x ≡ pos p -ℤ pos m) × (drop n ls ≡ us)
+      (vs : List Var) (as′ : List ℤ) (vars : List ℕ) (ls us : List Lexeme) (a : Atom) → Codes vs ls ks values → Biased vs as′ vars
+      → drop at ls ≡ spellAtom a ++ us → (atomValue vs as′ a ≡ pos (operand vars slot p) -ℤ pos m) × (drop n ls ≡ us)
 
-abbrev pub AtomRead : List ℕ → List ℕ → List ℕ → ℕ → ℕ → ℕ → ℕ → Type 0
-AtomRead ks values vars at p m n = Sums spellAtom EndsAtom atomValue 65535 ks values vars at p m n
+-- the value that a sum holds, 2 ^ 30 being its zero
+abbrev pub worth : ℕ → ℤ
+worth p = pos p -ℤ pos 1073741824
 
--- parts of a sum up to a place
-pub record Small (at p m : ℕ) : Type 0 where
-  pub plus-small : p ≤ 65536 * (at + 1)
-  pub minus-small : m ≤ 65536 * (at + 1)
+-- sums that are within 65,536 of zero for each token
+pub record Near (tokens : ℕ) (lanes : List ℕ) : Type 0 where
+  pub most : (j : ℕ) → j < 16 → getD lanes j 0 ≤ 1073741824 + 65536 * tokens
+  pub least : (j : ℕ) → j < 16 → 1073741824 ≤ getD lanes j 0 + 65536 * tokens
 
-abbrev pub TermsRead : List ℕ → List ℕ → List ℕ → ℕ → ℕ → ℕ → ℕ → ℕ → ℕ → Type 0
-TermsRead ks values vars q o at p m n =
-    Sums (each spellTerm) EndsExpr (λ vs as′ ts. termsValue vs as′ (pos q -ℤ pos o) ts) (65536 * (n + 1)) ks values vars at p m n
+-- a sum in each lane, read from a place: it holds the value of the tree that is spelled there
+pub record Sums {X : Type 0} (spell : X → List Lexeme) (Ends : List Lexeme → Type 0) (value : ℕ → List Var → List ℤ → X → ℤ)
+    (ks values vars : List ℕ) (at : ℕ) (lanes : List ℕ) (n : ℕ) : Type 0 where
+  pub from : at ≤ n
+  pub to : n ≤ length ks
+  pub near : Near (n + 1) lanes
+  pub reads :
+      (j : ℕ) → j < 16 → (vs : List Var) (as′ : List ℤ) (ls us : List Lexeme) (x : X) → Codes vs ls ks values → Biased vs as′ (lane vars j)
+      → drop at ls ≡ spell x ++ us → Ends us → (value j vs as′ x ≡ worth (getD lanes j 0)) × (drop n ls ≡ us)
 
-abbrev pub ExprRead : List ℕ → List ℕ → List ℕ → ℕ → ℕ → ℕ → ℕ → Type 0
-ExprRead ks values vars at p m n = Sums spellExpr EndsExpr exprValue (65536 * (n + 1)) ks values vars at p m n
+unfoldable pub signOf : Bool → Sign
+signOf true = taken
+signOf false = added
+
+-- an atom behind sums and a sign
+abbrev pub TermRead : List ℕ → List ℕ → List ℕ → Bool → List ℕ → ℕ → List ℕ → ℕ → Type 0
+TermRead ks values vars minus lanes at sums n =
+    Sums spellAtom EndsAtom (λ j vs as′ a. joined (signOf minus) (worth (getD lanes j 0)) (atomValue vs as′ a)) ks values vars at sums n
+
+abbrev pub ExprRead : List ℕ → List ℕ → List ℕ → ℕ → List ℕ → ℕ → Type 0
+ExprRead ks values vars at sums n = Sums spellExpr EndsExpr (λ j. exprValue) ks values vars at sums n
 
 -- the test of a comparison mark's number
 unfoldable pub testOf : ℕ → ℕ → ℕ → Bool
 testOf k a b =
-    cond (eqb k 8) (eqb a b)
-    (cond (eqb k 9) (not (eqb a b)) (cond (eqb k 10) (ltb a b) (cond (eqb k 11) (leb a b) (cond (eqb k 12) (ltb b a) (leb b a)))))
+    cond (eqb k 10) (ltb a b)
+    (cond (eqb k 12) (ltb b a)
+    (cond (eqb k 11) (not (ltb b a))
+    (cond (eqb k 13) (not (ltb a b)) (cond (eqb k 9) (ltb a b || ltb b a) (not (ltb a b || ltb b a))))))
 
--- a truth read from a place
+-- a truth in each lane, read from a place
 pub record Truths {X : Type 0} (spell : X → List Lexeme) (Ends : List Lexeme → Type 0) (means : X → List Var → List ℤ → Bool)
-    (ks values vars : List ℕ) (at : ℕ) (h : Bool) (n : ℕ) : Type 0 where
+    (ks values vars : List ℕ) (at : ℕ) (holds : List Bool) (n : ℕ) : Type 0 where
   pub from : at ≤ n
   pub to : n ≤ length ks
   pub reads :
-      (vs : List Var) (as′ : List ℤ) (ls us : List Lexeme) (x : X) → Codes vs ls ks values → Biased vs as′ vars
-      → drop at ls ≡ spell x ++ us → Ends us → (h ≡ means x vs as′) × (drop n ls ≡ us)
+      (j : ℕ) → j < 16 → (vs : List Var) (as′ : List ℤ) (ls us : List Lexeme) (x : X) → Codes vs ls ks values → Biased vs as′ (lane vars j)
+      → drop at ls ≡ spell x ++ us → Ends us → (getD holds j false ≡ means x vs as′) × (drop n ls ≡ us)
 
 pub record Compared : Type 0 where
   pub one : Expr
@@ -103,54 +122,62 @@ spellCompared x = spellExpr (x .one) ++ (mark (comparisonMark (x .by)) ∷ spell
 unfoldable pub comparedTruth : Compared → List Var → List ℤ → Bool
 comparedTruth x vs as′ = compares (x .by) (exprValue vs as′ (x .one)) (exprValue vs as′ (x .two))
 
-abbrev pub CompareRead : List ℕ → List ℕ → List ℕ → ℕ → Bool → ℕ → Type 0
-CompareRead ks values vars at h n = Truths spellCompared EndsExpr comparedTruth ks values vars at h n
+abbrev pub CompareRead : List ℕ → List ℕ → List ℕ → ℕ → List Bool → ℕ → Type 0
+CompareRead ks values vars at holds n = Truths spellCompared EndsExpr comparedTruth ks values vars at holds n
 
-abbrev pub SimpleRead : List ℕ → List ℕ → List ℕ → ℕ → Bool → ℕ → Type 0
-SimpleRead ks values vars at h n = Truths spellSimple EndsExpr simpleTruth ks values vars at h n
+abbrev pub SimpleRead : List ℕ → List ℕ → List ℕ → ℕ → List Bool → ℕ → Type 0
+SimpleRead ks values vars at holds n = Truths spellSimple EndsExpr simpleTruth ks values vars at holds n
 
-abbrev pub ConjRead : List ℕ → List ℕ → List ℕ → ℕ → Bool → ℕ → Type 0
-ConjRead ks values vars at h n = Truths spellConj EndsConj conjTruth ks values vars at h n
+abbrev pub ConjRead : List ℕ → List ℕ → List ℕ → ℕ → List Bool → ℕ → Type 0
+ConjRead ks values vars at holds n = Truths spellConj EndsConj conjTruth ks values vars at holds n
 
-abbrev pub CondRead : List ℕ → List ℕ → List ℕ → ℕ → Bool → ℕ → Type 0
-CondRead ks values vars at h n = Truths spellCond EndsWhole truth ks values vars at h n
+abbrev pub CondRead : List ℕ → List ℕ → List ℕ → ℕ → List Bool → ℕ → Type 0
+CondRead ks values vars at holds n = Truths spellCond EndsWhole truth ks values vars at holds n
 
--- an assignment of p less m to the variable of a slot
-pub record Stored (lows highs vars : List ℕ) (slot p m next : ℕ) (r : Step) : Type 0 where
-  pub behind : r .next ≡ next
+-- a run in a lane of a set; in a lane that is none of the set's the values stay
+abbrev pub RunIn : List Var → List Bool → List Bool → List ℕ → ℕ → List ℤ → Option (List ℤ) → Type 0
+RunIn vs on ok held j as′ o = RunAs vs (getD ok j false) (lane held j) (cond (getD on j false) o (some as′))
+
+-- an assignment of sums to the variable of a slot
+pub record Stored (lows highs vars : List ℕ) (on : List Bool) (slot : ℕ) (sums : List ℕ) (ok : List Bool) (held : List ℕ) : Type 0 where
+  pub long : length held ≡ 96
   pub stores :
-      (vs : List Var) (as′ : List ℤ) (x : List ℕ) → Biased vs as′ vars → Ranges vs lows highs → slot ≡ slotOf vs x
-      → RunAs vs (r .ok) (r .values) (assigned vs as′ x (pos p -ℤ pos m))
+      (j : ℕ) → j < 16 → (vs : List Var) (as′ : List ℤ) (x : List ℕ) → Biased vs as′ (lane vars j) → Ranges vs lows highs → slot ≡ slotOf vs x
+      → RunIn vs on ok held j as′ (assigned vs as′ x (worth (getD sums j 0)))
 
 -- a block, run from a place
-pub record BlockRun (ks values lows highs vars : List ℕ) (at : ℕ) (r : Ran) : Type 0 where
+pub record BlockRun (ks values lows highs vars : List ℕ) (on : List Bool) (at : ℕ) (ok : List Bool) (held : List ℕ) : Type 0 where
+  pub long : length held ≡ 96
   pub runs :
-      (vs : List Var) (as′ : List ℤ) (ls us : List Lexeme) (b : Block) → Codes vs ls ks values → Biased vs as′ vars
+      (j : ℕ) → j < 16 → (vs : List Var) (as′ : List ℤ) (ls us : List Lexeme) (b : Block) → Codes vs ls ks values → Biased vs as′ (lane vars j)
       → Ranges vs lows highs → drop at ls ≡ spellBlock b ++ (mark rbrace ∷ us)
-      → RunAs vs (r .ok) (r .values) (runBlock b vs as′)
+      → RunIn vs on ok held j as′ (runBlock b vs as′)
 
 -- a statement, run from a place
-pub record StmtRun (ks values lows highs vars : List ℕ) (at : ℕ) (r : Step) : Type 0 where
-  pub from : at < r .next
-  pub to : r .next ≤ length ks
+pub record StmtRun (ks values lows highs vars : List ℕ) (on : List Bool) (at : ℕ) (ok : List Bool) (held : List ℕ) (n : ℕ) : Type 0 where
+  pub long : length held ≡ 96
+  pub from : at < n
+  pub to : n ≤ length ks
   pub runs :
-      (vs : List Var) (as′ : List ℤ) (ls us : List Lexeme) (s : Stmt) → Codes vs ls ks values → Biased vs as′ vars
+      (j : ℕ) → j < 16 → (vs : List Var) (as′ : List ℤ) (ls us : List Lexeme) (s : Stmt) → Codes vs ls ks values → Biased vs as′ (lane vars j)
       → Ranges vs lows highs → drop at ls ≡ spellStmt s ++ us → (frontKind us ≡ 26 → ⊥)
-      → RunAs vs (r .ok) (r .values) (runStmt s vs as′) × (drop (r .next) ls ≡ us)
+      → RunIn vs on ok held j as′ (runStmt s vs as′) × (drop n ls ≡ us)
 
--- what stands behind a condition's closing bracket: a block, or a block, `else` and a block
+-- a block in its braces, with what stands behind it
 unfoldable pub oneBlock : Block → List Lexeme → List Lexeme
 oneBlock b us = mark lbrace ∷ (spellBlock b ++ (mark rbrace ∷ us))
 
--- the blocks behind an if's condition, run from the brace that opens the first
-pub record BranchRun (ks values lows highs vars : List ℕ) (open′ : ℕ) (h : Bool) (r : Step) : Type 0 where
-  pub from : open′ ≤ r .next
-  pub to : r .next ≤ length ks
+-- the blocks behind an if's condition, run from the brace that opens the first: one block, or a block, `else` and a block
+pub record BranchRun (ks values lows highs vars : List ℕ) (on : List Bool) (open′ : ℕ) (holds ok : List Bool) (held : List ℕ) (n : ℕ)
+    : Type 0 where
+  pub long : length held ≡ 96
+  pub from : open′ ≤ n
+  pub to : n ≤ length ks
   pub runs-one :
-      (vs : List Var) (as′ : List ℤ) (ls us : List Lexeme) (b : Block) → Codes vs ls ks values → Biased vs as′ vars
+      (j : ℕ) → j < 16 → (vs : List Var) (as′ : List ℤ) (ls us : List Lexeme) (b : Block) → Codes vs ls ks values → Biased vs as′ (lane vars j)
       → Ranges vs lows highs → drop open′ ls ≡ oneBlock b us → (frontKind us ≡ 26 → ⊥)
-      → RunAs vs (r .ok) (r .values) (cond h (runBlock b vs as′) (some as′)) × (drop (r .next) ls ≡ us)
+      → RunIn vs on ok held j as′ (cond (getD holds j false) (runBlock b vs as′) (some as′)) × (drop n ls ≡ us)
   pub runs-two :
-      (vs : List Var) (as′ : List ℤ) (ls us : List Lexeme) (a b : Block) → Codes vs ls ks values → Biased vs as′ vars
+      (j : ℕ) → j < 16 → (vs : List Var) (as′ : List ℤ) (ls us : List Lexeme) (a b : Block) → Codes vs ls ks values → Biased vs as′ (lane vars j)
       → Ranges vs lows highs → drop open′ ls ≡ oneBlock a (key k-else ∷ oneBlock b us)
-      → RunAs vs (r .ok) (r .values) (cond h (runBlock a vs as′) (runBlock b vs as′)) × (drop (r .next) ls ≡ us)
+      → RunIn vs on ok held j as′ (cond (getD holds j false) (runBlock a vs as′) (runBlock b vs as′)) × (drop n ls ≡ us)

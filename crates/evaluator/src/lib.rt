@@ -1,25 +1,25 @@
 // Evaluates conditions and runs bodies over a file's tokens, held as numbers: kinds, and values (a number's value, a name's
-// slot among the variables, an opening brace's closing one). Values of variables are held with 128 added, an expression as
-// what is added and what is taken away. A place is at most the count of tokens, and the place behind the last is the count.
+// slot among the variables, an opening brace's closing one). A place is at most the count of tokens, and the place behind the
+// last is the count. Sixteen states go at once, each in a lane: `vars` holds the value of variable v in lane j at v * 16 + j,
+// with 128 added; an expression's value is held with ZERO added, a truth as a bool for each lane.
 ghost use mathlib.Core.Path.{_≡_};
+ghost use mathlib.Core.Bool.{not, _&&_, _||_, cond, false};
 ghost use mathlib.Core.List.{List, _∷_, _++_};
-ghost use Prim.Native.Nat.{ℕ, _<_, _≤_};
-ghost use lib.ListN.{drop, length, getD};
+ghost use Prim.Native.Nat.{ℕ, _+_, _-_, _%_, _<_, _≤_};
+ghost use lib.ListN.{drop, length, getD, set};
+ghost use lib.Dec.{ltb};
 ghost use lib.IntN.{ℤ};
+ghost use Rattle.sets.specs.Set.{member};
 ghost use Rattle.syntax.specs.Token.{Lexeme, mark, rbrace};
 ghost use Rattle.syntax.specs.Tree.{Var, Cond, Block, spellCond, spellBlock};
 ghost use Rattle.meaning.specs.Value.{truth, runBlock};
-ghost use Rattle.evaluator.specs.Coding.{Codes, Kinds, EndsCond, RanAs};
 ghost use Rattle.meaning.specs.Biased.{Biased, Ranges};
-ghost use Rattle.evaluator.specs.Steps.{Placed, Next, Closes, AtomRead, Small, TermsRead, ExprRead, testOf, CompareRead, CondRead, ConjRead, SimpleRead, Stored, BlockRun, StmtRun, BranchRun};
-
-const LBRACE: u8 = 0;
+ghost use Rattle.evaluator.specs.Coding.{Codes, EndsCond, RunAs, lane};
+ghost use Rattle.evaluator.specs.Steps.{Placed, Next, Closes, operand, AtomRead, Near, TermRead, ExprRead, testOf, CompareRead, CondRead, ConjRead, SimpleRead, Stored, BlockRun, StmtRun, BranchRun};
 
 const RBRACE: u8 = 1;
 
 const LPAREN: u8 = 2;
-
-const SAME: u8 = 8;
 
 const DIFFERS: u8 = 9;
 
@@ -28,6 +28,8 @@ const BELOW: u8 = 10;
 const AT_MOST: u8 = 11;
 
 const ABOVE: u8 = 12;
+
+const AT_LEAST: u8 = 13;
 
 const PLUS: u8 = 14;
 
@@ -53,30 +55,39 @@ const END: u8 = 255;
 
 const MOST: usize = 8192;
 
-// The value of an expression, plus less minus, and the token behind it.
-struct Sum {
+// What is added to an expression's value.
+const ZERO: u32 = 1073741824;
+
+// An operand: a variable's slot, or 6 and a number, as what is added less what is taken away; and the token behind it.
+struct Atom {
+    slot: usize,
     plus: u32,
     minus: u32,
     next: usize,
 }
 
-// Whether a condition holds, and the token behind it.
+// The value of an expression in each lane, and the token behind it.
+struct Sum {
+    lanes: [u32; 16],
+    next: usize,
+}
+
+// Whether a condition holds in each lane, and the token behind it.
 struct Truth {
-    holds: bool,
+    holds: [bool; 16],
     next: usize,
 }
 
-// The values after a body, or that it assigned outside a range.
-pub struct Ran {
-    pub ok: bool,
-    pub values: [u16; 6],
-}
-
-// The same after a statement, and the token behind it.
+// Whether a statement stayed in its ranges in each lane, and the token behind it.
 struct Step {
-    ok: bool,
-    values: [u16; 6],
+    ok: [bool; 16],
     next: usize,
+}
+
+// The lanes in which a body stayed in its ranges, and the values after it there.
+pub struct Ran {
+    pub ok: u16,
+    pub values: [u16; 96],
 }
 
 fn kind_at(kinds: &[u8], at: usize) -> u8
@@ -99,22 +110,22 @@ fn after(kinds: &[u8], at: usize) -> usize
     if at < kinds.len() { at + 1 } else { at }
 }
 
-fn eval_atom(kinds: &[u8], values: &[u16], vars: [u16; 6], at: usize) -> Sum
+fn wide(x: u16) -> u32
+    ensures { λ r. ⌜ (r ≡ x) × (r ≤ 65535) ⌝ }
+{
+    x as u32
+}
+
+fn read_atom(kinds: &[u8], values: &[u16], at: usize) -> Atom
     requires { ⌜ Placed (now kinds) at ⌝ }
-    ensures { λ r. ⌜ AtomRead (now (kinds .entry)) (now (values .entry)) vars at (r .plus) (r .minus) (r .next) ⌝ }
+    ensures { λ r. ⌜ AtomRead (now (kinds .entry)) (now (values .entry)) at (r .slot) (r .plus) (r .minus) (r .next) ⌝ }
 {
     let kind = kind_at(kinds, at);
     let next = after(kinds, at);
     if kind == NAME {
         let slot = value_at(values, at) as usize;
-        if slot < 6 {
-            return Sum {
-                plus: vars[slot] as u32,
-                minus: 128,
-                next,
-            };
-        }
-        return Sum {
+        return Atom {
+            slot,
             plus: 128,
             minus: 128,
             next,
@@ -122,235 +133,338 @@ fn eval_atom(kinds: &[u8], values: &[u16], vars: [u16; 6], at: usize) -> Sum
     }
     if kind == MINUS {
         let minus = value_at(values, next) as u32;
-        return Sum {
+        return Atom {
+            slot: 6,
             plus: 0,
             minus,
             next: after(kinds, next),
         };
     }
     let plus = value_at(values, at) as u32;
-    Sum {
+    Atom {
+        slot: 6,
         plus,
         minus: 0,
         next,
     }
 }
 
-// The terms behind an atom, added to a sum.
-fn eval_terms(kinds: &[u8], values: &[u16], vars: [u16; 6], plus: u32, minus: u32, at: usize) -> Sum
-    requires { ⌜ Placed (now kinds) at ⌝ }
-    requires { ⌜ Small at plus minus ⌝ }
-    ensures { λ r. ⌜ TermsRead (now (kinds .entry)) (now (values .entry)) vars plus minus at (r .plus) (r .minus) (r .next) ⌝ }
+// A variable's value in each lane, or a number in all.
+fn operands(vars: &[u16; 96], slot: usize, plus: u32) -> [u32; 16]
+    ensures { λ r. ⌜ ((j : ℕ) → j < 16 → (getD r j 0 ≡ operand (lane (now (vars .entry)) j) slot plus)
+        × (plus ≤ 65535 → getD r j 0 ≤ 65535)) ⌝ }
 {
-    let kind = kind_at(kinds, at);
-    if kind == PLUS {
-        let next = after(kinds, at);
-        let atom = eval_atom(kinds, values, vars, next);
-        return eval_terms(
-            kinds,
-            values,
-            vars,
-            plus + atom.plus,
-            minus + atom.minus,
-            atom.next,
-        );
+    let mut lanes = [plus; 16];
+    if slot < 6 {
+        let mut j: usize = 0;
+        while j < 16 {
+            lanes[j] = wide(vars[slot * 16 + j]);
+            j += 1;
+        }
     }
-    if kind == MINUS {
-        let next = after(kinds, at);
-        let atom = eval_atom(kinds, values, vars, next);
-        return eval_terms(
-            kinds,
-            values,
-            vars,
-            plus + atom.minus,
-            minus + atom.plus,
-            atom.next,
-        );
+    lanes
+}
+
+// Numbers with others added and others taken away, lane by lane.
+fn moved(lanes: [u32; 16], plus: [u32; 16], minus: [u32; 16]) -> [u32; 16]
+    requires { ⌜ ((j : ℕ) → j < 16 → (getD lanes j 0 + getD plus j 0 < 4294967296) × (getD minus j 0 ≤ getD lanes j 0 + getD plus j 0)) ⌝ }
+    ensures { λ r. ⌜ ((j : ℕ) → j < 16 → getD r j 0 ≡ getD lanes j 0 + getD plus j 0 - getD minus j 0) ⌝ }
+{
+    let mut sums = [0u32; 16];
+    let mut j: usize = 0;
+    while j < 16 {
+        sums[j] = lanes[j] + plus[j] - minus[j];
+        j += 1;
+    }
+    sums
+}
+
+// What is summed up to an operand, with the operand added or taken away.
+fn eval_term(
+    kinds: &[u8],
+    values: &[u16],
+    vars: &[u16; 96],
+    lanes: [u32; 16],
+    taken: bool,
+    at: usize,
+) -> Sum
+    requires { ⌜ Placed (now kinds) at ⌝ }
+    requires { ⌜ Near at lanes ⌝ }
+    ensures { λ r. ⌜ TermRead (now (kinds .entry)) (now (values .entry)) (now (vars .entry)) taken lanes at (r .lanes) (r .next) ⌝ }
+{
+    let atom = read_atom(kinds, values, at);
+    let one = operands(vars, atom.slot, atom.plus);
+    let two = [atom.minus; 16];
+    if taken {
+        return Sum {
+            lanes: moved(lanes, two, one),
+            next: atom.next,
+        };
     }
     Sum {
-        plus,
-        minus,
-        next: at,
+        lanes: moved(lanes, one, two),
+        next: atom.next,
     }
 }
 
-fn eval_expr(kinds: &[u8], values: &[u16], vars: [u16; 6], at: usize) -> Sum
+fn eval_expr(kinds: &[u8], values: &[u16], vars: &[u16; 96], at: usize) -> Sum
     requires { ⌜ Placed (now kinds) at ⌝ }
-    ensures { λ r. ⌜ ExprRead (now (kinds .entry)) (now (values .entry)) vars at (r .plus) (r .minus) (r .next) ⌝ }
+    ensures { λ r. ⌜ ExprRead (now (kinds .entry)) (now (values .entry)) (now (vars .entry)) at (r .lanes) (r .next) ⌝ }
 {
-    let atom = eval_atom(kinds, values, vars, at);
-    eval_terms(kinds, values, vars, atom.plus, atom.minus, atom.next)
-}
-
-fn compare(kind: u8, a: u32, b: u32) -> bool
-    ensures { λ r. ⌜ r ≡ testOf kind a b ⌝ }
-{
-    if kind == SAME {
-        a == b
-    } else if kind == DIFFERS {
-        a != b
-    } else if kind == BELOW {
-        a < b
-    } else if kind == AT_MOST {
-        a <= b
-    } else if kind == ABOVE {
-        b < a
-    } else {
-        b <= a
+    let mut lanes = [ZERO; 16];
+    let mut taken = false;
+    let mut place = at;
+    loop {
+        let sum = eval_term(kinds, values, vars, lanes, taken, place);
+        let kind = kind_at(kinds, sum.next);
+        if kind == PLUS {
+            taken = false;
+        } else if kind == MINUS {
+            taken = true;
+        } else {
+            return sum;
+        }
+        lanes = sum.lanes;
+        place = after(kinds, sum.next);
     }
 }
 
-fn eval_compare(kinds: &[u8], values: &[u16], vars: [u16; 6], at: usize) -> Truth
+// The lanes of one set that another has not.
+fn unless(a: [bool; 16], b: [bool; 16]) -> [bool; 16]
+    ensures { λ r. ⌜ ((j : ℕ) → j < 16 → getD r j false ≡ getD a j false && not (getD b j false)) ⌝ }
+{
+    let mut set = [false; 16];
+    let mut j: usize = 0;
+    while j < 16 {
+        set[j] = a[j] & !b[j];
+        j += 1;
+    }
+    set
+}
+
+fn other(a: [bool; 16]) -> [bool; 16]
+    ensures { λ r. ⌜ ((j : ℕ) → j < 16 → getD r j false ≡ not (getD a j false)) ⌝ }
+{
+    unless([true; 16], a)
+}
+
+fn both(a: [bool; 16], b: [bool; 16]) -> [bool; 16]
+    ensures { λ r. ⌜ ((j : ℕ) → j < 16 → getD r j false ≡ getD a j false && getD b j false) ⌝ }
+{
+    unless(a, other(b))
+}
+
+fn union(a: [bool; 16], b: [bool; 16]) -> [bool; 16]
+    ensures { λ r. ⌜ ((j : ℕ) → j < 16 → getD r j false ≡ getD a j false || getD b j false) ⌝ }
+{
+    other(unless(other(a), b))
+}
+
+// The set of lanes as bits.
+fn mask(lanes: [bool; 16]) -> u16
+    ensures { λ r. ⌜ ((j : ℕ) → j < 16 → member r j ≡ getD lanes j false) ⌝ }
+{
+    let mut set: u16 = 0;
+    let mut j: u32 = 0;
+    while j < 16 {
+        if lanes[j as usize] {
+            set = sets::with(set, j);
+        }
+        j += 1;
+    }
+    set
+}
+
+fn below(a: [u32; 16], b: [u32; 16]) -> [bool; 16]
+    ensures { λ r. ⌜ ((j : ℕ) → j < 16 → getD r j false ≡ ltb (getD a j 0) (getD b j 0)) ⌝ }
+{
+    let mut set = [false; 16];
+    let mut j: usize = 0;
+    while j < 16 {
+        set[j] = a[j] < b[j];
+        j += 1;
+    }
+    set
+}
+
+fn compare(kind: u8, a: [u32; 16], b: [u32; 16]) -> [bool; 16]
+    ensures { λ r. ⌜ ((j : ℕ) → j < 16 → getD r j false ≡ testOf kind (getD a j 0) (getD b j 0)) ⌝ }
+{
+    if kind == BELOW {
+        return below(a, b);
+    }
+    if kind == ABOVE {
+        return below(b, a);
+    }
+    if kind == AT_MOST {
+        return other(below(b, a));
+    }
+    if kind == AT_LEAST {
+        return other(below(a, b));
+    }
+    let differ = union(below(a, b), below(b, a));
+    if kind == DIFFERS {
+        return differ;
+    }
+    other(differ)
+}
+
+fn eval_compare(kinds: &[u8], values: &[u16], vars: &[u16; 96], at: usize) -> Truth
     requires { ⌜ Placed (now kinds) at ⌝ }
-    ensures { λ r. ⌜ CompareRead (now (kinds .entry)) (now (values .entry)) vars at (r .holds) (r .next) ⌝ }
+    ensures { λ r. ⌜ CompareRead (now (kinds .entry)) (now (values .entry)) (now (vars .entry)) at (r .holds) (r .next) ⌝ }
 {
     let one = eval_expr(kinds, values, vars, at);
     let kind = kind_at(kinds, one.next);
     let next = after(kinds, one.next);
     let two = eval_expr(kinds, values, vars, next);
-    let holds = compare(kind, one.plus + two.minus, two.plus + one.minus);
+    let a = one.lanes;
+    let b = two.lanes;
+    let holds = compare(kind, a, b);
     Truth {
         holds,
         next: two.next,
     }
 }
 
-fn eval_cond(kinds: &[u8], values: &[u16], vars: [u16; 6], at: usize) -> Truth
+fn eval_cond(kinds: &[u8], values: &[u16], vars: &[u16; 96], at: usize) -> Truth
     requires { ⌜ Placed (now kinds) at ⌝ }
-    ensures { λ r. ⌜ CondRead (now (kinds .entry)) (now (values .entry)) vars at (r .holds) (r .next) ⌝ }
+    ensures { λ r. ⌜ CondRead (now (kinds .entry)) (now (values .entry)) (now (vars .entry)) at (r .holds) (r .next) ⌝ }
 {
     let conj = eval_conj(kinds, values, vars, at);
     if kind_at(kinds, conj.next) == OR_OR {
         let next = after(kinds, conj.next);
         let more = eval_cond(kinds, values, vars, next);
+        let a = conj.holds;
+        let b = more.holds;
         return Truth {
-            holds: conj.holds | more.holds,
+            holds: union(a, b),
             next: more.next,
         };
     }
     conj
 }
 
-fn eval_conj(kinds: &[u8], values: &[u16], vars: [u16; 6], at: usize) -> Truth
+fn eval_conj(kinds: &[u8], values: &[u16], vars: &[u16; 96], at: usize) -> Truth
     requires { ⌜ Placed (now kinds) at ⌝ }
-    ensures { λ r. ⌜ ConjRead (now (kinds .entry)) (now (values .entry)) vars at (r .holds) (r .next) ⌝ }
+    ensures { λ r. ⌜ ConjRead (now (kinds .entry)) (now (values .entry)) (now (vars .entry)) at (r .holds) (r .next) ⌝ }
 {
     let simple = eval_simple(kinds, values, vars, at);
     if kind_at(kinds, simple.next) == AND_AND {
         let next = after(kinds, simple.next);
         let more = eval_conj(kinds, values, vars, next);
+        let a = simple.holds;
+        let b = more.holds;
         return Truth {
-            holds: simple.holds & more.holds,
+            holds: both(a, b),
             next: more.next,
         };
     }
     simple
 }
 
-fn eval_simple(kinds: &[u8], values: &[u16], vars: [u16; 6], at: usize) -> Truth
+fn eval_simple(kinds: &[u8], values: &[u16], vars: &[u16; 96], at: usize) -> Truth
     requires { ⌜ Placed (now kinds) at ⌝ }
-    ensures { λ r. ⌜ SimpleRead (now (kinds .entry)) (now (values .entry)) vars at (r .holds) (r .next) ⌝ }
+    ensures { λ r. ⌜ SimpleRead (now (kinds .entry)) (now (values .entry)) (now (vars .entry)) at (r .holds) (r .next) ⌝ }
 {
     let kind = kind_at(kinds, at);
     let next = after(kinds, at);
     if kind == BANG {
         let simple = eval_simple(kinds, values, vars, next);
+        let a = simple.holds;
         return Truth {
-            holds: !simple.holds,
+            holds: other(a),
             next: simple.next,
         };
     }
     if kind == LPAREN {
         let cond = eval_cond(kinds, values, vars, next);
         let past = after(kinds, cond.next);
-        return Truth {
-            holds: cond.holds,
-            next: past,
-        };
+        let holds = cond.holds;
+        return Truth { holds, next: past };
     }
     if kind == TRUE {
-        return Truth { holds: true, next };
+        return Truth {
+            holds: [true; 16],
+            next,
+        };
     }
     if kind == FALSE {
-        return Truth { holds: false, next };
+        return Truth {
+            holds: [false; 16],
+            next,
+        };
     }
     eval_compare(kinds, values, vars, at)
 }
 
-// Whether the condition that begins at a token holds.
-pub fn holds(kinds: &[u8], values: &[u16], vars: [u16; 6], at: usize) -> bool
-    ensures { λ r. ⌜ ((vs : List Var) (as′ : List ℤ) (ls us : List Lexeme) (c : Cond)
-        → Codes vs ls (now (kinds .entry)) (now (values .entry)) → Biased vs as′ vars
+// The lanes in which the condition that begins at a token holds.
+pub fn holds(kinds: &[u8], values: &[u16], vars: &[u16; 96], at: usize) -> u16
+    ensures { λ r. ⌜ ((vs : List Var) (as′ : List ℤ) (ls us : List Lexeme) (c : Cond) (j : ℕ) → j < 16
+        → Codes vs ls (now (kinds .entry)) (now (values .entry)) → Biased vs as′ (lane (now (vars .entry)) j)
         → drop at ls ≡ spellCond c ++ us → EndsCond us → length ls < 8193
-        → r ≡ truth c vs as′) ⌝ }
+        → member r j ≡ truth c vs as′) ⌝ }
 {
     if MOST < kinds.len() {
-        return false;
+        return 0;
     }
     if kinds.len() < at {
-        return false;
+        return 0;
     }
     let cond = eval_cond(kinds, values, vars, at);
-    cond.holds
+    let lanes = cond.holds;
+    mask(lanes)
 }
 
-// The closing brace of the block that begins at a token.
-pub fn closing(kinds: &[u8], at: usize) -> usize
-    ensures { λ r. ⌜ ((ls us : List Lexeme) (b : Block) → Kinds ls (now (kinds .entry))
-        → drop at ls ≡ spellBlock b ++ (mark rbrace ∷ us) → drop r ls ≡ mark rbrace ∷ us) ⌝ }
-    ensures within { λ r. ⌜ (at ≤ length (now (kinds .entry)) → r ≤ length (now (kinds .entry))) ⌝ }
+// The new value in the lanes of a set, with 128 added, and the old one in the others.
+fn merged(on: [bool; 16], new: [u32; 16], old: [u32; 16]) -> [u32; 16]
+    requires { ⌜ Near 8193 new ⌝ }
+    ensures { λ r. ⌜ ((j : ℕ) → j < 16 → getD r j 0 ≡ cond (getD on j false) (getD new j 0 + 128) (getD old j 0)) ⌝ }
 {
-    let mut depth: usize = 0;
-    let mut i = at;
-    while i < kinds.len() {
-        let kind = kinds[i];
-        if kind == LBRACE {
-            depth += 1;
-        } else if kind == RBRACE {
-            if depth == 0 {
-                return i;
-            }
-            depth -= 1;
-        }
-        i += 1;
+    let mut lanes = [0u32; 16];
+    let mut j: usize = 0;
+    while j < 16 {
+        lanes[j] = if on[j] { new[j] + 128 } else { old[j] };
+        j += 1;
     }
-    i
+    lanes
 }
 
-// An assignment: the variables with a value stored, if it is in range.
+// Stores a value in each lane.
+fn put(vars: &mut [u16; 96], slot: usize, lanes: [u32; 16])
+    requires { ⌜ (length (now vars) ≡ 96) × (slot < 6) ⌝ }
+    ensures { λ _. ⌜ (length (now (vars .exit)) ≡ 96) × ((j : ℕ) → j < 16
+        → lane (now (vars .exit)) j ≡ set (lane (now (vars .entry)) j) slot (getD lanes j 0 % 65536)) ⌝ }
+{
+    let mut j: usize = 0;
+    while j < 16 {
+        vars[slot * 16 + j] = (lanes[j] % 65536) as u16;
+        j += 1;
+    }
+}
+
+// An assignment in the lanes of a set: it stores the values, and says in which lanes they are in range, or nothing was stored.
 fn store(
     lows: [u16; 6],
     highs: [u16; 6],
-    vars: [u16; 6],
+    vars: &mut [u16; 96],
+    on: [bool; 16],
     slot: usize,
-    plus: u32,
-    minus: u32,
-    next: usize,
-) -> Step
-    requires { ⌜ (plus ≤ 1073741824) × (minus ≤ 1073741824) ⌝ }
-    ensures { λ r. ⌜ Stored lows highs vars slot plus minus next r ⌝ }
+    sums: [u32; 16],
+) -> [bool; 16]
+    requires { ⌜ length (now vars) ≡ 96 ⌝ }
+    requires { ⌜ Near 8193 sums ⌝ }
+    ensures { λ r. ⌜ Stored lows highs (now (vars .entry)) on slot sums r (now (vars .exit)) ⌝ }
 {
     if slot < 6 {
-        let value = plus + 128;
-        let low = lows[slot] as u32 + minus;
-        let high = highs[slot] as u32 + minus;
-        if low <= value {
-            if value <= high {
-                let mut stored = vars;
-                stored[slot] = (value - minus) as u16;
-                return Step {
-                    ok: true,
-                    values: stored,
-                    next,
-                };
-            }
-        }
+        let low = [wide(lows[slot]) + (ZERO - 128); 16];
+        let high = [wide(highs[slot]) + (ZERO - 128); 16];
+        let out = union(below(sums, low), below(high, sums));
+        let ok = other(both(on, out));
+        let old = operands(vars, slot, 0);
+        put(vars, slot, merged(on, sums, old));
+        return ok;
     }
-    Step {
-        ok: false,
-        values: vars,
-        next,
-    }
+    other(on)
 }
 
 // The closing brace of the block that opens at a token, or the end where what is held is none.
@@ -367,40 +481,32 @@ fn close_of(kinds: &[u8], values: &[u16], brace: usize) -> usize
     kinds.len()
 }
 
-// Statements up to the closing brace.
+// Statements up to the closing brace, in the lanes of a set: whether they stayed in their ranges there.
 fn run_block(
     kinds: &[u8],
     values: &[u16],
     lows: [u16; 6],
     highs: [u16; 6],
-    vars: [u16; 6],
+    vars: &mut [u16; 96],
+    on: [bool; 16],
     at: usize,
-) -> Ran
+) -> [bool; 16]
     requires { ⌜ Placed (now kinds) at ⌝ }
-    ensures { λ r. ⌜ BlockRun (now (kinds .entry)) (now (values .entry)) lows highs vars at r ⌝ }
+    requires { ⌜ length (now vars) ≡ 96 ⌝ }
+    ensures { λ r. ⌜ BlockRun (now (kinds .entry)) (now (values .entry)) lows highs (now (vars .entry)) on at
+        r (now (vars .exit)) ⌝ }
 {
     let kind = kind_at(kinds, at);
     if kind == RBRACE {
-        return Ran {
-            ok: true,
-            values: vars,
-        };
+        return [true; 16];
     }
     if kind == END {
-        return Ran {
-            ok: true,
-            values: vars,
-        };
+        return [true; 16];
     }
-    let one = run_stmt(kinds, values, lows, highs, vars, at);
-    let stored = one.values;
-    if !one.ok {
-        return Ran {
-            ok: one.ok,
-            values: stored,
-        };
-    }
-    run_block(kinds, values, lows, highs, stored, one.next)
+    let one = run_stmt(kinds, values, lows, highs, vars, on, at);
+    let first = one.ok;
+    let more = run_block(kinds, values, lows, highs, vars, on, one.next);
+    both(first, more)
 }
 
 fn run_stmt(
@@ -408,79 +514,64 @@ fn run_stmt(
     values: &[u16],
     lows: [u16; 6],
     highs: [u16; 6],
-    vars: [u16; 6],
+    vars: &mut [u16; 96],
+    on: [bool; 16],
     at: usize,
 ) -> Step
     requires { ⌜ Placed (now kinds) at ⌝ }
+    requires { ⌜ length (now vars) ≡ 96 ⌝ }
     requires { ⌜ at < length (now kinds) ⌝ }
-    ensures { λ r. ⌜ StmtRun (now (kinds .entry)) (now (values .entry)) lows highs vars at r ⌝ }
+    ensures { λ r. ⌜ StmtRun (now (kinds .entry)) (now (values .entry)) lows highs (now (vars .entry)) on at
+        (r .ok) (now (vars .exit)) (r .next) ⌝ }
 {
     let second = after(kinds, at);
     let third = after(kinds, second);
     if kind_at(kinds, at) == IF {
         let cond = eval_cond(kinds, values, vars, third);
         let open = after(kinds, cond.next);
-        return run_branch(kinds, values, lows, highs, vars, open, cond.holds);
+        let holds = cond.holds;
+        return run_branch(kinds, values, lows, highs, vars, on, open, holds);
     }
     let sum = eval_expr(kinds, values, vars, third);
     let next = after(kinds, sum.next);
     let assigned = value_at(values, at) as usize;
-    store(lows, highs, vars, assigned, sum.plus, sum.minus, next)
+    let lanes = sum.lanes;
+    let ok = store(lows, highs, vars, on, assigned, lanes);
+    Step { ok, next }
 }
 
-// The block that opens at a token if the condition in front of it holds, else the one behind `else`, if there is one.
+// The block that opens at a token where the condition in front of it holds, and where not the one behind `else`, if there is one.
 fn run_branch(
     kinds: &[u8],
     values: &[u16],
     lows: [u16; 6],
     highs: [u16; 6],
-    vars: [u16; 6],
+    vars: &mut [u16; 96],
+    on: [bool; 16],
     brace: usize,
-    holds: bool,
+    holds: [bool; 16],
 ) -> Step
     requires { ⌜ Placed (now kinds) brace ⌝ }
-    ensures { λ r. ⌜ BranchRun (now (kinds .entry)) (now (values .entry)) lows highs vars brace holds r ⌝ }
+    requires { ⌜ length (now vars) ≡ 96 ⌝ }
+    ensures { λ r. ⌜ BranchRun (now (kinds .entry)) (now (values .entry)) lows highs (now (vars .entry)) on brace
+        holds (r .ok) (now (vars .exit)) (r .next) ⌝ }
 {
     let close = close_of(kinds, values, brace);
     let next = after(kinds, close);
+    let first = after(kinds, brace);
+    let ok = run_block(kinds, values, lows, highs, vars, both(on, holds), first);
     if kind_at(kinds, next) == ELSE {
-        let other = after(kinds, next);
-        let last = close_of(kinds, values, other);
+        let open = after(kinds, next);
+        let last = close_of(kinds, values, open);
         let behind = after(kinds, last);
-        if holds {
-            let one = after(kinds, brace);
-            let ran = run_block(kinds, values, lows, highs, vars, one);
-            let stored = ran.values;
-            return Step {
-                ok: ran.ok,
-                values: stored,
-                next: behind,
-            };
-        }
-        let two = after(kinds, other);
-        let ran = run_block(kinds, values, lows, highs, vars, two);
-        let stored = ran.values;
+        let second = after(kinds, open);
+        let more = run_block(kinds, values, lows, highs, vars, unless(on, holds), second);
         return Step {
-            ok: ran.ok,
-            values: stored,
+            ok: both(ok, more),
             next: behind,
         };
     }
-    if holds {
-        let first = after(kinds, brace);
-        let ran = run_block(kinds, values, lows, highs, vars, first);
-        let stored = ran.values;
-        return Step {
-            ok: ran.ok,
-            values: stored,
-            next,
-        };
-    }
-    Step {
-        ok: true,
-        values: vars,
-        next,
-    }
+    Step { ok, next }
 }
 
 // The values after the body that begins at a token.
@@ -489,25 +580,28 @@ pub fn run_body(
     values: &[u16],
     lows: [u16; 6],
     highs: [u16; 6],
-    vars: [u16; 6],
+    vars: [u16; 96],
     at: usize,
 ) -> Ran
-    ensures { λ r. ⌜ ((vs : List Var) (as′ : List ℤ) (ls us : List Lexeme) (b : Block)
-        → Codes vs ls (now (kinds .entry)) (now (values .entry)) → Biased vs as′ vars → Ranges vs lows highs
+    ensures { λ r. ⌜ ((vs : List Var) (as′ : List ℤ) (ls us : List Lexeme) (b : Block) (j : ℕ) → j < 16
+        → Codes vs ls (now (kinds .entry)) (now (values .entry)) → Biased vs as′ (lane vars j) → Ranges vs lows highs
         → drop at ls ≡ spellBlock b ++ (mark rbrace ∷ us) → length ls < 8193
-        → RanAs vs r (runBlock b vs as′)) ⌝ }
+        → RunAs vs (member (r .ok) j) (lane (r .values) j) (runBlock b vs as′)) ⌝ }
 {
+    let mut ended = vars;
     if MOST < kinds.len() {
         return Ran {
-            ok: false,
-            values: vars,
+            ok: 0,
+            values: ended,
         };
     }
     if kinds.len() < at {
         return Ran {
-            ok: false,
-            values: vars,
+            ok: 0,
+            values: ended,
         };
     }
-    run_block(kinds, values, lows, highs, vars, at)
+    let lanes = run_block(kinds, values, lows, highs, &mut ended, [true; 16], at);
+    let ok = mask(lanes);
+    Ran { ok, values: ended }
 }

@@ -1,10 +1,10 @@
 -- Where the parts of a file stand among its tokens.
-use Prim.Native.Nat.{ℕ, _<_, _≤_}
+use Prim.Native.Nat.{ℕ, _<_}
 use mathlib.Core.Path.{_≡_}
 use mathlib.Core.List.{List, _∷_, _++_, map}
 use mathlib.Core.Option.{some}
 use lib.ListN.{length, getD, drop, getElem?}
-use Rattle.syntax.specs.Token.{Lexeme, key, mark, lbrace, rbrace, rparen, semicolon, k-keep, Token, tokens, tokenize, lexemes}
+use Rattle.syntax.specs.Token.{Lexeme, key, mark, lbrace, rbrace, rparen, semicolon, k-keep, Token, lexemes}
 use Rattle.syntax.specs.Kind.{kindOf}
 use Rattle.syntax.specs.Tree.{Monitor, Region, Block, spellCond, spellBlock, all}
 use Rattle.machine.specs.Held.{bit, followsBy}

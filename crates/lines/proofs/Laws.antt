@@ -1,4 +1,4 @@
--- Laws of a digit, of writing one list behind another, and of what is written of each value and each thread. Assumes nothing.
+-- Laws of writing one list behind another, and of what is written of each value and each thread. Assumes nothing.
 use Prim.Native.Nat.{ℕ, zero, suc, _+_, _*_, _/_, _%_, _<_, _≤_}
 use mathlib.Core.Path.{_≡_, refl, ap, sym, _∙_}
 use mathlib.Core.List.{List, [], _∷_, _++_, append-assoc, append-nil}
@@ -8,7 +8,6 @@ use native.Mathlib.Omega.{arith}
 use lib.ListN.{length, getD, take, drop, set, length-append, length-drop, length-map, take-append-drop, List·getD-map}
 use lib.Seq.{take-at, drop-append-add, drop-drop, length-take-le, sets-eq}
 use lib.IntN.{ℤ, pos, _+ℤ_, natAbs, -ℤ-+ℤ-cancel}
-use borrow.Author.Tests.{lt-ltb, le-ltb}
 use Rattle.machine.specs.Machine as machine
 use Rattle.meaning.specs.Biased.{Offset}
 use Rattle.meaning.specs.Calls as calls
@@ -18,15 +17,6 @@ use Rattle.stepper.specs.Shown.{placeOf, idleThread}
 use Rattle.stepper.specs.Slices.{placesOf}
 use Rattle.stepper.specs.declared.Thread.{Thread}
 use Rattle.lines.specs.Written.{Writes, Fits, byteOf, valueAt, placeAt, valuesAt, placesAt}
-
--- a digit's two cases
-pub digit-low : (n : ℕ) → n < 10 → n + 48 ≡ hexDigit n
-unfolding hexDigit
-digit-low n h = rw (lt-ltb n 10 h, hexDigit)
-
-pub digit-high : (n : ℕ) → 10 ≤ n → n + 55 ≡ hexDigit n
-unfolding hexDigit
-digit-high n h = rw (le-ltb n 10 h, hexDigit)
 
 -- stores from a place on are a writing of what they store
 pub one-store : (d : List ℕ) (at a : ℕ) → at + 1 ≤ length d → Writes (a ∷ []) d at (at + 1) (set d at a)
@@ -147,9 +137,9 @@ module _ {rec : calls.Record} {vars : ℕ} {values : List ℕ} {threads : List T
       rw (fits .counted)
       (each (λ a. hex2 (natAbs (a +ℤ pos 128))) valueDigits refl (λ a as′. refl) (pos 0) (rec .values) 0 (valueAt values)
       (λ j lt.
-      let in-range : j < vars = omega (arith, fits .counted) in
-      let byte : getD values j 0 % 256 ≡ getD values j 0 = mod-eq-of-lt (omega (arith, fits .small j in-range)) in
-      rw (zero-add, byte, offset-abs _ _ (fits .held j in-range))))
+      let value = offset-abs _ _ (fits .held j lt) in
+      let byte : getD values j 0 % 256 ≡ getD values j 0 = mod-eq-of-lt (omega (arith, value, fits .digits .values j lt)) in
+      rw (zero-add, byte, value)))
 
   place-is : (t : ℕ) → placesOf threads t ≡ getD (rec .places) t machine.idle
   unfolding placesOf idleThread placeOf
@@ -161,7 +151,7 @@ module _ {rec : calls.Record} {vars : ℕ} {values : List ℕ} {threads : List T
       let n : length (rec .places) ≡ 16 = ap length (sym (fits .places)) ∙ length-map threads (λ t. placeOf (t .place)) ∙ l in
       rw (← n)
       (each (λ p. hex2 (placeByte p)) placeDigits refl (λ p ps. refl) machine.idle (rec .places) 0 (placeAt threads)
-      (λ j lt. rw (zero-add, place-is j, byte-is _ (fits .within j))))
+      (λ j lt. rw (zero-add, place-is j, byte-is _ (fits .digits .dues j))))
 
 -- four lists, one behind the other
 pub written-four :

@@ -1,5 +1,5 @@
 -- What writing a line does to a lent buffer, and a run's record as the code holds it.
-use Prim.Native.Nat.{ℕ, _+_, _%_, _<_, _≤_}
+use Prim.Native.Nat.{ℕ, _+_, _%_, _<_}
 use mathlib.Core.Path.{_≡_}
 use mathlib.Core.List.{List, _++_, map}
 use lib.ListN.{length, getD, take, drop}
@@ -8,6 +8,7 @@ use Rattle.machine.specs.Machine as machine
 use Rattle.meaning.specs.Biased.{Offset}
 use Rattle.meaning.specs.Model.{hex2, forEach}
 use Rattle.meaning.specs.Calls as calls
+use Rattle.meaning.specs.Widths.{RecordFits}
 use Rattle.stepper.specs.Shown.{placeOf}
 use Rattle.stepper.specs.Slices.{placesOf}
 use Rattle.stepper.specs.declared.Thread.{Thread}
@@ -17,14 +18,12 @@ pub record Writes (line before : List ℕ) (at next : ℕ) (after : List ℕ) : 
   pub bytes : after ≡ take at before ++ (line ++ drop (at + length line) before)
   pub behind : next ≡ at + length line
 
--- at most six values, each with 128 added, and sixteen threads at regions below 16
+-- each value with 128 added, and the threads' places; the record's numbers fit their digits
 pub record Fits (rec : calls.Record) (vars : ℕ) (values : List ℕ) (threads : List Thread) : Type 0 where
   pub counted : vars ≡ length (rec .values)
-  pub few : vars ≤ 6
-  pub held : (k : ℕ) → k < vars → Offset (getD (rec .values) k (pos 0)) (getD values k 0)
-  pub small : (k : ℕ) → k < vars → getD values k 0 ≤ 255
+  pub held : (k : ℕ) → k < length (rec .values) → Offset (getD (rec .values) k (pos 0)) (getD values k 0)
   pub places : map (λ t. placeOf (t .place)) threads ≡ rec .places
-  pub within : (k r : ℕ) → getD (rec .places) k machine.idle ≡ machine.due r → r < 16
+  pub digits : RecordFits rec
 
 -- what the code writes of a place, of the first values and of the first threads
 unfoldable pub byteOf : machine.Place → ℕ

@@ -3,10 +3,10 @@ use Prim.Native.Nat.{ℕ, _%_, _≤_, _<_}
 use native.Mathlib.Omega.{arith}
 use mathlib.Core.Path.{_≡_, refl, sym, ap, _∙_}
 use mathlib.Core.Bool.{Bool, true, false, not}
-use mathlib.Core.List.{List}
+use mathlib.Core.List.{List, _∷_}
 use mathlib.Core.Option.{Option, none, some}
 use lib.ListN.{length, getD}
-use Rattle.syntax.specs.Token.{Lexeme}
+use Rattle.syntax.specs.Token.{Lexeme, mark, semicolon}
 use Rattle.syntax.specs.Tree.{Monitor}
 use Rattle.meaning.specs.Bools.{clash}
 use Rattle.meaning.specs.Same.{different}
@@ -18,17 +18,31 @@ use Rattle.variables.specs.declared.Bounds.{Bounds}
 use Rattle.layout.specs.declared.Layout.{Layout}
 use Rattle.tables.specs.Rows.{GuardsAt, BodiesAt, GuardNumbers, KeptAll, HoldsAll, AfterAll, AfterAs}
 use Rattle.tables.specs.HeldLaws.{guards-few}
+use Rattle.tables.specs.Steps.{Condition, Guards}
 use Rattle.tables.specs.declared.Broken.{Broken}
 use Rattle.tables.specs.declared.Broken.the-variants.{Never, At}
 use Rattle.answers.specs.declared.Answer.{Answer}
 use Rattle.loading.specs.Guarded.{guards-stand}
+use Rattle.loading.specs.Limited.{ends-kept}
 use Rattle.loader.specs.Filling.{Filling, Filled}
 
 module _ {m : Monitor} {ls : List Lexeme} {kinds values : List ℕ} {b : Bounds} {l : Layout} (f : Filling m ls kinds values b l) where
-  pub few-guards : length (guards m) ≤ 16
+  pub keeping : Condition (vars m) (m .keep) kinds values b (l .keep)
+  keeping =
+      record {
+        ls = ls;
+        us = mark semicolon ∷ f .laid .behind-keep;
+        codes = f .codes;
+        bounded = f .bounded;
+        few = f .few;
+        spelled = f .laid .keep-stands;
+        ends = ends-kept (f .laid .behind-keep);
+      }
+
+  few-guards : length (guards m) ≤ 16
   few-guards = omega (arith, guards-few m, f .few-regions)
 
-  pub guards-of : (ats : List ℕ) → ((g : ℕ) → g < 16 → getD ats g 0 ≡ getD (l .«guards_at») (getD (l .firsts) g 0 % 16) 0) → GuardsAt m ls ats
+  guards-of : (ats : List ℕ) → ((g : ℕ) → g < 16 → getD ats g 0 ≡ getD (l .«guards_at») (getD (l .firsts) g 0 % 16) 0) → GuardsAt m ls ats
   unfolding GuardsAt
   guards-of ats e =
       guards-stand m ls ats (l .firsts) (l .«guards_at») (f .laid .first-below) (f .laid .first-has)
@@ -36,6 +50,19 @@ module _ {m : Monitor} {ls : List Lexeme} {kinds values : List ℕ} {b : Bounds}
       (λ g h. let low = f .laid .first-below g h in
       let small : getD (l .firsts) g 0 % 16 ≡ getD (l .firsts) g 0 = omega (arith, f .few-regions) in
       e g (omega (arith, few-guards)) ∙ ap (λ (k : ℕ). getD (l .«guards_at») k 0) small)
+
+  pub guarding : (ats : List ℕ) → ((g : ℕ) → g < 16 → getD ats g 0 ≡ getD (l .«guards_at») (getD (l .firsts) g 0 % 16) 0)
+      → Guards m kinds values b ats (l .guards)
+  guarding ats e =
+      record {
+        ls = ls;
+        codes = f .codes;
+        bounded = f .bounded;
+        few = f .few;
+        counted = f .laid .guard-count;
+        few-guards = omega (arith, few-guards, f .laid .guard-count);
+        places = guards-of ats e;
+      }
 
   pub bodies-of : BodiesAt m ls (l .«bodies_at»)
   unfolding BodiesAt

@@ -135,16 +135,16 @@ fn fill(
     layout: Layout,
     place: usize,
     kept: &mut [u8],
-    holds: &mut [u8],
+    holds: &mut [u16],
     after: &mut [u16],
 ) -> Answer
     ensures { λ r. ⌜ ((m : Monitor) (ls : List Lexeme) → Filling m ls (now (kinds .entry)) (now (values .entry)) bounds layout
-        → 4096 ≤ length (now (kept .entry)) → 65536 ≤ length (now (holds .entry)) → 65536 ≤ length (now (after .entry))
+        → 4096 ≤ length (now (kept .entry)) → 4096 ≤ length (now (holds .entry)) → 65536 ≤ length (now (after .entry))
         → Filled m place r (now (kept .exit)) (now (holds .exit)) (now (after .exit))) ⌝ }
 {
     let starts = bounds.starts;
     let keep = layout.keep;
-    if !evaluator::holds(kinds, values, starts, keep) {
+    if !tables::holds_at(kinds, values, starts, keep) {
         return answers::say(8, place, 0);
     }
     tables::fill_row(kinds, values, bounds, keep, kept);
@@ -191,11 +191,11 @@ fn load_tokens(
     values: &mut [u16],
     places: &[u16],
     kept: &mut [u8],
-    holds: &mut [u8],
+    holds: &mut [u16],
     after: &mut [u16],
 ) -> Loaded
     ensures { λ r. ⌜ ((ts : List Token) → Words (now (file .entry)) ts (now (kinds .entry)) (now (values .entry)) (now (places .entry))
-        → 4096 ≤ length (now (kept .entry)) → 65536 ≤ length (now (holds .entry)) → 65536 ≤ length (now (after .entry))
+        → 4096 ≤ length (now (kept .entry)) → 4096 ≤ length (now (holds .entry)) → 65536 ≤ length (now (after .entry))
         → Loads (now (file .entry)) r (now (kept .exit)) (now (holds .exit)) (now (after .exit))) ⌝ }
 {
     let judged = judge(file, kinds, values, places);
@@ -226,8 +226,8 @@ fn load_tokens(
 }
 
 // 1 to 9: the verdict of a file, and of an accepted one all that the table and the machines look up.
-pub fn load(file: &[u8], kept: &mut [u8], holds: &mut [u8], after: &mut [u16]) -> Loaded
-    ensures { λ r. ⌜ (4096 ≤ length (now (kept .entry)) → 65536 ≤ length (now (holds .entry)) → 65536 ≤ length (now (after .entry))
+pub fn load(file: &[u8], kept: &mut [u8], holds: &mut [u16], after: &mut [u16]) -> Loaded
+    ensures { λ r. ⌜ (4096 ≤ length (now (kept .entry)) → 4096 ≤ length (now (holds .entry)) → 65536 ≤ length (now (after .entry))
         → Loads (now (file .entry)) r (now (kept .exit)) (now (holds .exit)) (now (after .exit))) ⌝ }
 {
     let mut kinds = [0u8; 8192];

@@ -4,6 +4,7 @@ use mathlib.Core.Path.{_≡_}
 use mathlib.Core.Bool.{Bool, true, false}
 use mathlib.Core.List.{List}
 use lib.ListN.{getD}
+use Rattle.sets.specs.Set.{member}
 use Rattle.machine.specs.Machine.{Place, idle, due, Monitor}
 use Rattle.machine.specs.Table.{runs, Entry, none, entry, entryOf}
 
@@ -17,8 +18,8 @@ unfoldable pub followsBy : ℕ → ℕ → Place
 followsBy r zero = idle
 followsBy r (suc n) = due (r + 1)
 
--- at most 4,096 states, 16 regions and 16 guards; a guard's truth at guard * 4096 + state, the state after a region's body at
--- region * 4096 + state, where that body may run
+-- at most 4,096 states, 16 regions and 16 guards; for each state the set of guards that hold there, and at region * 4096 + state the
+-- state after a region's body, where that body may run
 pub record Held (m : Monitor) (kept holds after guardOf : List ℕ) : Type 0 where
   pub few-states : m .states ≤ 4096
   pub few-regions : m .regions ≤ 16
@@ -27,7 +28,7 @@ pub record Held (m : Monitor) (kept holds after guardOf : List ℕ) : Type 0 whe
   pub kept-below : (s : ℕ) → m .kept s ≡ true → s < m .states
   pub after-below : (r s : ℕ) → r < m .regions → runs m r s ≡ true → m .after r s < m .states
   pub by-kept : (s : ℕ) → s < m .states → getD kept s 0 ≡ bit (m .kept s)
-  pub by-holds : (g s : ℕ) → g < m .guards → s < m .states → getD holds (g * 4096 + s) 0 ≡ bit (m .holds g s)
+  pub by-holds : (g s : ℕ) → g < m .guards → s < m .states → member (getD holds s 0) g ≡ m .holds g s
   pub by-after : (r s : ℕ) → r < m .regions → runs m r s ≡ true → getD after (r * 4096 + s) 0 ≡ m .after r s
   pub by-guard : (r : ℕ) → r < m .regions → getD guardOf r 0 ≡ m .guardOf r
 
@@ -35,7 +36,6 @@ pub record Held (m : Monitor) (kept holds after guardOf : List ℕ) : Type 0 whe
 pub record HeldPlaces (m : Monitor) (begins goesOn : List ℕ) : Type 0 where
   pub by-begins : (r : ℕ) → r < m .regions → getD begins r 0 ≡ bit (m .begins r)
   pub by-follows : (r : ℕ) → r < m .regions → m .follows r ≡ followsBy r (getD goesOn r 0)
-  pub follows-below : (r w : ℕ) → r < m .regions → m .follows r ≡ due w → w < m .regions
 
 -- an entry as a number: 0 for none, else 1, and 2 more where it is unconditional, and 4 more where it is a broadcast
 unfoldable pub codeOf : Entry → ℕ

@@ -8,6 +8,7 @@ pub mod RulesDecided
 pub mod Entries
 pub mod Rechecks
 pub mod Points
+pub mod Reached
 pub mod Simulation
 pub mod Agreement
 pub mod Held

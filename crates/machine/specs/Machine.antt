@@ -1,6 +1,6 @@
 -- The two machines ("Frames and the two machines"), over a monitor freed from its syntax: one step with a parameter that says
 -- whom a body notifies. The plain machine and the table's are its two instances.
-use Prim.Native.Nat.{ℕ, zero, suc, _+_}
+use Prim.Native.Nat.{ℕ, zero, suc}
 use mathlib.Core.Bool.{Bool, true, false, not, _&&_, _||_, Bool·beq}
 use mathlib.Core.List.{List, [], _∷_}
 use lib.Dec.{eqb, ltb}

@@ -6,7 +6,7 @@ use mathlib.Core.Bool.{Bool, true, false, _&&_, _||_}
 use mathlib.Core.Logic.{_⊎_, inl, inr, ⊎-elim, _↔_, Iff·rfl}
 use lib.Dec.{ltb}
 use borrow.Author.Tests.{ltb-true, ltb-false}
-use Rattle.machine.specs.Machine.{Place, idle, waiting, Monitor, without, isWaiting, beginWait, leave, next, firstNotified, plainTold}
+use Rattle.machine.specs.Machine.{Place, idle, waiting, due, Monitor, without, isWaiting, beginWait, leave, next, firstNotified, plainTold}
 use Rattle.machine.specs.Table.{Entry, entry, tableTold, unconditional, broadcast, entryOf}
 use Rattle.machine.specs.Rules.{Waits, First, PlainNotices, TableNotices}
 use Rattle.machine.specs.Sets.{split, clash, split-eq, either, or-left, or-right, tests-equal, both-iff, without-iff}
@@ -20,6 +20,7 @@ pub record Checked (m : Monitor) : Type 0 where
   pub keeps : (r s : ℕ) → m .kept s ≡ true → m .holds (m .guardOf r) s ≡ true → m .kept (m .after r s) ≡ true
   pub outside : (r s : ℕ) → m .regions ≤ r → m .holds (m .guardOf r) s ≡ false
   pub leaves : (r : ℕ) → isWaiting (m .follows r) ≡ false
+  pub onward : (r w : ℕ) → m .follows r ≡ due w → w < m .regions
 
 -- What placing guarantees of a table whose entries on guard g are broadcasts where `bc g`
 pub record Placed (m : Monitor) (e : ℕ → ℕ → Entry) (bc : ℕ → Bool) : Type 0 where

@@ -1,10 +1,10 @@
 -- The step of `Machine` decides the published rules, and its run their closure: each test says what the relation says, a step
 -- that moves is a rule's and each rule's move is the step's. Shown once over whom a body notifies, then for the two machines.
-use Prim.Native.Nat.{ℕ, suc, _+_}
+use Prim.Native.Nat.{ℕ, suc, _+_, _≤_}
 use native.Mathlib.Omega.{arith}
 use mathlib.Core.Path.{_≡_, refl, sym, subst, subst₂, ap, ap₂, _∙_, fun-ext}
 use mathlib.Core.Bool.{Bool, true, false, _&&_, Bool·beq, and-eq-true-iff}
-use mathlib.Core.Logic.{_⊎_, inl, inr, _↔_}
+use mathlib.Core.Logic.{_⊎_, inl, inr, ⊎-elim, _↔_, Iff·rfl}
 use mathlib.Core.List.{List, [], _∷_, _++_}
 use lib.ListN.{length}
 use Rattle.machine.specs.Machine.{Place, waiting, Monitor, Frame, without, isWaiting, leave, Config, Outcome, moved, refused, Told, firstNotified, plainTold, may, ran, waited, rechecked, allowed, act, judged, step, accepted, stopped, run}
@@ -33,6 +33,10 @@ module _ (m : Monitor) (notices : Notices) where
     pub allow : Rules m notices c front point
     pub refuse : Refuses point frame a
 
+pub refuses-number : {m : Monitor} {notices : Notices} {c : Config} {f : Frame} {a : ℕ} → Refuses m notices c f a → (13 ≤ a) × (a ≤ 14)
+refuses-number (may-not h) = (omega arith, omega arith)
+refuses-number (no-rule k h) = (omega arith, omega arith)
+
 -- A machine decides the rules over a set of notices
 pub record Decides (m : Monitor) (told : Told) (notices : Notices) : Type 0 where
   pub moves : (c : Config) (f : Frame) (c′ : Config) → (step m told c f ≡ moved c′) ↔ Rule m notices c f c′
@@ -46,6 +50,13 @@ pub record Decides (m : Monitor) (told : Told) (notices : Notices) : Type 0 wher
       → ((c′ : Config) × (step m told c f ≡ moved c′)) ⊎ (step m told c f ≡ refused 13) ⊎ (step m told c f ≡ refused 14)
   pub accepts : (k : ℕ) (c : Config) (fs : List Frame) (c′ : Config) → (run m told k c fs ≡ accepted c′) ↔ Rules m notices c fs c′
   pub stops : (k : ℕ) (c : Config) (fs : List Frame) (a j : ℕ) → (run m told k c fs ≡ stopped a j) ↔ Stops m notices k c fs a j
+
+pub refused-number :
+    {m : Monitor} {told : Told} {notices : Notices} → Decides m told notices → (c : Config) (f : Frame) (a : ℕ)
+    → step m told c f ≡ refused a → (13 ≤ a) × (a ≤ 14)
+refused-number d c f a e = ⊎-elim (λ x. let q = x .1 in let z : _≡_ {A = ℕ} 0 1 = cc in absurd (omega arith))
+    (⊎-elim (λ x. let q : a ≡ 13 = cc in (omega arith, omega arith)) (λ x. let q : a ≡ 14 = cc in (omega arith, omega arith)))
+    (d .nothing-else c f)
 
 -- What the step's tests have found
 data Verdict (m : Monitor) (notices : Notices) (c : Config) (f : Frame) : Outcome → Type 0 where
@@ -334,6 +345,10 @@ module _ (m : Monitor) (told : Told) (notices : Notices)
           → May m (c .place) f × ((c′ : Config) → Rule m notices c f c′ → ⊥)
       refuses-14 (may-not h) e = absurd (omega arith)
       refuses-14 (no-rule k h) e = (k, h)
+
+-- for any choice of whom a body notifies
+pub told-decides : (m : Monitor) (told : Told) → Decides m told (λ s p r u. told s p r u ≡ true)
+told-decides m told = decides m told (λ s p r u. told s p r u ≡ true) (λ s p r u. Iff·rfl)
 
 pub plain-decides : (m : Monitor) → Decides m (plainTold m) (PlainNotices m)
 plain-decides m = decides m (plainTold m) (PlainNotices m) (plain-notices m)

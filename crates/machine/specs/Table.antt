@@ -1,7 +1,6 @@
 -- The table ("The table"; source document 001, Algorithm 1) over a monitor freed from its syntax, and the machine that goes by a table.
-use Prim.Native.Nat.{ℕ, zero, suc, _+_}
+use Prim.Native.Nat.{ℕ}
 use mathlib.Core.Bool.{Bool, true, false, not, _&&_, _||_}
-use mathlib.Core.List.{List, [], _∷_, _++_}
 use lib.Dec.{eqb}
 use Rattle.machine.specs.Machine.{Place, idle, waiting, due, Monitor, any, next, Told}
 

@@ -10,7 +10,7 @@ use Rattle.machine.specs.Machine.{Place, Frame, Config, Run, Told, run, allIdle
 use Rattle.machine.specs.Machine as machine
 use Rattle.machine.specs.Table.{entryOf, tableTold}
 use Rattle.meaning.specs.State.{stateAt}
-use Rattle.meaning.specs.Check.{Answer, answer, Verdict, accepted, refused, check}
+use Rattle.meaning.specs.Check.{Answer, answer, accepted, refused, check}
 use Rattle.meaning.specs.Model.{vars, kept, model, tableOf}
 use Rattle.meaning.specs.Trace.{Frames, frames, none-at, framesOf}
 

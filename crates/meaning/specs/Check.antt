@@ -7,9 +7,9 @@ use lib.ListN.{length, getD, drop}
 use lib.Dec.{ltb, leb}
 use lib.IntN.{ℤ, pos, negℤ}
 use Rattle.syntax.specs.Bytes.{sameBytes}
-use Rattle.syntax.specs.Token.{Lexeme, name, key, number, mark, lbrace, rbrace, lparen, rparen, Keyword, k-monitor, k-var, k-keep, k-method, k-waituntil, Token, Tokens, tokens, none-at, tokenize, lexemes, isMark, isKey}
+use Rattle.syntax.specs.Token.{Lexeme, name, key, number, mark, lbrace, rbrace, lparen, rparen, Keyword, k-monitor, k-var, k-keep, k-method, k-waituntil, Token, tokens, none-at, tokenize, lexemes, isMark, isKey}
 use Rattle.syntax.specs.Tree.{Cond, Region, Method, Var, Monitor, all}
-use Rattle.syntax.specs.Reading.{Got, got, stuck, read}
+use Rattle.syntax.specs.Reading.{got, stuck, read}
 use Rattle.meaning.specs.Value.{intOf, less, inRange, truth, runBlock}
 use Rattle.meaning.specs.State.{size, count, stateAt, starts}
 

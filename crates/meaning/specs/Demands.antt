@@ -5,7 +5,7 @@ use native.Mathlib.Omega.{arith}
 use mathlib.Core.Path.{_≡_, refl, sym, subst, ap, _∙_, fun-ext}
 use mathlib.Core.Bool.{Bool, true, false}
 use mathlib.Core.Logic.{_⊎_, inl, inr, ⊎-elim, _↔_}
-use mathlib.Core.List.{List, _++_, List·Memᴰ}
+use mathlib.Core.List.{List, _∷_, _++_, List·Memᴰ}
 use lib.ListN.{length, drop, length-append, length-drop}
 use lib.Dec.{ltb}
 use borrow.Author.Tests.{ltb-true, ltb-false, lt-ltb, le-ltb}
@@ -15,12 +15,13 @@ use Rattle.machine.specs.Machine.{Frame, Config, Run, stopped, allIdle, threads
 use Rattle.machine.specs.Machine as machine
 use Rattle.machine.specs.Table.{entry, entryOf}
 use Rattle.machine.specs.Rules.{Notices, PlainNotices, TableNotices, Rules}
-use Rattle.machine.specs.RulesDecided.{Refuses, may-not, no-rule, Stops, Decides, plain-decides, table-decides}
+use Rattle.machine.specs.RulesDecided.{Stops, refuses-number, Decides, plain-decides, table-decides}
 use Rattle.machine.specs.Entries.{Holds, Fails, Triple, Stands, Signals, entry-stands, entry-unconditional, entry-signal}
 use Rattle.machine.specs.Sets.{tests-equal}
 use Rattle.machine.specs.Points.{Checked}
+use Rattle.machine.specs.Reached.{Reached, start-reached, rules-reached}
 use Rattle.machine.specs.Rechecks.{Recheck}
-use Rattle.machine.specs.Agreement.{SamePoint, AgreeOn, Demand3, plainRun, tableRun, same-without-rechecks, table-accepts, plain-every-point}
+use Rattle.machine.specs.Agreement.{SamePoint, AgreeOn, Demand3, plainRun, tableRun, same-without-rechecks, table-accepts}
 use Rattle.machine.specs.Agreement as agreement
 use Rattle.meaning.specs.Value.{truth}
 use Rattle.meaning.specs.State.{count, stateAt}
@@ -31,7 +32,7 @@ use Rattle.meaning.specs.Calls.{Placing, notPlaced, written, place, Mach
 use Rattle.meaning.specs.Accepting.{State}
 use Rattle.meaning.specs.Bools.{both, and, split, clash, is-false}
 use Rattle.meaning.specs.StateLaws.{state-at}
-use Rattle.meaning.specs.ModelLaws.{kept-below, keeps, outside, leaves}
+use Rattle.meaning.specs.ModelLaws.{kept-below, keeps, outside, leaves, follows-below}
 use Rattle.meaning.specs.TableLines.{Row, rowLines, rowsOf, table-lines, row-stands, Increasing, rows-increasing, Small, rows-decoded}
 use Rattle.meaning.specs.TraceLaws.{FrameRecords, linesOf, frames-read, frames-stop}
 use Rattle.meaning.specs.TraceLaws as trace
@@ -47,6 +48,7 @@ checked file m e =
       keeps = keeps m one-cond (accepted-iff file m .0 e .sound);
       outside = outside m one-cond;
       leaves = leaves m;
+      onward = follows-below m;
     }
 
 -- Demand 2, the table: "The table has the entries of the published placement algorithm, no more, no fewer"
@@ -141,6 +143,22 @@ unfolding runList
 demand-2-machines m w =
     record { accepts = λ s. decided m w .accepts 0 (allIdle s); stops = λ s. decided m w .stops 0 (allIdle s) }
 
+-- a frame of the list is refused, with 13 or 14
+pub record StopsWithin (fs : List Frame) (a k : ℕ) : Type 0 where
+  pub low : 13 ≤ a
+  pub high : a ≤ 14
+  pub frame : k < length fs
+
+pub stops-within : {m : machine.Monitor} {n : Notices} {c : Config} {fs : List Frame} {a k : ℕ} → Stops m n 0 c fs a k → StopsWithin fs a k
+stops-within t =
+    let n = refuses-number (t .refuse) in
+    let l = length-append (t .front) (t .frame ∷ t .more) in
+    let p = t .place in
+    record { low = n .0; high = n .1; frame = rw (t .splits) (omega arith) }
+
+pub run-stops : (m : Monitor) (w : Machine) (s : ℕ) (fs : List Frame) (a k : ℕ) → runList m w s fs ≡ stopped a k → StopsWithin fs a k
+run-stops m w s fs a k h = stops-within (demand-2-machines m w .stops s fs a k .0 h)
+
 -- Demand 3: "every state that meets the kept condition and every list of frames", "run from there with all threads idle"
 
 module _ (file : List ℕ) (m : Monitor) (e : check file ≡ accepted m) where
@@ -165,10 +183,12 @@ module _ (file : List ℕ) (m : Monitor) (e : check file ≡ accepted m) where
     unfolding plainRun tableRun runList toldBy model
     accepted-by-table = table-accepts (model m) (checked file m e) s k fs
 
-    kept-at-end : (w : Machine) (c : Config) → runList m w s fs ≡ machine.accepted c → kept m (c .state) ≡ true
-    unfolding plainRun runList toldBy model
-    kept-at-end plain-machine c h = plain-every-point (model m) (checked file m e) s k fs c h .is-kept
-    kept-at-end table-machine c h = accepted-by-table c h .2 .is-kept
+-- a run from a kept state ends in one, with each waiting or due thread at a region of the file
+pub run-reached : (m : Monitor) → Checked (model m) → (s : ℕ) → kept m s ≡ true → (fs : List Frame) (w : Machine) (c : Config)
+    → runList m w s fs ≡ machine.accepted c → Reached (model m) c
+unfolding model
+run-reached m ok s k fs w c h =
+    rules-reached (model m) ok (noticesOf m w) (demand-2-machines m w .accepts s fs c .0 h) (start-reached (model m) s k)
 
 -- 11: "start state number not below the count of states, or kept condition false there"; a state that counts
 pub record Startable (m : Monitor) (s : ℕ) : Type 0 where
@@ -184,11 +204,12 @@ startable-iff m s = (
   λ h. and (lt-ltb s (count (vars m)) (h .below)) (h .keeps),
 )
 
--- a run from a kept state ends in one, in which each value is in its range
+-- a run from a state that counts ends in one, in which each value is in its range
 pub runs-keep : (file : List ℕ) (m : Monitor) → check file ≡ accepted m → (s : ℕ) → Startable m s → (fs : List Frame) (w : Machine) (c : Config)
     → runList m w s fs ≡ machine.accepted c → Startable m (c .state) × State (vars m) (stateAt (vars m) (c .state))
+unfolding model
 runs-keep file m e s k fs w c h =
-    let t = startable-iff m (c .state) .0 (kept-at-end file m e s (startable-iff m s .1 k) fs w c h) in
+    let t = startable-iff m (c .state) .0 (run-reached m (checked file m e) s (startable-iff m s .1 k) fs w c h .is-kept) in
     (t, state-at (accepted-iff file m .0 e .sound .ranges) (c .state) (t .below))
 
 -- Placing, for every file and buffer
@@ -321,10 +342,6 @@ unfoldable pub answerOf : Running → Answer
 answerOf (ran r) = answer 0 0 0
 answerOf (not-run a) = a
 
-refused-number : {m : machine.Monitor} {n : Notices} {c : Config} {f : Frame} {a : ℕ} → Refuses m n c f a → a ≡ 0 → ⊥
-refused-number (may-not h) z = omega arith
-refused-number (no-rule k h) z = omega arith
-
 -- the number is 0 exactly where a trace is accepted
 pub zero-iff-ran : (file bytes : List ℕ) (s : ℕ) (w : Machine)
     → (answerOf (running file bytes s w) .number ≡ 0) ↔ ((r : Record) × (running file bytes s w ≡ ran r))
@@ -336,7 +353,7 @@ zero-iff-ran file bytes s w =
     go (no-monitor r) z = let n = refusal-number r in absurd (omega arith)
     go (no-start a n) z = absurd (omega arith)
     go (bad-line a h t) z = absurd (omega arith)
-    go (frame-refused a h r e t) z = absurd (refused-number (t .refuse) z)
+    go (frame-refused a h r e t) z = let n = refuses-number (t .refuse) in absurd (omega arith)
     go (all-allowed a h r e t) z = (_, refl)
 
 -- Demand 3, for every file, trace and state number: "both machines give the same answer, number and places, unless the table's

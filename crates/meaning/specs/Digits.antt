@@ -25,11 +25,11 @@ pub high-value : (b : ℕ) → 57 < b → hexValue b ≡ b - 55
 unfolding hexValue
 high-value b h = rw (lt-leb b 57 h, hexValue)
 
-low-digit : (n : ℕ) → n < 10 → hexDigit n ≡ n + 48
+pub low-digit : (n : ℕ) → n < 10 → hexDigit n ≡ n + 48
 unfolding hexDigit
 low-digit n h = rw (lt-ltb n 10 h, hexDigit)
 
-high-digit : (n : ℕ) → 10 ≤ n → hexDigit n ≡ n + 55
+pub high-digit : (n : ℕ) → 10 ≤ n → hexDigit n ≡ n + 55
 unfolding hexDigit
 high-digit n h = rw (le-ltb n 10 h, hexDigit)
 

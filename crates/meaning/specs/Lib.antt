@@ -29,6 +29,7 @@ pub mod Verdicts
 pub mod Stages
 pub mod Sizes
 pub mod Demands
+pub mod Widths
 pub mod Placement
 pub mod Notified
 pub mod Printing

@@ -6,7 +6,7 @@ use lib.IntN.{ℤ, pos, _+ℤ_, natAbs}
 use Rattle.syntax.specs.Tree.{Monitor}
 use Rattle.machine.specs.Machine.{Place, idle, waiting, due}
 use Rattle.meaning.specs.State.{starts, numberOf}
-use Rattle.meaning.specs.Check.{Answer, Verdict, accepted, refused, check}
+use Rattle.meaning.specs.Check.{Answer, accepted, refused, check}
 use Rattle.meaning.specs.Model.{vars, model, hex2, tableOf}
 use Rattle.meaning.specs.Calls.{Machine, plain-machine, table-machine, Record, Running, ran, not-run, runFrom}
 

@@ -3,7 +3,7 @@ use Prim.Native.Nat.{ℕ, _+_, _-_, _≤_, _<_}
 use native.Mathlib.Omega.{arith}
 use native.Mathlib.Nat.{zero-add}
 use mathlib.Core.Path.{_≡_, refl, ap, _∙_}
-use mathlib.Core.Bool.{Bool, false, or-false}
+use mathlib.Core.Bool.{Bool, true, false, or-false}
 use mathlib.Core.List.{List, [], _∷_, _++_, append-nil}
 use lib.ListN.{length, length-append}
 use lib.Dec.{eqb, ltb}
@@ -11,7 +11,7 @@ use borrow.Author.Tests.{ltb-true, ltb-false, lt-ltb, le-ltb, le-leb, lt-leb, ne
 use Rattle.syntax.specs.Tree.{Method, all}
 use Rattle.meaning.specs.Check.{regionsOf}
 use Rattle.meaning.specs.Model.{beginsIn, goesOnIn}
-use Rattle.meaning.specs.Bools.{split}
+use Rattle.meaning.specs.Bools.{split, clash}
 
 -- region r is number i of a method
 pub record InMethod (ms : List Method) (r i : ℕ) : Type 0 where
@@ -124,3 +124,15 @@ begins-past ms r h = past-methods beginsIn begins-step ms r h
 pub goes-on-past : (ms : List Method) (r : ℕ) → length (regionsOf ms) ≤ r → goesOnIn ms r ≡ false
 unfolding goesOnIn
 goes-on-past ms r h = past-methods goesOnIn goes-on-step ms r h
+
+-- a region that another follows in its method is not the last of the file
+pub goes-on-below : (ms : List Method) (r : ℕ) → goesOnIn ms r ≡ true → r + 1 < length (regionsOf ms)
+unfolding goesOnIn regionsOf
+goes-on-below [] r e = clash e refl
+goes-on-below (x ∷ ms) r e =
+    let n = length (all (x .regions)) in
+    let both = length-append (all (x .regions)) (regionsOf ms) in
+    split (ltb r n)
+    (λ h. let here : ltb (r + 1) n ≡ true = rw (h, goesOnIn) at e in omega (arith, ltb-true (r + 1) n here, both))
+    (λ h. let later : goesOnIn ms (r - n) ≡ true = rw (h, goesOnIn) at e in
+    omega (arith, ltb-false r n h, goes-on-below ms (r - n) later, both))

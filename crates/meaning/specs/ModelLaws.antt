@@ -17,8 +17,9 @@ use Rattle.meaning.specs.State.{count, stateAt, numberOf}
 use Rattle.meaning.specs.Model.{sameGuard, placeIn, guardsOf, goesOnIn, noGuard, noRegion, numberAfter, vars, regions, guards, region, guardOf, holds, kept, after, follows}
 use Rattle.meaning.specs.Accepting.{State, Keeps, Meets, IsRegion, Sound}
 use Rattle.meaning.specs.Bools.{both, and, split, clash, no-some}
-use Rattle.meaning.specs.Same.{Decides}
+use Rattle.meaning.specs.Same.{Decides, different}
 use Rattle.meaning.specs.SameLexemes.{decides-lexemes}
+use Rattle.meaning.specs.MethodLaws.{goes-on-below}
 use Rattle.meaning.specs.StateLaws.{state-at, number-below, state-at-number}
 use Rattle.meaning.specs.BodyLaws.{run-of-block-runs, block-runs-state}
 
@@ -178,7 +179,7 @@ element [] i d h = absurd (omega arith)
 element (a ∷ as′) zero d h = refl
 element (a ∷ as′) (suc i) d h = element as′ i d (omega arith)
 
-element-below : {A : Type 0} (as′ : List A) (i : ℕ) (a d : A) → getElem? as′ i ≡ some a → (i < length as′) × (getD as′ i d ≡ a)
+pub element-below : {A : Type 0} (as′ : List A) (i : ℕ) (a d : A) → getElem? as′ i ≡ some a → (i < length as′) × (getD as′ i d ≡ a)
 element-below [] i a d e = no-some e
 element-below (b ∷ as′) zero a d e = (omega arith, Option·some-injective _ _ e)
 element-below (b ∷ as′) (suc i) a d e = let t = element-below as′ i a d e in (omega arith, t .1)
@@ -230,6 +231,13 @@ module _ (m : Monitor) where
   pub leaves : (r : ℕ) → machine.isWaiting (follows m r) ≡ false
   unfolding follows
   leaves r = leaves-place r (goesOnIn (all (m .methods)) r)
+
+  -- and due at a region of the file
+  pub follows-below : (r w : ℕ) → follows m r ≡ machine.due w → w < length (regions m)
+  unfolding follows regions
+  follows-below r w e = split (goesOnIn (all (m .methods)) r)
+      (λ h. let same : w ≡ r + 1 = cc in omega (arith, same, goes-on-below (all (m .methods)) r h))
+      (λ h. different (cc))
 
   pub kept-below : (s : ℕ) → kept m s ≡ true → s < count (vars m)
   unfolding kept

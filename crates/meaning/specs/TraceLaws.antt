@@ -1,5 +1,5 @@
 -- A trace is its frames' lines, and 12 names the first line that is no frame: what `framesOf` gives, for all bytes, by cutting them at each 0A.
-use Prim.Native.Nat.{ℕ, zero, suc, _+_, _<_}
+use Prim.Native.Nat.{ℕ, zero, suc, _+_, _*_, _<_}
 use native.Mathlib.Omega.{arith}
 use mathlib.Core.Path.{_≡_, refl, sym, ap, _∙_}
 use mathlib.Core.Bool.{true, false, true≢false}
@@ -32,6 +32,16 @@ pub data FrameRecords : List Frame → Type 0 where
 unfoldable pub linesOf : List Frame → List ℕ
 linesOf [] = []
 linesOf (f ∷ fs) = frameLine f ++ linesOf fs
+
+-- a frame's line has seven bytes
+pub line-seven : (f : Frame) → length (frameLine f) ≡ 7
+unfolding frameLine hex2
+line-seven f = rw bit-digits
+
+pub lines-seven : (fs : List Frame) → length (linesOf fs) ≡ 7 * length fs
+unfolding linesOf
+lines-seven [] = refl
+lines-seven (f ∷ fs) = simp (length-append, line-seven, lines-seven fs) (omega arith)
 
 -- bytes that are there, and begin with no frame's line
 pub record NoFrameFirst (bs : List ℕ) : Type 0 where

@@ -1,5 +1,5 @@
 -- What expressions, conditions and bodies mean: values are whole numbers, one for each variable in the order of the declarations.
-use Prim.Native.Nat.{ℕ, zero, suc}
+use Prim.Native.Nat.{ℕ}
 use mathlib.Core.Bool.{Bool, true, false, not, _&&_, _||_}
 use mathlib.Core.List.{List, [], _∷_}
 use mathlib.Core.Option.{Option, none, some}

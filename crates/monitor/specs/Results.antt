@@ -5,9 +5,11 @@ use mathlib.Core.List.{List}
 use Rattle.answers.specs.Says.{Says}
 use Rattle.meaning.specs.Calls.{plain-machine, table-machine, running}
 use Rattle.meaning.specs.Calls as calls
-use Rattle.meaning.specs.Check.{Verdict, accepted, refused}
+use Rattle.syntax.specs.Tree.{Monitor}
+use Rattle.machine.specs.Held.{HeldEntries}
+use Rattle.meaning.specs.Check.{Verdict, accepted, refused, check}
 use Rattle.meaning.specs.State.{numberOf, starts}
-use Rattle.meaning.specs.Model.{vars}
+use Rattle.meaning.specs.Model.{vars, model}
 use Rattle.meaning.specs.Demands.{SameRunning}
 use Rattle.running.specs.Results.{Runs}
 use Rattle.running.specs.declared.Running.{Running}
@@ -24,6 +26,10 @@ pub record Agrees (file bytes : List ℕ) (start : ℕ) (plain table : Running) 
   pub plain-runs : Runs (running file bytes start plain-machine) plain
   pub table-runs : Runs (running file bytes start table-machine) table
   pub same : SameRunning file bytes start
+
+-- the entries of an accepted file's table, held as numbers
+unfoldable pub EntriesOf : List ℕ → List ℕ → Type 0
+EntriesOf file entries = (m : Monitor) → check file ≡ accepted m → HeldEntries (model m) entries
 
 -- the number of the state at the start values
 unfoldable pub startOf : Verdict → ℕ

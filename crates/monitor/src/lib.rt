@@ -1,5 +1,5 @@
-// The library: the check of a file, the placing of its table into a lent buffer, and runs of a trace from a start state on either
-// machine or on both. No call asks anything of its caller; each states its complete result for every input.
+// The library: the check of a file, the placing of its table into a lent buffer, and runs of a trace on either machine or on both,
+// from a start state or from the start values. No call asks anything of its caller; each states its complete result for every input.
 use answers::Answer;
 use loader::Loaded;
 use placing::Placed;
@@ -12,7 +12,7 @@ ghost use Rattle.running.specs.Results.{Runs, machineOf};
 ghost use mathlib.Core.List.{List};
 ghost use Prim.Native.Nat.{ℕ};
 ghost use Rattle.loader.specs.Loading.{Loads};
-ghost use Rattle.monitor.specs.Results.{Places, Agrees, startOf};
+ghost use Rattle.monitor.specs.Results.{Places, Agrees, EntriesOf, startOf};
 
 // What placing answers, and the table's length where it is placed.
 pub struct Placing {
@@ -31,10 +31,37 @@ pub fn check(file: &[u8]) -> Answer
     ensures { λ r. ⌜ Is r (meaning.check (now (file .entry))) ⌝ }
 {
     let mut kept = [0u8; 4096];
-    let mut holds = [0u8; 65536];
+    let mut holds = [0u16; 4096];
     let mut after = [0u16; 65536];
     let loaded = loader::load(file, &mut kept, &mut holds, &mut after);
     loaded.answer
+}
+
+// The entries of an accepted file's table, from what was loaded of it.
+fn entries_of(
+    loaded: Loaded,
+    kept: &[u8; 4096],
+    holds: &[u16; 4096],
+    after: &[u16; 65536],
+) -> [u8; 256]
+    ensures { λ r. ⌜ ((file : List ℕ) → Loads file loaded (now (kept .entry)) (now (holds .entry)) (now (after .entry))
+        → EntriesOf file r) ⌝ }
+{
+    let bounds = loaded.bounds;
+    let layout = loaded.layout;
+    let guard_of = layout.guard_of;
+    let mut entries = [0u8; 256];
+    placing::fill_entries(
+        kept,
+        holds,
+        after,
+        &guard_of,
+        bounds.states,
+        layout.regions,
+        layout.guards,
+        &mut entries,
+    );
+    entries
 }
 
 // The table of a file from byte 0 of a lent buffer; refused, not a byte of the buffer changes.
@@ -42,7 +69,7 @@ pub fn place(file: &[u8], table: &mut [u8]) -> Placing
     ensures { λ r. ⌜ Places (calls.place (now (file .entry)) (now (table .entry))) r (now (table .exit)) ⌝ }
 {
     let mut kept = [0u8; 4096];
-    let mut holds = [0u8; 65536];
+    let mut holds = [0u16; 4096];
     let mut after = [0u16; 65536];
     let loaded = loader::load(file, &mut kept, &mut holds, &mut after);
     let verdict = loaded.answer;
@@ -52,20 +79,8 @@ pub fn place(file: &[u8], table: &mut [u8]) -> Placing
             length: 0,
         };
     }
-    let bounds = loaded.bounds;
     let layout = loaded.layout;
-    let guard_of = layout.guard_of;
-    let mut entries = [0u8; 256];
-    placing::fill_entries(
-        &kept,
-        &holds,
-        &after,
-        &guard_of,
-        bounds.states,
-        layout.regions,
-        layout.guards,
-        &mut entries,
-    );
+    let entries = entries_of(loaded, &kept, &holds, &after);
     match placing::write_table(&entries, layout.regions, layout.guards, table) {
         Placed::Short => Placing {
             answer: answers::say(10, 0, 0),
@@ -78,6 +93,19 @@ pub fn place(file: &[u8], table: &mut [u8]) -> Placing
     }
 }
 
+// The number of the state at the start values of what was loaded; 0 of a refused file.
+fn start_of(loaded: Loaded) -> usize
+    ensures { λ r. ⌜ ((file kept holds after : List ℕ) → Loads file loaded kept holds after → r ≡ startOf (meaning.check file)) ⌝ }
+{
+    let verdict = loaded.answer;
+    if verdict.number != 0 {
+        return 0;
+    }
+    let bounds = loaded.bounds;
+    let starts = bounds.starts;
+    variables::number_of(bounds, starts)
+}
+
 // A run over what was loaded of a file: its refusal, or the run of the trace from a start state on a machine.
 fn run_loaded(
     loaded: Loaded,
@@ -85,10 +113,12 @@ fn run_loaded(
     start: usize,
     table: bool,
     kept: &[u8; 4096],
-    holds: &[u8; 65536],
+    holds: &[u16; 4096],
     after: &[u16; 65536],
+    entries: &[u8; 256],
 ) -> Running
     ensures { λ r. ⌜ ((file : List ℕ) → Loads file loaded (now (kept .entry)) (now (holds .entry)) (now (after .entry))
+        → EntriesOf file (now (entries .entry))
         → Runs (calls.running file (now (bytes .entry)) start (machineOf table)) r) ⌝ }
 {
     let verdict = loaded.answer;
@@ -100,18 +130,6 @@ fn run_loaded(
     }
     let bounds = loaded.bounds;
     let layout = loaded.layout;
-    let guard_of = layout.guard_of;
-    let mut entries = [0u8; 256];
-    placing::fill_entries(
-        kept,
-        holds,
-        after,
-        &guard_of,
-        bounds.states,
-        layout.regions,
-        layout.guards,
-        &mut entries,
-    );
     running::run_from(
         bounds,
         layout,
@@ -121,8 +139,29 @@ fn run_loaded(
         kept,
         holds,
         after,
-        &entries,
+        entries,
     )
+}
+
+// Both machines over what was loaded of a file; the table's entries are worked out once.
+fn both_loaded(
+    loaded: Loaded,
+    bytes: &[u8],
+    start: usize,
+    kept: &[u8; 4096],
+    holds: &[u16; 4096],
+    after: &[u16; 65536],
+) -> Both
+    ensures { λ r. ⌜ ((file : List ℕ) → Loads file loaded (now (kept .entry)) (now (holds .entry)) (now (after .entry))
+        → Agrees file (now (bytes .entry)) start (r .plain) (r .table)) ⌝ }
+{
+    let entries = entries_of(loaded, kept, holds, after);
+    let plain = run_loaded(loaded, bytes, start, false, kept, holds, after, &entries);
+    let table = run_loaded(loaded, bytes, start, true, kept, holds, after, &entries);
+    Both {
+        plain: plain,
+        table: table,
+    }
 }
 
 // A run of a trace from a start state on the plain machine or, where `table` is true, on the table's.
@@ -130,10 +169,11 @@ pub fn run(file: &[u8], bytes: &[u8], start: usize, table: bool) -> Running
     ensures { λ r. ⌜ Runs (calls.running (now (file .entry)) (now (bytes .entry)) start (machineOf table)) r ⌝ }
 {
     let mut kept = [0u8; 4096];
-    let mut holds = [0u8; 65536];
+    let mut holds = [0u16; 4096];
     let mut after = [0u16; 65536];
     let loaded = loader::load(file, &mut kept, &mut holds, &mut after);
-    run_loaded(loaded, bytes, start, table, &kept, &holds, &after)
+    let entries = entries_of(loaded, &kept, &holds, &after);
+    run_loaded(loaded, bytes, start, table, &kept, &holds, &after, &entries)
 }
 
 // Both machines on one trace, from the same start state.
@@ -141,15 +181,22 @@ pub fn run_both(file: &[u8], bytes: &[u8], start: usize) -> Both
     ensures { λ r. ⌜ Agrees (now (file .entry)) (now (bytes .entry)) start (r .plain) (r .table) ⌝ }
 {
     let mut kept = [0u8; 4096];
-    let mut holds = [0u8; 65536];
+    let mut holds = [0u16; 4096];
     let mut after = [0u16; 65536];
     let loaded = loader::load(file, &mut kept, &mut holds, &mut after);
-    let plain = run_loaded(loaded, bytes, start, false, &kept, &holds, &after);
-    let table = run_loaded(loaded, bytes, start, true, &kept, &holds, &after);
-    Both {
-        plain: plain,
-        table: table,
-    }
+    both_loaded(loaded, bytes, start, &kept, &holds, &after)
+}
+
+// Both machines on one trace, from the start values.
+pub fn run_both_from_start(file: &[u8], bytes: &[u8]) -> Both
+    ensures { λ r. ⌜ Agrees (now (file .entry)) (now (bytes .entry)) (startOf (meaning.check (now (file .entry)))) (r .plain) (r .table) ⌝ }
+{
+    let mut kept = [0u8; 4096];
+    let mut holds = [0u16; 4096];
+    let mut after = [0u16; 65536];
+    let loaded = loader::load(file, &mut kept, &mut holds, &mut after);
+    let start = start_of(loaded);
+    both_loaded(loaded, bytes, start, &kept, &holds, &after)
 }
 
 // The number of the state at the start values of an accepted file; 0 of a refused one.
@@ -157,14 +204,8 @@ pub fn start_state(file: &[u8]) -> usize
     ensures { λ r. ⌜ r ≡ startOf (meaning.check (now (file .entry))) ⌝ }
 {
     let mut kept = [0u8; 4096];
-    let mut holds = [0u8; 65536];
+    let mut holds = [0u16; 4096];
     let mut after = [0u16; 65536];
     let loaded = loader::load(file, &mut kept, &mut holds, &mut after);
-    let verdict = loaded.answer;
-    if verdict.number != 0 {
-        return 0;
-    }
-    let bounds = loaded.bounds;
-    let starts = bounds.starts;
-    variables::number_of(bounds, starts)
+    start_of(loaded)
 }

@@ -6,8 +6,8 @@ use mathlib.Core.List.{List, [], _∷_, _++_, map}
 use mathlib.Core.Option.{Option, none, some}
 use lib.ListN.{length, take, drop, getD}
 use Rattle.syntax.specs.Bytes.{sameBytes}
-use Rattle.syntax.specs.Token.{Lexeme, name, key, number, mark, k-monitor, k-var, k-method, Token, tokens, tokenize, isKey}
-use Rattle.syntax.specs.Kind.{kindOf, valueOf}
+use Rattle.syntax.specs.Token.{Lexeme, name, key, number, mark, k-monitor, k-var, k-method, Token, isKey}
+use Rattle.syntax.specs.Kind.{kindOf}
 use Rattle.meaning.specs.Check.{member}
 use Rattle.passes.specs.declared.Names.{Names}
 use Rattle.passes.specs.declared.Found.{Found}

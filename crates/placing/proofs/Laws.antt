@@ -3,13 +3,13 @@
 use Prim.Native.Nat.{ℕ, zero, suc, _+_, _*_, _/_, _%_, _<_, _≤_}
 use mathlib.Core.Path.{_≡_, refl, ap, _∙_}
 use mathlib.Core.Logic.{⊎-elim}
-use mathlib.Core.Bool.{Bool, true, false, or-true}
+use mathlib.Core.Bool.{Bool, true, false, _||_}
 use mathlib.Core.List.{List, [], _∷_, _++_, append-assoc, append-nil}
-use native.Mathlib.Nat.{eq-or-lt-of-le, le-of-suc-le-suc, add-zero, zero-add, not-suc-le-zero, add-assoc, mod-eq-of-lt, div-eq-of-lt}
+use native.Mathlib.Nat.{eq-or-lt-of-le, le-of-suc-le-suc, add-zero, zero-add, add-assoc, mod-eq-of-lt, div-eq-of-lt}
 use native.Mathlib.Numerals.{add-one, add-two, add-three, add-four, add-five, add-six, add-seven, add-eight}
 use native.Mathlib.Omega.{arith}
 use lib.ListN.{length, getD, take, drop, set, length-append, length-drop, take-append-drop}
-use lib.Seq.{take-at, drop-append-add, drop-drop, length-take-le, sets-eq, getD-set-same, getD-set-other}
+use lib.Seq.{take-at, drop-append-add, drop-drop, length-take-le, sets-eq}
 use lib.Dec.{eqb}
 use borrow.Author.Tests.{lt-ltb, le-ltb}
 use Rattle.machine.specs.Machine.{any}
@@ -19,19 +19,9 @@ use Rattle.placing.specs.Slices.{entryBy, lineAt, over}
 use Rattle.placing.specs.Written.{placedOf, bufferOf, Writes}
 use Rattle.placing.specs.declared.Placed.the-variants.{Length, Short}
 
--- some number below n passes the test, since k does
-pub any-true : (n : ℕ) (f : ℕ → Bool) (k : ℕ) → k < n → f k ≡ true → any n f ≡ true
+pub any-next : (n : ℕ) (f : ℕ → Bool) → any (n + 1) f ≡ (f n || any n f)
 unfolding any
-any-true zero f k h e = absurd (not-suc-le-zero h)
-any-true (suc n) f k h e =
-    ⊎-elim (λ (q : k ≡ n). rw (← q, e))
-    (λ (l : k < n). rw (any-true n f k l e, or-true))
-    (eq-or-lt-of-le (le-of-suc-le-suc h))
-
--- no number below n passes the test, nor does n
-pub any-more : (n : ℕ) (f : ℕ → Bool) → f n ≡ false → any n f ≡ false → any (n + 1) f ≡ false
-unfolding any
-any-more n f e below = rw (add-one, e, below)
+any-next n f = rw add-one
 
 pub any-same : (n : ℕ) (f g : ℕ → Bool) → ((k : ℕ) → k < n → f k ≡ g k) → any n f ≡ any n g
 unfolding any
@@ -210,17 +200,6 @@ module _ (d : List ℕ) (at n : ℕ) (f : ℕ → List ℕ) (fits : at + length 
   turn-over h u e =
       let w = forEach-within k n f (omega arith) in
       rw (e, done, placed, forEach-more, over-over d at (forEach k 0 f) (omega arith) (f k))
-
--- entries after one is put at a region and a guard: that one, those of lower regions for the guard, and those of lower guards
-module _ (es : List ℕ) (r g v : ℕ) where
-  pub put-here : length es ≡ 256 → r < 16 → g < 16 → getD (set es (r * 16 + g) v) (r * 16 + g) 0 ≡ v
-  put-here l hr hg = getD-set-same es (r * 16 + g) v 0 (omega arith)
-
-  pub put-region : (k : ℕ) → k < r → getD (set es (r * 16 + g) v) (k * 16 + g) 0 ≡ getD es (k * 16 + g) 0
-  put-region k h = getD-set-other es (r * 16 + g) (k * 16 + g) v 0 (λ e. omega arith)
-
-  pub put-guard : (j k : ℕ) → g < 16 → k < g → getD (set es (r * 16 + g) v) (j * 16 + k) 0 ≡ getD es (j * 16 + k) 0
-  put-guard j k hg h = getD-set-other es (r * 16 + g) (j * 16 + k) v 0 (λ e. omega arith)
 
 -- what is written where the buffer is too short, and where it is not
 pub writes-short : (t b : List ℕ) → length b < length t → Writes t b Short b

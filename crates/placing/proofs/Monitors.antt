@@ -1,126 +1,78 @@
 -- What the code works out from slices, of a monitor that they hold: its entries; and the lines of entries that a slice holds are
--- those of the monitor's table. The cases are those of `runs` and of the two truths of a guard. Assumes nothing.
+-- those of the monitor's table. The cases are those of `runs`. Assumes nothing.
 use Prim.Native.Nat.{ℕ, _+_, _*_, _%_, _<_, _≤_}
-use mathlib.Core.Path.{_≡_, refl, ap, subst, _∙_}
-use mathlib.Core.Bool.{Bool, true, false, not, _&&_, _||_, Bool·beq}
+use mathlib.Core.Path.{_≡_, refl, ap}
+use mathlib.Core.Bool.{Bool, true, false, not, _&&_}
 use mathlib.Core.List.{List}
 use native.Mathlib.Nat.{mod-eq-of-lt}
 use native.Mathlib.Omega.{arith}
-use borrow.Author.Tests.{eqb-true}
 use lib.ListN.{getD}
 use lib.Dec.{eqb}
+use Rattle.sets.specs.SetLaws.{eqb-sym}
 use Rattle.machine.specs.Machine.{Monitor}
 use Rattle.machine.specs.Table.{Entry, none, entry, runs, someMove, everyMove, stands, unconditional, broadcast, entryOf}
 use Rattle.machine.specs.Held.{Held, bit, codeOf, HeldEntries}
 use Rattle.meaning.specs.Model.{tableOf}
-use Rattle.placing.specs.Slices.{moveAt, movesAt, staysAt, wideAt, made, codeAt, filledAt, entryBy, lineAt, linesAt, tableAt}
+use Rattle.placing.specs.Slices.{runsAt, someAt, rises, neither, holdsThen, wideAt, made, codeAt, entryBy, lineAt, linesAt, tableAt}
 use Rattle.placing.proofs.Laws.{any-same, forEach-same}
-
-bit-eqb : (a b : Bool) → eqb (bit a) (bit b) ≡ Bool·beq a b
-unfolding bit
-bit-eqb true true = refl
-bit-eqb true false = refl
-bit-eqb false true = refl
-bit-eqb false false = refl
 
 -- `mod-eq-of-lt`, with the numbers written
 mod-small : (n k : ℕ) → n < k → n % k ≡ n
 mod-small n k h = mod-eq-of-lt h
 
-module _ (m : Monitor) (kept holds after guardOf : List ℕ) (held : Held m kept holds after guardOf) where
-  -- a state from which the body may run, where the guard's truths are a before and b after
-  moves-one : (r g s : ℕ) (a b : Bool) → Bool
-  moves-one r g s a b = runs m r s && (Bool·beq (m .holds g s) a && Bool·beq (m .holds g (m .after r s)) b)
+bit-is : (b : Bool) → eqb (bit b) 1 ≡ b
+unfolding bit
+bit-is true = refl
+bit-is false = refl
 
-  move-is :
-      (r g s : ℕ) (a b : Bool) → r < m .regions → g < m .guards → s < m .states
-      → moveAt kept holds after (m .guardOf r) r g (bit a) (bit b) s ≡ moves-one r g s a b
-  unfolding moveAt moves-one runs bit
-  move-is r g s a b hr hg hs =
-      rw (
-        held .by-kept s hs,
-        held .by-holds (m .guardOf r) s (held .guard-below r hr) hs,
-        held .by-holds g s hg hs,
-        bit-eqb (m .holds g s) a,
-      )
-      (go (m .kept s) (m .holds (m .guardOf r) s) refl refl)
+module _ (m : Monitor) (kept holds after guardOf : List ℕ) (states regions guards : ℕ) (held : Held m kept holds after guardOf)
+    (es : m .states ≡ states) (er : m .regions ≡ regions) (eg : m .guards ≡ guards) where
+  guard-is : (r : ℕ) → r < m .regions → getD guardOf r 0 % 16 ≡ m .guardOf r
+  guard-is r hr =
+      let few : m .guards ≤ 16 = held .few-guards in
+      let below : m .guardOf r < m .guards = held .guard-below r hr in
+      rw (held .by-guard r hr) (mod-small (m .guardOf r) 16 (omega arith))
+
+  run-is : (r s : ℕ) → r < m .regions → s < m .states → runsAt kept holds (m .guardOf r) s ≡ runs m r s
+  unfolding runsAt runs
+  run-is r s hr hs = rw (held .by-kept s hs, bit-is (m .kept s), held .by-holds (m .guardOf r) s (held .guard-below r hr) hs)
+
+  -- a test of sets of guards that is a test of states
+  some-is :
+      (r : ℕ) (test on : ℕ → ℕ → Bool) → r < m .regions
+      → ((s t : ℕ) → s < m .states → t < m .states → test (getD holds s 0) (getD holds t 0) ≡ on s t)
+      → someAt kept holds after (m .states) (m .guardOf r) r test ≡ someMove m r on
+  unfolding someAt someMove
+  some-is r test on hr e = any-same (m .states) _ _ (λ s hs. rw (run-is r s hr hs) (go s hs (runs m r s) refl))
     where
-      last : runs m r s ≡ true
-          → getD holds (g * 4096 + getD after (r * 4096 + s) 0 % 4096) 0 ≡ bit (m .holds g (m .after r s))
-      last run =
+      go : (s : ℕ) → s < m .states → (b : Bool) → runs m r s ≡ b
+          → (b && test (getD holds s 0) (getD holds (getD after (r * 4096 + s) 0 % 4096) 0)) ≡ (b && on s (m .after r s))
+      go s hs false run = refl
+      go s hs true run =
           let small : m .after r s < m .states = held .after-below r s hr run in
           let few : m .states ≤ 4096 = held .few-states in
-          rw (held .by-after r s hr run, mod-small (m .after r s) 4096 (omega arith), held .by-holds g (m .after r s) hg small)
-
-      go : (k h : Bool) → m .kept s ≡ k → m .holds (m .guardOf r) s ≡ h
-          → (eqb (bit k) 1 && (eqb (bit h) 1 && (Bool·beq (m .holds g s) a
-          && eqb (getD holds (g * 4096 + getD after (r * 4096 + s) 0 % 4096) 0) (bit b))))
-          ≡ ((k && h) && (Bool·beq (m .holds g s) a && Bool·beq (m .holds g (m .after r s)) b))
-      go false h ek eh = refl
-      go true false ek eh = refl
-      go true true ek eh = rw (last (rw (ek, eh)), bit-eqb (m .holds g (m .after r s)) b)
-
-  moves-are :
-      (r g : ℕ) (a b : Bool) (test : ℕ → ℕ → Bool) → r < m .regions → g < m .guards
-      → ((s : ℕ) → moves-one r g s a b ≡ (runs m r s && test s (m .after r s)))
-      → movesAt kept holds after (m .states) (m .guardOf r) r g (bit a) (bit b) ≡ someMove m r test
-  unfolding movesAt someMove
-  moves-are r g a b test hr hg e =
-      any-same (m .states) _ _ (λ s hs. move-is r g s a b hr hg hs ∙ e s)
+          rw (held .by-after r s hr run, mod-small (m .after r s) 4096 (omega arith)) (e s (m .after r s) hs small)
 
   stands-is :
-      (r g : ℕ) → r < m .regions → g < m .guards → movesAt kept holds after (m .states) (m .guardOf r) r g 0 1 ≡ stands m r g
-  unfolding stands bit moves-one
-  stands-is r g hr hg =
-      moves-are r g false true _ hr hg (λ s. pick (runs m r s) (m .holds g s) (m .holds g (m .after r s)))
-    where
-      pick : (c x y : Bool) → (c && (Bool·beq x false && Bool·beq y true)) ≡ (c && (not x && y))
-      pick false x y = refl
-      pick true true y = refl
-      pick true false true = refl
-      pick true false false = refl
+      (r g : ℕ) → r < m .regions → g < m .guards → someAt kept holds after (m .states) (m .guardOf r) r (rises g) ≡ stands m r g
+  unfolding stands rises
+  stands-is r g hr hg = some-is r _ _ hr (λ s t hs ht. rw (held .by-holds g s hg hs, held .by-holds g t hg ht))
 
-  fails-is :
+  always-is :
       (r g : ℕ) → r < m .regions → g < m .guards
-      → not (movesAt kept holds after (m .states) (m .guardOf r) r g 0 0) ≡ unconditional m r g
-  unfolding unconditional everyMove bit moves-one
-  fails-is r g hr hg =
-      ap not (moves-are r g false false _ hr hg (λ s. pick (runs m r s) (m .holds g s) (m .holds g (m .after r s))))
-    where
-      pick : (c x y : Bool) → (c && (Bool·beq x false && Bool·beq y false)) ≡ (c && not (x || y))
-      pick false x y = refl
-      pick true true y = refl
-      pick true false true = refl
-      pick true false false = refl
-
-  -- where region w has guard g, it runs only where g holds
-  stays-is :
-      (w g : ℕ) → w < m .regions → g < m .guards
-      → staysAt kept holds after guardOf (m .states) g w
-      ≡ (eqb (m .guardOf w) g && someMove m w (λ s s′. m .holds g s′))
-  unfolding staysAt bit moves-one runs
-  stays-is w g hw hg = rw (held .by-guard w hw) (go (eqb (m .guardOf w) g) refl)
-    where
-      pick : (k x y : Bool) → ((k && x) && (Bool·beq x true && Bool·beq y true)) ≡ ((k && x) && y)
-      pick false x y = refl
-      pick true false y = refl
-      pick true true true = refl
-      pick true true false = refl
-
-      go : (b : Bool) → eqb (m .guardOf w) g ≡ b
-          → (b && movesAt kept holds after (m .states) g w g 1 1) ≡ (b && someMove m w (λ s s′. m .holds g s′))
-      go false e = refl
-      go true e =
-          let q : m .guardOf w ≡ g = eqb-true _ _ e in
-          subst
-          (λ (x : ℕ). movesAt kept holds after (m .states) x w x 1 1 ≡ someMove m w (λ s s′. m .holds x s′)) q
-          (moves-are w (m .guardOf w) true true _ hw (held .guard-below w hw)
-          (λ s. pick (m .kept s) (m .holds (m .guardOf w) s) (m .holds (m .guardOf w) (m .after w s))))
+      → not (someAt kept holds after (m .states) (m .guardOf r) r (neither g)) ≡ unconditional m r g
+  unfolding unconditional everyMove neither
+  always-is r g hr hg = ap not (some-is r _ _ hr (λ s t hs ht. rw (held .by-holds g s hg hs, held .by-holds g t hg ht)))
 
   wide-is :
       (g : ℕ) → g < m .guards → wideAt kept holds after guardOf (m .states) (m .regions) g ≡ broadcast m g
-  unfolding wideAt broadcast
-  wide-is g hg = any-same (m .regions) _ _ (λ w hw. stays-is w g hw hg)
+  unfolding wideAt broadcast holdsThen
+  wide-is g hg =
+      any-same (m .regions) _ _ (λ w hw. rw (
+        guard-is w hw,
+        eqb-sym g (m .guardOf w),
+        some-is w (holdsThen g) (λ s t. m .holds g t) hw (λ s t hs ht. held .by-holds g t hg ht),
+      ))
 
   made-is : (r g : ℕ) → made (stands m r g) (unconditional m r g) (broadcast m g) ≡ entryOf m r g
   unfolding made entryOf
@@ -133,22 +85,10 @@ module _ (m : Monitor) (kept holds after guardOf : List ℕ) (held : Held m kept
 
   -- what the code works out is the entry's number
   pub code-is :
-      (states regions : ℕ) → m .states ≡ states → m .regions ≡ regions → (r g : ℕ) → r < m .regions → g < m .guards
-      → filledAt kept holds after guardOf states regions r g ≡ codeOf (entryOf m r g)
+      (r g : ℕ) → r < m .regions → g < m .guards
+      → codeAt kept holds after guardOf states regions r g ≡ codeOf (entryOf m r g)
   unfolding codeAt
-  code-is states regions es er r g hr hg =
-      let few : m .guards ≤ 16 = held .few-guards in
-      let below : m .guardOf r < m .guards = held .guard-below r hr in
-      rw (
-        ← es,
-        ← er,
-        held .by-guard r hr,
-        mod-small (m .guardOf r) 16 (omega arith),
-        stands-is r g hr hg,
-        fails-is r g hr hg,
-        wide-is g hg,
-        made-is r g,
-      )
+  code-is r g hr hg = rw (← es, ← er, guard-is r hr, stands-is r g hr hg, always-is r g hr hg, wide-is g hg, made-is r g)
 
 -- an entry from its number
 decoded : (e : Entry) → entryBy (codeOf e) ≡ e

@@ -1,50 +1,63 @@
 -- What the code works out from the slices alone, and what entries held as numbers spell: the promises of the inner functions.
 -- `proofs/Monitors.antt` ties these to a monitor that the slices hold.
-use Prim.Native.Nat.{ℕ, zero, suc, _+_, _*_, _/_, _%_}
-use mathlib.Core.Bool.{Bool, true, false, not, _&&_}
+use Prim.Native.Nat.{ℕ, zero, suc, _+_, _*_, _/_, _%_, _<_}
+use mathlib.Core.Path.{_≡_}
+use mathlib.Core.Bool.{Bool, true, false, not, _&&_, _||_}
 use mathlib.Core.List.{List, _++_}
 use lib.ListN.{length, getD, take, drop}
 use lib.Dec.{eqb}
+use Rattle.sets.specs.Set.{member}
 use Rattle.machine.specs.Machine.{any}
 use Rattle.machine.specs.Table.{Entry, none, entry}
 use Rattle.meaning.specs.Model.{entryLine, forEach}
 use Rattle.machine.specs.Held.{codeOf}
+use Rattle.placing.specs.declared.Sweep.{Sweep}
 
-module _ (kept holds after : List ℕ) where
-  -- from state s, whose kept condition and guard hold, region r's body takes guard g from one truth to another (0 false, 1 true)
-  unfoldable pub moveAt : (guard r g before then s : ℕ) → Bool
-  moveAt guard r g before then s =
-      eqb (getD kept s 0) 1
-      && (eqb (getD holds (guard * 4096 + s) 0) 1
-      && (eqb (getD holds (g * 4096 + s) 0) before
-      && eqb (getD holds (g * 4096 + getD after (r * 4096 + s) 0 % 4096) 0) then))
+-- a body whose guard is given may run from state s: the kept condition and the guard hold
+unfoldable pub runsAt : (kept holds : List ℕ) (guard s : ℕ) → Bool
+runsAt kept holds guard s = eqb (getD kept s 0) 1 && member (getD holds s 0) guard
 
-  unfoldable pub movesAt : (states guard r g before then : ℕ) → Bool
-  movesAt states guard r g before then = any states (moveAt guard r g before then)
+-- from one of the first n states, region r's body leads to a state such that a test of the two states' sets of guards passes
+unfoldable pub someAt : (kept holds after : List ℕ) (n guard r : ℕ) → (ℕ → ℕ → Bool) → Bool
+someAt kept holds after n guard r test =
+    any n (λ s. runsAt kept holds guard s && test (getD holds s 0) (getD holds (getD after (r * 4096 + s) 0 % 4096) 0))
 
-  -- some region having guard g leaves it true
-  unfoldable pub staysAt : (guardOf : List ℕ) (states g w : ℕ) → Bool
-  staysAt guardOf states g w = eqb (getD guardOf w 0) g && movesAt states g w g 1 1
+-- guard g becomes true; it holds neither before nor after; it holds after
+unfoldable pub rises : ℕ → ℕ → ℕ → Bool
+rises g x y = not (member x g) && member y g
 
-  unfoldable pub wideAt : (guardOf : List ℕ) (states regions g : ℕ) → Bool
-  wideAt guardOf states regions g = any regions (staysAt guardOf states g)
+unfoldable pub neither : ℕ → ℕ → ℕ → Bool
+neither g x y = not (member x g || member y g)
+
+unfoldable pub holdsThen : ℕ → ℕ → ℕ → Bool
+holdsThen g x y = member y g
+
+-- what a sweep of the first n states says
+pub record Swept (kept holds after : List ℕ) (n guard r : ℕ) (w : Sweep) : Type 0 where
+  pub by-raised : (g : ℕ) → member (w .raised) g ≡ someAt kept holds after n guard r (rises g)
+  pub by-covered : (g : ℕ) → g < 16 → member (w .covered) g ≡ not (someAt kept holds after n guard r (neither g))
+  pub by-left : (g : ℕ) → member (w .left) g ≡ someAt kept holds after n guard r (holdsThen g)
 
 -- an entry by whether it stands, is unconditional and is a broadcast
 unfoldable pub made : Bool → Bool → Bool → Entry
 made false a b = none
 made true a b = entry a b
 
-unfoldable pub codeAt : (kept holds after guardOf : List ℕ) (states : ℕ) (wide : Bool) (r g : ℕ) → ℕ
-codeAt kept holds after guardOf states wide r g =
-    codeOf
-    (made (movesAt kept holds after states (getD guardOf r 0 % 16) r g 0 1)
-    (not (movesAt kept holds after states (getD guardOf r 0 % 16) r g 0 0))
-    wide)
+-- that of a region's sweep and the set of guards whose entries are broadcasts, as a number
+unfoldable pub sweptCode : (w : Sweep) (wide g : ℕ) → ℕ
+sweptCode w wide g = codeOf (made (member (w .raised) g) (member (w .covered) g) (member wide g))
 
--- that of a region and a guard, of so many regions
-abbrev pub filledAt : (kept holds after guardOf : List ℕ) (states regions r g : ℕ) → ℕ
-filledAt kept holds after guardOf states regions r g =
-    codeAt kept holds after guardOf states (wideAt kept holds after guardOf states regions g) r g
+module _ (kept holds after guardOf : List ℕ) (states : ℕ) where
+  -- one of the first n regions has guard g and leaves it true
+  unfoldable pub wideAt : (n g : ℕ) → Bool
+  wideAt n g =
+      any n (λ w. eqb g (getD guardOf w 0 % 16) && someAt kept holds after states (getD guardOf w 0 % 16) w (holdsThen g))
+
+  -- the entry of a region and a guard, of so many regions, as a number
+  unfoldable pub codeAt : (regions r g : ℕ) → ℕ
+  codeAt regions r g =
+      let some = someAt kept holds after states (getD guardOf r 0 % 16) r in
+      codeOf (made (some (rises g)) (not (some (neither g))) (wideAt regions g))
 
 -- the entry that a number stands for
 unfoldable pub entryBy : ℕ → Entry

@@ -6,7 +6,7 @@ ghost use Rattle.machine.specs.Machine.{Monitor};
 ghost use Rattle.machine.specs.Held.{Held, codeOf, HeldEntries};
 ghost use Rattle.meaning.specs.Model.{tableOf, hexDigit, entryLine};
 ghost use Rattle.placing.specs.Written.{Writes};
-ghost use Rattle.placing.specs.Slices.{moveAt, movesAt, wideAt, made, codeAt, filledAt, entryBy, lineAt, linesAt, tableAt, over};
+ghost use Rattle.placing.specs.Slices.{Swept, made, sweptCode, codeAt, entryBy, lineAt, linesAt, tableAt, over};
 
 // The table's length, or that the buffer is shorter than the table (10).
 pub enum Placed {
@@ -14,11 +14,11 @@ pub enum Placed {
     Short,
 }
 
-// A number of a slice, to count with.
-fn number(x: u8) -> usize
-    ensures { λ n. ⌜ n ≡ x ⌝ }
+// A guard's number; in slices that hold a monitor the remainder is the number itself.
+fn guard(x: u8) -> u32
+    ensures { λ n. ⌜ n ≡ x % 16 ⌝ }
 {
-    x as usize
+    x as u32 % 16
 }
 
 // A state's number; in slices that hold a monitor the remainder is the number itself.
@@ -28,57 +28,67 @@ fn state(x: u16) -> usize
     x as usize % 4096
 }
 
-// Whether region r's body may run from state s, which wants `guard`, and takes guard g from one truth to another (0 false, 1 true).
-fn moves_from(
-    kept: &[u8; 4096],
-    holds: &[u8; 65536],
-    after: &[u16; 65536],
-    guard: usize,
-    r: usize,
-    g: usize,
-    before: u8,
-    then: u8,
-    s: usize,
-) -> bool
-    requires { ⌜ (guard < 16) × (r < 16) × (g < 16) × (s < 4096) ⌝ }
-    ensures { λ b. ⌜ b ≡ moveAt (now (kept .entry)) (now (holds .entry)) (now (after .entry)) guard r g before then s ⌝ }
-{
-    if kept[s] != 1 {
-        return false;
-    }
-    if holds[guard * 4096 + s] != 1 {
-        return false;
-    }
-    if holds[g * 4096 + s] != before {
-        return false;
-    }
-    let t = state(after[r * 4096 + s]);
-    holds[g * 4096 + t] == then
+// What a region's body does to guards over the states it may run from, as sets: those that it makes true from some state, those that
+// hold before or after it from every state, and those that hold after it from some state.
+struct Sweep {
+    raised: u16,
+    covered: u16,
+    left: u16,
 }
 
-// Whether some state is one from which that holds.
-fn moves(
+// A sweep of the states before s, and s.
+fn visit(
     kept: &[u8; 4096],
-    holds: &[u8; 65536],
+    holds: &[u16; 4096],
+    after: &[u16; 65536],
+    guard: u32,
+    r: usize,
+    s: usize,
+    w: Sweep,
+) -> Sweep
+    requires { ⌜ (guard < 16) × (r < 16) × (s < 4096) × Swept (now kept) (now holds) (now after) s guard r w ⌝ }
+    ensures { λ n. ⌜ Swept (now (kept .entry)) (now (holds .entry)) (now (after .entry)) (s + 1) guard r n ⌝ }
+{
+    if kept[s] != 1 {
+        return w;
+    }
+    let here = holds[s];
+    if !sets::has(here, guard) {
+        return w;
+    }
+    let t = state(after[r * 4096 + s]);
+    let there = holds[t];
+    let either = here | there;
+    Sweep {
+        raised: either ^ here | w.raised,
+        covered: either & w.covered,
+        left: there | w.left,
+    }
+}
+
+// The sweep of all states.
+fn sweep_region(
+    kept: &[u8; 4096],
+    holds: &[u16; 4096],
     after: &[u16; 65536],
     states: usize,
-    guard: usize,
+    guard: u32,
     r: usize,
-    g: usize,
-    before: u8,
-    then: u8,
-) -> bool
-    requires { ⌜ (states ≤ 4096) × (guard < 16) × (r < 16) × (g < 16) ⌝ }
-    ensures { λ b. ⌜ b ≡ movesAt (now (kept .entry)) (now (holds .entry)) (now (after .entry)) states guard r g before then ⌝ }
+) -> Sweep
+    requires { ⌜ (states ≤ 4096) × (guard < 16) × (r < 16) ⌝ }
+    ensures { λ n. ⌜ Swept (now (kept .entry)) (now (holds .entry)) (now (after .entry)) states guard r n ⌝ }
 {
+    let mut w = Sweep {
+        raised: 0,
+        covered: 65535,
+        left: 0,
+    };
     let mut s = 0;
     while s < states {
-        if moves_from(kept, holds, after, guard, r, g, before, then, s) {
-            return true;
-        }
+        w = visit(kept, holds, after, guard, r, s, w);
         s += 1;
     }
-    false
+    w
 }
 
 // An entry as a number: 0 for none, else 1, and 2 more where it is unconditional, and 4 more where it is a broadcast.
@@ -96,79 +106,28 @@ fn code(stands: bool, always: bool, wide: bool) -> u8
     }
 }
 
-// The entry of a region and a guard whose entries are broadcasts or not.
-fn entry(
-    kept: &[u8; 4096],
-    holds: &[u8; 65536],
-    after: &[u16; 65536],
-    guard_of: &[u8; 16],
-    states: usize,
-    wide: bool,
-    r: usize,
-    g: usize,
-) -> u8
-    requires { ⌜ (states ≤ 4096) × (r < 16) × (g < 16) ⌝ }
-    ensures { λ n. ⌜ n ≡ codeAt (now (kept .entry)) (now (holds .entry)) (now (after .entry)) (now («guard_of» .entry)) states wide r g ⌝ }
+// The entries of a region, at region * 16 + guard, by its sweep and the set of guards whose entries are broadcasts.
+fn fill_region(w: Sweep, wide: u16, guards: usize, r: usize, entries: &mut [u8])
+    requires { ⌜ (guards ≤ 16) × (r < 16) × (length (now entries) ≡ 256) ⌝ }
+    ensures { λ _. ⌜ ((g : ℕ) → g < guards → getD (now (entries .exit)) (r * 16 + g) 0 ≡ sweptCode w wide g) ⌝ }
+    ensures { λ _. ⌜ ((k : ℕ) → k < r * 16 → getD (now (entries .exit)) k 0 ≡ getD (now (entries .entry)) k 0) ⌝ }
 {
-    let guard = number(guard_of[r]) % 16;
-    let stands = moves(kept, holds, after, states, guard, r, g, 0, 1);
-    let fails = moves(kept, holds, after, states, guard, r, g, 0, 0);
-    code(stands, !fails, wide)
-}
-
-// Whether a guard's entries are broadcasts: some region that has it leaves it true.
-fn is_broadcast(
-    kept: &[u8; 4096],
-    holds: &[u8; 65536],
-    after: &[u16; 65536],
-    guard_of: &[u8; 16],
-    states: usize,
-    regions: usize,
-    g: usize,
-) -> bool
-    requires { ⌜ (states ≤ 4096) × (regions ≤ 16) × (g < 16) ⌝ }
-    ensures { λ b. ⌜ b ≡ wideAt (now (kept .entry)) (now (holds .entry)) (now (after .entry)) (now («guard_of» .entry)) states regions g ⌝ }
-{
-    let mut r = 0;
-    while r < regions {
-        if number(guard_of[r]) == g {
-            if moves(kept, holds, after, states, g, r, g, 1, 1) {
-                return true;
-            }
-        }
-        r += 1;
-    }
-    false
-}
-
-// The entries of all regions for one guard, at region * 16 + guard.
-fn fill_guard(
-    kept: &[u8; 4096],
-    holds: &[u8; 65536],
-    after: &[u16; 65536],
-    guard_of: &[u8; 16],
-    states: usize,
-    regions: usize,
-    g: usize,
-    entries: &mut [u8],
-)
-    requires { ⌜ (states ≤ 4096) × (regions ≤ 16) × (g < 16) × (length (now entries) ≡ 256) ⌝ }
-    ensures { λ _. ⌜ ((r : ℕ) → r < regions → getD (now (entries .exit)) (r * 16 + g) 0
-        ≡ filledAt (now (kept .entry)) (now (holds .entry)) (now (after .entry)) (now («guard_of» .entry)) states regions r g) ⌝ }
-    ensures { λ _. ⌜ ((r k : ℕ) → k < g → getD (now (entries .exit)) (r * 16 + k) 0 ≡ getD (now (entries .entry)) (r * 16 + k) 0) ⌝ }
-{
-    let wide = is_broadcast(kept, holds, after, guard_of, states, regions, g);
-    let mut r = 0;
-    while r < regions {
-        entries[r * 16 + g] = entry(kept, holds, after, guard_of, states, wide, r, g);
-        r += 1;
+    let mut g = 0;
+    while g < guards {
+        let t = g as u32;
+        entries[r * 16 + g] = code(
+            sets::has(w.raised, t),
+            sets::has(w.covered, t),
+            sets::has(wide, t),
+        );
+        g += 1;
     }
 }
 
-// The entries of all regions and guards.
-fn fill_guards(
+// The entries of all regions. A guard's are broadcasts where some region that has it leaves it true.
+fn fill_regions(
     kept: &[u8; 4096],
-    holds: &[u8; 65536],
+    holds: &[u16; 4096],
     after: &[u16; 65536],
     guard_of: &[u8; 16],
     states: usize,
@@ -177,20 +136,35 @@ fn fill_guards(
     entries: &mut [u8],
 )
     requires { ⌜ (states ≤ 4096) × (regions ≤ 16) × (guards ≤ 16) × (length (now entries) ≡ 256) ⌝ }
-    ensures { λ _. ⌜ ((g : ℕ) → g < guards → (r : ℕ) → r < regions → getD (now (entries .exit)) (r * 16 + g) 0
-        ≡ filledAt (now (kept .entry)) (now (holds .entry)) (now (after .entry)) (now («guard_of» .entry)) states regions r g) ⌝ }
+    ensures { λ _. ⌜ ((r : ℕ) → r < regions → (g : ℕ) → g < guards → getD (now (entries .exit)) (r * 16 + g) 0
+        ≡ codeAt (now (kept .entry)) (now (holds .entry)) (now (after .entry)) (now («guard_of» .entry)) states regions r g) ⌝ }
 {
-    let mut g = 0;
-    while g < guards {
-        fill_guard(kept, holds, after, guard_of, states, regions, g, entries);
-        g += 1;
+    let mut sweeps = [Sweep {
+        raised: 0,
+        covered: 0,
+        left: 0,
+    }; 16];
+    let mut wide = 0;
+    let mut r = 0;
+    while r < regions {
+        let own = guard(guard_of[r]);
+        let w = sweep_region(kept, holds, after, states, own, r);
+        sweeps[r] = w;
+        wide = 1 << own & w.left | wide;
+        r += 1;
+    }
+    r = 0;
+    while r < regions {
+        let w = sweeps[r];
+        fill_region(w, wide, guards, r, entries);
+        r += 1;
     }
 }
 
 // The entries of all regions and guards of a monitor that the slices hold, at region * 16 + guard.
 pub fn fill_entries(
     kept: &[u8; 4096],
-    holds: &[u8; 65536],
+    holds: &[u16; 4096],
     after: &[u16; 65536],
     guard_of: &[u8; 16],
     states: usize,
@@ -211,7 +185,7 @@ pub fn fill_entries(
     if guards > 16 {
         return;
     }
-    fill_guards(
+    fill_regions(
         kept,
         holds,
         after,

@@ -1,11 +1,10 @@
--- From the code's record of a run to the meaning's, how a run of a list can end, and the start of a run by its tests.
+-- From the code's record of a run to the meaning's, and from the tests at its start and the end of the code's run to what it gives.
 use Prim.Native.Nat.{ℕ, zero, suc, _+_, _/_, _%_, _^_, _<_, _≤_}
 use native.Mathlib.Omega.{arith}
 use native.Mathlib.Nat.{pow-suc}
 use mathlib.Core.Path.{_≡_, refl, sym, ap, _∙_, subst}
 use mathlib.Core.Bool.{Bool, true, false}
-use mathlib.Core.List.{List, [], _∷_, map}
-use mathlib.Core.Logic.{Iff·rfl}
+use mathlib.Core.List.{List, _∷_, map}
 use lib.ListN.{length, getD, length-map, List·getD-map}
 use lib.Seq.{ext-getD}
 use lib.Arith.{lt-one}
@@ -15,14 +14,11 @@ use borrow.Author.Tests.{eqb-true, eqb-false}
 use Rattle.sets.specs.Set.{member, size}
 use Rattle.sets.specs.SetLaws.{member-zero, member-suc, size-ones}
 use Rattle.syntax.specs.Tree.{Monitor}
-use Rattle.machine.specs.Machine.{Config, Outcome, moved, refused, Told, Run, accepted, stopped, allIdle, step, run, threads}
+use Rattle.machine.specs.Machine.{Config, Told, Run, accepted, stopped, allIdle, run, threads}
 use Rattle.machine.specs.Machine as machine
 use Rattle.machine.specs.Points.{Checked}
-use Rattle.machine.specs.Held.{Held, HeldPlaces, bit}
-use Rattle.machine.specs.Table.{runs}
-use Rattle.machine.specs.Sets.{both-iff}
+use Rattle.machine.specs.Held.{Held, bit}
 use Rattle.meaning.specs.Bools.{split}
-use Rattle.meaning.specs.Same.{different}
 use Rattle.meaning.specs.Check.{answer}
 use Rattle.meaning.specs.Biased.{Biased}
 use Rattle.meaning.specs.State.{stateAt}
@@ -33,20 +29,15 @@ use Rattle.meaning.specs.ModelLaws.{kept-below}
 use Rattle.meaning.specs.Calls.{Machine, eachThread, bits, ones, toldBy, not-run, recordOf, runningOf, runList, runFrames, runFrom}
 use Rattle.stepper.specs.declared.Thread.{Thread}
 use Rattle.stepper.specs.declared.Run as code
-use Rattle.stepper.specs.Shown.{Shows, Within, placeOf, idleThread, toldOn}
-use Rattle.stepper.specs.Parts.{verdictOf, nextOf, outcome, step-parts}
-use Rattle.stepper.specs.StepLaws.{start-within, step-within, step-kept}
+use Rattle.stepper.specs.Shown.{Shows, placeOf, idleThread, toldOn}
+use Rattle.meaning.specs.Demands.{run-reached, run-stops}
+use Rattle.meaning.specs.Widths.{each-length}
 use Rattle.runs.specs.Ended.{EndsAs}
 use Rattle.runs.specs.declared.Ended.{Ended}
 use Rattle.running.specs.Results.{Runs, Records, machineOf}
 use Rattle.running.specs.declared.Running.{Running}
 
 -- ---- the record of a point
-
-each-length : {A : Type 0} (n t : ℕ) (f : ℕ → A) → length (eachThread n t f) ≡ n
-unfolding eachThread
-each-length zero t f = refl
-each-length (suc n) t f = ap suc (each-length n (t + 1) f)
 
 each-at : {A : Type 0} (n t : ℕ) (f : ℕ → A) (d : A) (u : ℕ) → u < n → getD (eachThread n t f) u d ≡ f (t + u)
 unfolding eachThread
@@ -108,37 +99,6 @@ recorded m c end vs vars-held many s l small counted values sized =
       how-many = sized ∙ size-ones 16 (end .notified) small ∙ set .1;
     }
 
--- ---- the end of a run of a list: kept, or a refusal other than 0
-
-unfoldable Good : machine.Monitor → Run → Type 0
-Good m (accepted c) = m .kept (c .state) ≡ true
-Good m (stopped a k) = a ≡ 0 → ⊥
-
-module _ (m : machine.Monitor) (told : Told) (bs os : List ℕ) (places : HeldPlaces m bs os) (ok : Checked m) where
-  bodies : (r s : ℕ) → r < m .regions → runs m r s ≡ true → m .kept (m .after r s) ≡ true
-  unfolding runs
-  bodies r s l h =
-      let b = both-iff (m .kept s) (m .holds (m .guardOf r) s) Iff·rfl Iff·rfl .0 h in
-      ok .keeps r s (b .0) (b .1)
-
-  refused-not-0 : (c : Config) (f : machine.Frame) (a : ℕ) → step m told c f ≡ refused a → a ≡ 0 → ⊥
-  unfolding outcome
-  refused-not-0 c f a e z = go (verdictOf m c f) (sym (step-parts m told c f) ∙ e)
-    where
-      go : (n : ℕ) → outcome n (nextOf m told c f) ≡ refused a → ⊥
-      go zero q = different (cc)
-      go (suc n) q = let s : suc n ≡ a = cc in omega arith
-
-  run-good : (k : ℕ) (c : Config) (fs : List machine.Frame) → Within m c → m .kept (c .state) ≡ true → Good m (run m told k c fs)
-  unfolding Good run
-  run-good k c [] w h = h
-  run-good k c (f ∷ fs) w h = go (λ d. run-good (suc k) d fs) (step m told c f) refl
-    where
-      go : ((d : Config) → Within m d → m .kept (d .state) ≡ true → Good m (run m told (suc k) d fs))
-          → (o : Outcome) → step m told c f ≡ o → Good m (elim o [ moved d ↦ run m told (suc k) d fs | refused a ↦ stopped a k ])
-      go rest (moved d) e = rest d (step-within m told bs os c d f places w e) (step-kept m told c d f bodies w h e)
-      go rest (refused a) e = refused-not-0 c f a e
-
 -- ---- the start of a run
 
 told-same : (m : machine.Monitor) (table : Bool) → toldBy m (machineOf table) ≡ toldOn m table
@@ -190,19 +150,17 @@ module _ (m : Monitor) (table : Bool) (s : ℕ) (bytes : List ℕ) (r : Running)
     abbrev pub end : Run
     end = run (model m) (toldOn (model m) table) 0 (allIdle s) fs
 
+    list-ends : runList m (machineOf table) s fs ≡ end
+    unfolding runList
+    list-ends = ap (λ (t : Told). run (model m) t 0 (allIdle s) fs) (told-same (model m) table)
+
     by-end : Runs (runningOf m end) r → Ran
-    unfolding runFrames runList
+    unfolding runFrames
     by-end h =
-        let told : runList m (machineOf table) s fs ≡ end =
-        ap (λ (t : Told). run (model m) t 0 (allIdle s) fs) (told-same (model m) table) in
         subst (λ x. Runs x r)
-        (sym (from-kept m (machineOf table) s bytes k ∙ ap (runFrames m (machineOf table) s) read ∙ ap (runningOf m) told)) h
+        (sym (from-kept m (machineOf table) s bytes k ∙ ap (runFrames m (machineOf table) s) read ∙ ap (runningOf m) list-ends)) h
 
-    module _ (bs os : List ℕ) (places : HeldPlaces (model m) bs os) (ok : Checked (model m)) (e : Ended) (ends : EndsAs e end) where
-      good : Good (model m) end
-      unfolding model allIdle
-      good = run-good (model m) (toldOn (model m) table) bs os places ok 0 (allIdle s) fs (start-within (model m) s) k
-
+    module _ (e : Ended) (ends : EndsAs e end) where
       -- a refusal
       pub ran-refused : (e .number ≡ 0 → ⊥) → Runs (not-run (answer (e .number) (e .frame) 0)) r → Ran
       unfolding EndsAs runningOf
@@ -214,11 +172,14 @@ module _ (m : Monitor) (table : Bool) (s : ℕ) (bytes : List ℕ) (r : Running)
               (subst (λ (i : ℕ). Runs (not-run (answer (e .number) i 0)) r) (p .1) h)
 
       -- an end
-      pub ran-accepted : e .number ≡ 0
+      pub ran-accepted : Checked (model m) → e .number ≡ 0
           → ((c : Config) → Shows (e .run) c → c .state < state.count (vars m) → Runs (runningOf m (accepted c)) r) → Ran
-      unfolding EndsAs Good model
-      ran-accepted zero-number h = by-end (go end ends good)
+      unfolding EndsAs model
+      ran-accepted ok zero-number h = by-end (go end refl ends)
         where
-          go : (x : Run) → EndsAs e x → Good (model m) x → Runs (runningOf m x) r
-          go (accepted c) p g = h c (p .1) (kept-below m (c .state) g)
-          go (stopped a j) p g = absurd (g (sym (p .0) ∙ zero-number))
+          go : (x : Run) → end ≡ x → EndsAs e x → Runs (runningOf m x) r
+          go (accepted c) q p = h c (p .1) (kept-below m (c .state) (run-reached m ok s k fs (machineOf table) c (list-ends ∙ q) .is-kept))
+          go (stopped a j) q p =
+              let w = run-stops m (machineOf table) s fs a j (list-ends ∙ q) in
+              let same = p .0 in
+              absurd (omega arith)

@@ -8,8 +8,7 @@ use trace::Counted;
 use variables::Bounds;
 ghost use mathlib.Core.Path.{_≡_};
 ghost use mathlib.Core.Bool.{true};
-ghost use mathlib.Core.List.{List};
-ghost use Prim.Native.Nat.{ℕ, _<_};
+ghost use Prim.Native.Nat.{_<_};
 ghost use lib.ListN.{length};
 ghost use Rattle.syntax.specs.Tree.{Monitor};
 ghost use Rattle.machine.specs.Machine.{Config};
@@ -61,6 +60,13 @@ fn not_run(number: u8, first: usize, second: usize) -> Running
     }
 }
 
+// 11: a start that is no kept state.
+fn no_start() -> Running
+    ensures { λ r. ⌜ Runs (calls.not-run (answer 11 0 0)) r ⌝ }
+{
+    not_run(11, 0, 0)
+}
+
 // The record of a run's end.
 fn record_of(bounds: Bounds, run: Run) -> Record
     ensures { λ r. ⌜ ((m : Monitor) (c : Config) → Bounded (vars m) bounds → Shows run c → c .state < count (vars m)
@@ -85,7 +91,7 @@ pub fn run_from(
     start: usize,
     table: bool,
     kept: &[u8; 4096],
-    holds: &[u8; 65536],
+    holds: &[u16; 4096],
     after: &[u16; 65536],
     entries: &[u8; 256],
 ) -> Running
@@ -96,10 +102,10 @@ pub fn run_from(
         → Checked (model m) → Runs (calls.runFrom m (machineOf table) start (now (bytes .entry))) r) ⌝ }
 {
     if bounds.states <= start || 4096 <= start {
-        return not_run(11, 0, 0);
+        return no_start();
     }
     if kept[start] != 1 {
-        return not_run(11, 0, 0);
+        return no_start();
     }
     if let Counted::BadAt(k) = trace::count(bytes) {
         return not_run(12, k, 0);

@@ -1,27 +1,23 @@
 -- A run of a list, frame by frame: what one frame does to what is left of the run, and what the code's record shows on the way.
-use Prim.Native.Nat.{ℕ, zero, suc, _+_, _*_, _<_, _≤_}
+use Prim.Native.Nat.{ℕ, suc, _+_, _*_, _<_, _≤_}
 use native.Mathlib.Omega.{arith}
 use native.Mathlib.Numerals.{add-one}
 use mathlib.Core.Path.{_≡_, refl, sym, ap, _∙_, subst}
 use mathlib.Core.Bool.{Bool, true, false}
 use mathlib.Core.List.{List, [], _∷_}
-use mathlib.Core.Logic.{Iff·rfl}
 use lib.ListN.{length, drop, getD}
 use lib.Seq.{drop-cons, drop-length}
-use Rattle.machine.specs.Machine.{Monitor, Config, Outcome, moved, refused, Told, stopped, allIdle, step, run}
+use Rattle.machine.specs.Machine.{Monitor, Config, Outcome, moved, refused, allIdle, step, run}
 use Rattle.machine.specs.Machine as machine
 use Rattle.machine.specs.Points.{Checked}
 use Rattle.machine.specs.Held.{Held, HeldPlaces, HeldEntries}
-use Rattle.machine.specs.Table.{runs}
-use Rattle.machine.specs.Sets.{both-iff}
+use Rattle.machine.specs.RulesDecided.{run-on, run-stop, refused-number, told-decides}
+use Rattle.machine.specs.Reached.{Reached, start-reached, step-reached}
 use Rattle.meaning.specs.Trace.{framesOf, frames}
-use Rattle.meaning.specs.Same.{different}
 use Rattle.stepper.specs.declared.Run as code
 use Rattle.stepper.specs.declared.Frame.{Frame}
 use Rattle.stepper.specs.declared.Outcome as coded
-use Rattle.stepper.specs.Shown.{Shows, Within, Steps, stepBy, toldOn, frameOf}
-use Rattle.stepper.specs.Parts.{verdictOf, nextOf, outcome, step-parts}
-use Rattle.stepper.specs.StepLaws.{start-within, step-within, step-kept}
+use Rattle.stepper.specs.Shown.{Shows, Steps, stepBy, toldOn, frameOf}
 use Rattle.trace.specs.Decoded.{numbersAt}
 use Rattle.trace.specs.FrameLaws.{frame-at, frames-end}
 use Rattle.trace.specs.declared.Numbers.{Numbers}
@@ -58,42 +54,14 @@ pub record Point (m : Monitor) (table : Bool) (state : ℕ) (fs : List machine.F
   pub rest : run m (toldOn m table) 0 (allIdle state) fs ≡ run m (toldOn m table) k point (drop k fs)
   pub below : k ≤ length fs
   pub shows : Shows r point
-  pub within : Within m point
-  pub keeps : m .kept (point .state) ≡ true
-
--- ---- the machine's run at its first frame
-
-module _ (m : Monitor) (told : Told) (k : ℕ) (c : Config) (f : machine.Frame) (fs : List machine.Frame) where
-  run-moved : (d : Config) → step m told c f ≡ moved d → run m told k c (f ∷ fs) ≡ run m told (suc k) d fs
-  unfolding run
-  run-moved d e = rw (run, e)
-
-  run-refused : (a : ℕ) → step m told c f ≡ refused a → run m told k c (f ∷ fs) ≡ stopped a k
-  unfolding run
-  run-refused a e = rw (run, e)
-
--- a refusal has a number other than 0
-refused-not-0 : (m : Monitor) (told : Told) (c : Config) (f : machine.Frame) (a : ℕ) → step m told c f ≡ refused a → a ≡ 0 → ⊥
-unfolding outcome
-refused-not-0 m told c f a e z = go (verdictOf m c f) (sym (step-parts m told c f) ∙ e)
-  where
-    go : (n : ℕ) → outcome n (nextOf m told c f) ≡ refused a → ⊥
-    go zero q = different (cc)
-    go (suc n) q = let s : suc n ≡ a = cc in omega arith
+  pub reached : Reached m point
 
 -- ---- the code's record on the way
 
 pub point-start : (m : Monitor) (table : Bool) (state : ℕ) (fs : List machine.Frame) (r : code.Run)
     → Shows r (allIdle state) → m .kept state ≡ true → Point m table state fs r 0
-unfolding allIdle
-point-start m table state fs r shows k = record {
-  point = allIdle state;
-  rest = refl;
-  below = omega arith;
-  shows = shows;
-  within = start-within m state;
-  keeps = k;
-}
+point-start m table state fs r shows k =
+    record { point = allIdle state; rest = refl; below = omega arith; shows = shows; reached = start-reached m state k }
 
 -- before the end of the bytes there is a frame: its line, and the list from it on
 pub record Here (bytes : List ℕ) (fs : List machine.Frame) (k : ℕ) : Type 0 where
@@ -136,13 +104,6 @@ stepped m table state bytes fs before k at o p e s h f n l i steps =
     let y = x .thread in
     record { from = p; frame = f; rest = rw (t, r, b) (x .rest); more = x .more; steps = steps (omega arith) }
 
--- the bodies keep the kept condition
-bodies : (m : Monitor) → Checked m → (r s : ℕ) → r < m .regions → runs m r s ≡ true → m .kept (m .after r s) ≡ true
-unfolding runs
-bodies m ok r s l h =
-    let b = both-iff (m .kept s) (m .holds (m .guardOf r) s) Iff·rfl Iff·rfl .0 h in
-    ok .keeps r s (b .0) (b .1)
-
 module _ (m : Monitor) (table : Bool) (state : ℕ) (fs : List machine.Frame) (before : code.Run) (k : ℕ) (o : coded.Outcome)
     (x : Stepped m table state fs before k o) where
   abbrev now : Config
@@ -165,24 +126,23 @@ module _ (m : Monitor) (table : Bool) (state : ℕ) (fs : List machine.Frame) (b
       go (moved d) q s = absurd (other (s .0))
       go (refused a) q s =
           subst (EndsAs e)
-          (sym (here ∙ run-refused m (toldOn m table) k now next (drop (suc k) fs) a q))
+          (sym (here ∙ run-stop m (toldOn m table) k now next (drop (suc k) fs) a q))
           (number ∙ s .0, frame)
 
   -- a frame that is taken leads to the next point
-  pub point-next : (bs os : List ℕ) → HeldPlaces m bs os → Checked m → o .number ≡ 0 → Point m table state fs (o .run) (k + 1)
+  pub point-next : Checked m → o .number ≡ 0 → Point m table state fs (o .run) (k + 1)
   unfolding stepBy Steps
-  point-next bs os places ok taken = go (step m (toldOn m table) now next) refl (x .steps)
+  point-next ok taken = go (step m (toldOn m table) now next) refl (x .steps)
     where
       go : (y : Outcome) → step m (toldOn m table) now next ≡ y → Steps before o y → Point m table state fs (o .run) (k + 1)
       go (moved d) q s = rw add-one (record {
         point = d;
-        rest = here ∙ run-moved m (toldOn m table) k now next (drop (suc k) fs) d q;
+        rest = here ∙ run-on m (toldOn m table) k now d next (drop (suc k) fs) q;
         below = let l = x .more in omega arith;
         shows = s .1;
-        within = step-within m (toldOn m table) bs os now d next places (x .from .within) q;
-        keeps = step-kept m (toldOn m table) now d next (bodies m ok) (x .from .within) (x .from .keeps) q;
+        reached = step-reached m ok (toldOn m table) now d next q (x .from .reached);
       })
-      go (refused a) q s = absurd (refused-not-0 m (toldOn m table) now next a q (sym (s .0) ∙ taken))
+      go (refused a) q s = let n = refused-number (told-decides m (toldOn m table)) now next a q in absurd (omega (arith, s .0))
 
 -- past the last frame the run is accepted
 pub ends-accepted : (m : Monitor) (table : Bool) (state : ℕ) (bytes : List ℕ) (fs : List machine.Frame) (r : code.Run) (k : ℕ)

@@ -1,5 +1,4 @@
 -- What the end of the code's run says of the machine's run of the list.
-use Prim.Native.Nat.{ℕ}
 use mathlib.Core.Path.{_≡_}
 use Rattle.machine.specs.Machine.{Run, accepted, stopped}
 use Rattle.stepper.specs.Shown.{Shows}

@@ -28,7 +28,7 @@ pub fn run_trace(
     bytes: &[u8],
     state: u16,
     table: bool,
-    holds: &[u8; 65536],
+    holds: &[u16; 4096],
     after: &[u16; 65536],
     guard_of: &[u8; 16],
     begins: &[u8; 16],

@@ -1,6 +1,6 @@
--- Laws of sets held as numbers: the members of a meet, a join, a difference, a single bit; how many; the lowest; and that a set below
+-- Laws of sets held as numbers: the members of a meet, a join, a difference, a single bit, all bits; how many; the lowest; and that a set below
 -- 2 ^ 16 is known by its members. By the digits of a number, lowest first.
-use Prim.Native.Nat.{ℕ, zero, suc, _+_, _*_, _/_, _%_, _^_, _≤_, _<_, min, max}
+use Prim.Native.Nat.{ℕ, zero, suc, _+_, _-_, _*_, _/_, _%_, _^_, _≤_, _<_, min, max}
 use mathlib.Core.Path.{_≡_, refl, sym, ap, ap₂, _∙_}
 use mathlib.Core.Bool.{Bool, true, false, not, _&&_, _||_, xor, or-comm, and-true, false≢true}
 use native.Mathlib.Nat.{zero-add, one-mul, mod-one, mod-lt, div-one, div-eq-of-lt, zero-div, pow-suc, mul-div-cancel, mul-mod-left, mod-eq-of-lt, lt-of-lt-of-le, zero-lt-suc}
@@ -12,8 +12,15 @@ use lib.Arith.{digits-mod, lt-one}
 use lib.Pow.{shl-exact, pow-pos, pow-mono, shr-shr, mod-pow-add}
 use lib.Bits.{bitAnd, bitOr, bitXor, differ, and-shr, or-shr, xor-shr, and-step, or-step, xor-step}
 use lib.Count.{ones, ones-cat, trailingZeros, under}
-use borrow.Author.Tests.{eqb-true, eq-eqb, lt-ltb}
+use borrow.Author.Tests.{eqb-true, eqb-false, eq-eqb, ne-eqb, lt-ltb}
 use Rattle.sets.specs.Set.{member, size}
+
+pub eqb-sym : (a b : ℕ) → eqb a b ≡ eqb b a
+eqb-sym a b = go (eqb b a) refl
+  where
+    go : (t : Bool) → eqb b a ≡ t → eqb a b ≡ t
+    go true e = eq-eqb a b (sym (eqb-true b a e))
+    go false e = ne-eqb a b (λ q. eqb-false b a e (sym q))
 
 -- ---- one digit
 
@@ -91,6 +98,19 @@ member-one (suc t) (suc u) =
     member-suc (2 ^ suc t) u
     ∙ ap (λ (n : ℕ). member n u) (ap (λ (n : ℕ). n / 2) (pow-suc 2 t) ∙ mul-div-cancel (2 ^ t) (zero-lt-suc 1))
     ∙ member-one t u ∙ sym (eqb·suc-suc u t)
+
+-- all below k
+pub member-full : (k u : ℕ) → u < k → member (2 ^ k - 1) u ≡ true
+member-full zero u h = absurd (omega arith)
+member-full (suc k) zero h =
+    let p : 0 < 2 ^ k = pow-pos k in
+    let e : 2 ^ suc k ≡ 2 ^ k * 2 = pow-suc 2 k in
+    member-zero (2 ^ suc k - 1) ∙ eq-eqb ((2 ^ suc k - 1) % 2) 1 (omega arith)
+member-full (suc k) (suc u) h =
+    let p : 0 < 2 ^ k = pow-pos k in
+    let e : 2 ^ suc k ≡ 2 ^ k * 2 = pow-suc 2 k in
+    let half : (2 ^ suc k - 1) / 2 ≡ 2 ^ k - 1 = omega arith in
+    member-suc (2 ^ suc k - 1) u ∙ rw half (member-full k u (omega arith))
 
 -- ---- a set is known by its members
 

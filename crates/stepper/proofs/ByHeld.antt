@@ -9,14 +9,17 @@ use native.Mathlib.Omega.{arith}
 use lib.Dec.{eqb, ltb}
 use lib.ListN.{getD}
 use borrow.Author.Tests.{le-ltb}
+use Rattle.sets.specs.Set.{member}
 use Rattle.machine.specs.Machine.{Place, idle, waiting, due, Monitor, Config, Frame, Outcome, threads, put, leave, beginWait, without, isDue, isWaiting, mayBeAt, may, firstNotified, ran, waited, rechecked, step}
 use Rattle.machine.specs.Table.{Entry, none, entry, runs, entryOf}
 use Rattle.machine.specs.Held.{bit, followsBy, codeOf, Held, HeldPlaces, HeldEntries}
 use Rattle.stepper.specs.declared.Run.{Run}
-use Rattle.stepper.specs.Shown.{Shows, Within, Steps, toldOn}
+use Rattle.stepper.specs.Shown.{Shows, Steps, toldOn}
 use Rattle.stepper.specs.Slices.{guardAt, holdsAt, afterAt, beginsAt, followsAt, entryBy, entryAt, slices, truths, toldAt, placesOf, configOf}
 use Rattle.stepper.specs.Parts.{verdictOf, nextBy, nextOf, outcome, step-parts}
-use Rattle.stepper.specs.StepLaws.{PlaceWithin, places-within, put-within, follows-within, taken-there, taken-runs, there-below}
+use Rattle.stepper.proofs.Taken as taken-frame
+use Rattle.stepper.proofs.Taken.{taken-there, taken-runs, there-below}
+use Rattle.machine.specs.Reached.{PlaceWithin, Reached}
 use Rattle.stepper.proofs.Laws.{any-same}
 use Rattle.stepper.proofs.Judged.{same-verdict, absent}
 use Rattle.stepper.proofs.Agree.{first-same, plain-same, table-same}
@@ -79,10 +82,8 @@ module _ (m : Monitor) (kept hs as′ gs : List ℕ) (held : Held m kept hs as�
   pub holds-held : (g s : ℕ) → g < m .guards → s < m .states → holdsAt hs g s ≡ m .holds g s
   unfolding holdsAt
   holds-held g s h l =
-      let small : g % 16 ≡ g = mod-eq-of-lt (omega (arith, held .few-guards)) in
       let low : s % 4096 ≡ s = mod-eq-of-lt (omega (arith, held .few-states)) in
-      ap₂ (λ (x y : ℕ). eqb (getD hs (x * 4096 + y) 0) 1) small low
-      ∙ ap (λ (n : ℕ). eqb n 1) (held .by-holds g s h l) ∙ bit-test (m .holds g s)
+      ap (λ (n : ℕ). member (getD hs n 0) g) low ∙ held .by-holds g s h l
 
   pub after-held : (r s : ℕ) → r < m .regions → s < m .states → runs m r s ≡ true → afterAt as′ r s ≡ m .after r s
   unfolding afterAt
@@ -123,10 +124,9 @@ module _ (m : Monitor) (kept hs as′ gs : List ℕ) (held : Held m kept hs as�
     at-same n e (due w) r = refl
 
     -- ---- a whole frame
-    module _ (c : Config) (f : Frame) (run : Run) (thread : f .thread < 16) (within : Within m c)
-        (keeps : m .kept (c .state) ≡ true) (shows : Shows run c) where
+    module _ (c : Config) (f : Frame) (run : Run) (thread : f .thread < 16) (reached : Reached m c) (shows : Shows run c) where
       state-below : c .state < m .states
-      state-below = held .kept-below (c .state) keeps
+      state-below = held .kept-below (c .state) (reached .is-kept)
 
       place-same : (u : ℕ) → u < 16 → configOf run .place u ≡ c .place u
       unfolding configOf placesOf
@@ -141,7 +141,8 @@ module _ (m : Monitor) (kept hs as′ gs : List ℕ) (held : Held m kept hs as�
       state-same = shows .state
 
       waiter-below : (u w : ℕ) → c .place u ≡ waiting w → w < m .regions
-      waiter-below u w e = within .waits-within u w e
+      unfolding PlaceWithin
+      waiter-below u w e = reached .within u .0 w e
 
       module _ (n : ℕ) (e : m .regions ≡ n) where
         abbrev read : Monitor
@@ -172,7 +173,7 @@ module _ (m : Monitor) (kept hs as′ gs : List ℕ) (held : Held m kept hs as�
         verdict-held = go (may m (c .place) f) refl
           where
             go : (b : Bool) → may m (c .place) f ≡ b → verdictOf read (configOf run) f ≡ verdictOf m c f
-            go true q = taken-alike (there-below m c f within q)
+            go true q = taken-alike (there-below m c f reached q)
             go false q = absent read (configOf run) f (there-same ∙ q) ∙ sym (absent m c f q)
 
       module _ (es : List ℕ) (table : Bool) (entries : table ≡ true → HeldEntries m es) (taken : verdictOf m c f ≡ 0) where
@@ -180,7 +181,7 @@ module _ (m : Monitor) (kept hs as′ gs : List ℕ) (held : Held m kept hs as�
         moves = slices hs as′ gs [] os 0
 
         below : f .region < m .regions
-        below = there-below m c f within (taken-there m c f taken)
+        below = there-below m c f reached (taken-there m c f taken)
 
         -- the places after a body
         abbrev left-of : ℕ → Place
@@ -193,14 +194,11 @@ module _ (m : Monitor) (kept hs as′ gs : List ℕ) (held : Held m kept hs as�
         left-same u h = put-same (configOf run .place) (c .place) (f .thread) (followsAt os (f .region)) (m .follows (f .region)) u (place-same u h) (follows-held (f .region) below)
 
         left-below : (u w : ℕ) → left-of u ≡ waiting w → w < m .regions
-        unfolding PlaceWithin
-        left-below u w q =
-            put-within m (c .place) (f .thread) (m .follows (f .region)) (places-within m c within)
-            (follows-within m bs os (f .region) places below) u .0 w q
+        left-below = taken-frame.left-below m c f reached bs os places below
 
         module _ (flag : f .flag ≡ true) where
           runs-now : runs m (f .region) (c .state) ≡ true
-          runs-now = taken-runs m c f taken keeps flag
+          runs-now = taken-runs m c f taken (reached .is-kept) flag
 
           abbrev to : ℕ
           to = m .after (f .region) (c .state)

@@ -11,7 +11,7 @@ use lib.ListN.{length, getD, set}
 use lib.Seq.{getD-set-same, getD-set-other}
 use borrow.Author.Tests.{lt-ltb, le-ltb, eq-eqb, ne-eqb, eqb-true, eqb-false}
 use Rattle.sets.specs.Set.{member}
-use Rattle.sets.specs.SetLaws.{member-none}
+use Rattle.sets.specs.SetLaws.{member-none, eqb-sym}
 use Rattle.machine.specs.Machine.{any, put, onGuard, waitsOn, next, threads}
 use Rattle.machine.specs.Machine as machine
 use Rattle.machine.specs.Table.{acts as actsOf, entryTold, tableTold}
@@ -145,13 +145,6 @@ follows-due r zero n = absurd (n refl)
 follows-due r (suc k) n = refl
 
 -- ---- the first waiter on a guard is the first that is met
-
-eqb-sym : (a b : ℕ) → eqb a b ≡ eqb b a
-eqb-sym a b = go (eqb b a) refl
-  where
-    go : (t : Bool) → eqb b a ≡ t → eqb a b ≡ t
-    go true e = eq-eqb a b (sym (eqb-true b a e))
-    go false e = ne-eqb a b (λ q. eqb-false b a e (sym q))
 
 pub guard-one : (gs : List ℕ) (w n g : ℕ) → n ≡ guardAt gs w → eqb g n && ltb n 16 ≡ eqb (guardAt gs w) g
 unfolding guardAt

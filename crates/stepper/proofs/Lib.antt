@@ -2,4 +2,5 @@
 pub mod Laws
 pub mod Judged
 pub mod Agree
+pub mod Taken
 pub mod ByHeld

@@ -1,4 +1,3 @@
 pub mod Shown
 pub mod Slices
 pub mod Parts
-pub mod StepLaws

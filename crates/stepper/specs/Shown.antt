@@ -28,11 +28,6 @@ pub record Shows (r : Run) (c : Config) : Type 0 where
   pub places : (t : ℕ) → t < 16 → placeOf (getD (r .threads) t idleThread .place) ≡ c .place t
   pub notices : (t : ℕ) → t < 16 → member (r .notified) t ≡ c .notified t
 
--- a waiting or due thread of a run is at a region of the file
-pub record Within (m : Monitor) (c : Config) : Type 0 where
-  pub waits-within : (t w : ℕ) → c .place t ≡ machine.waiting w → w < m .regions
-  pub due-within : (t w : ℕ) → c .place t ≡ machine.due w → w < m .regions
-
 unfoldable pub frameOf : Frame → machine.Frame
 frameOf f = record { thread = f .thread; region = f .region; flag = f .flag }
 

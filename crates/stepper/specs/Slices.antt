@@ -16,7 +16,7 @@ unfoldable pub guardAt : List ℕ → ℕ → ℕ
 guardAt gs r = getD gs (r % 16) 0 % 16
 
 unfoldable pub holdsAt : List ℕ → ℕ → ℕ → Bool
-holdsAt hs g s = eqb (getD hs (g % 16 * 4096 + s % 4096) 0) 1
+holdsAt hs g s = member (getD hs (s % 4096) 0) g
 
 unfoldable pub afterAt : List ℕ → ℕ → ℕ → ℕ
 afterAt as′ r s = getD as′ (r % 16 * 4096 + s % 4096) 0

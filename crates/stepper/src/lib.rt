@@ -9,7 +9,8 @@ ghost use Rattle.sets.specs.Set.{member};
 ghost use Rattle.machine.specs.Machine.{Monitor, Config, allIdle, any, isDue, isWaiting, mayBeAt, onGuard, waitsOn, own, put as putAt, ran as ranTo};
 ghost use Rattle.machine.specs.Table.{acts as actsOf, tableTold};
 ghost use Rattle.machine.specs.Held.{Held, HeldPlaces, HeldEntries};
-ghost use Rattle.stepper.specs.Shown.{Shows, Steps, Within, stepBy, placeOf, frameOf};
+ghost use Rattle.machine.specs.Reached.{Reached};
+ghost use Rattle.stepper.specs.Shown.{Shows, Steps, stepBy, placeOf, frameOf};
 ghost use Rattle.stepper.specs.Slices.{guardAt, holdsAt, followsAt, entryBy, entryAt, slices, guardsOnly, truths, toldAt, toldBehind, placesOf, configOf};
 ghost use Rattle.stepper.specs.Parts.{verdictOf, nextOf};
 
@@ -67,10 +68,10 @@ fn guard_at(guard_of: &[u8; 16], region: u8) -> u8
     guard_of[(region % 16) as usize] % 16
 }
 
-fn holds_at(holds: &[u8; 65536], guard: u8, state: u16) -> bool
+fn holds_at(holds: &[u16; 4096], guard: u8, state: u16) -> bool
     ensures { λ r. ⌜ r ≡ holdsAt (now (holds .entry)) guard state ⌝ }
 {
-    holds[(guard % 16) as usize * 4096 + (state % 4096) as usize] == 1
+    sets::has(holds[(state % 4096) as usize], guard as u32)
 }
 
 fn is_due(place: Place) -> bool
@@ -151,7 +152,7 @@ fn waiters(threads: [Thread; 16], guard_of: &[u8; 16], guard: u8) -> u16
 }
 
 // Whether the plain machine notifies a thread at a place: it waits and its guard holds.
-fn own_holds(place: Place, guard_of: &[u8; 16], holds: &[u8; 65536], state: u16) -> bool
+fn own_holds(place: Place, guard_of: &[u8; 16], holds: &[u16; 4096], state: u16) -> bool
     ensures { λ r. ⌜ r ≡ own (truths (now (holds .entry)) (now («guard_of» .entry))) state (placeOf place) ⌝ }
 {
     match place {
@@ -162,7 +163,7 @@ fn own_holds(place: Place, guard_of: &[u8; 16], holds: &[u8; 65536], state: u16)
 }
 
 // Every waiter whose guard holds.
-fn told_plain(threads: [Thread; 16], guard_of: &[u8; 16], holds: &[u8; 65536], state: u16) -> u16
+fn told_plain(threads: [Thread; 16], guard_of: &[u8; 16], holds: &[u16; 4096], state: u16) -> u16
     ensures { λ r. ⌜ ((u : ℕ) → u < 16 → member r u
         ≡ own (truths (now (holds .entry)) (now («guard_of» .entry))) state (placesOf threads u)) ⌝ }
 {
@@ -201,7 +202,7 @@ fn either(a: bool, b: bool) -> bool
 fn entry_acts(
     place: Place,
     guard_of: &[u8; 16],
-    holds: &[u8; 65536],
+    holds: &[u16; 4096],
     state: u16,
     entries: &[u8; 256],
     region: u8,
@@ -240,7 +241,7 @@ fn met_with(met: u16, place: Place, guard_of: &[u8; 16]) -> u16
 fn told_table(
     threads: [Thread; 16],
     guard_of: &[u8; 16],
-    holds: &[u8; 65536],
+    holds: &[u16; 4096],
     state: u16,
     entries: &[u8; 256],
     region: u8,
@@ -269,7 +270,7 @@ fn told(
     table: bool,
     threads: [Thread; 16],
     guard_of: &[u8; 16],
-    holds: &[u8; 65536],
+    holds: &[u16; 4096],
     state: u16,
     entries: &[u8; 256],
     region: u8,
@@ -309,7 +310,7 @@ fn behind(region: u8, goes_on: &[u8; 16]) -> Place
 fn judge(
     run: Run,
     frame: Frame,
-    holds: &[u8; 65536],
+    holds: &[u16; 4096],
     guard_of: &[u8; 16],
     begins: &[u8; 16],
     regions: usize,
@@ -358,7 +359,7 @@ fn ran(
     run: Run,
     frame: Frame,
     table: bool,
-    holds: &[u8; 65536],
+    holds: &[u16; 4096],
     after: &[u16; 65536],
     guard_of: &[u8; 16],
     goes_on: &[u8; 16],
@@ -389,7 +390,7 @@ fn advance(
     run: Run,
     frame: Frame,
     table: bool,
-    holds: &[u8; 65536],
+    holds: &[u16; 4096],
     after: &[u16; 65536],
     guard_of: &[u8; 16],
     goes_on: &[u8; 16],
@@ -430,7 +431,7 @@ pub fn step(
     run: Run,
     frame: Frame,
     table: bool,
-    holds: &[u8; 65536],
+    holds: &[u16; 4096],
     after: &[u16; 65536],
     guard_of: &[u8; 16],
     begins: &[u8; 16],
@@ -442,7 +443,7 @@ pub fn step(
         → Held m kept (now (holds .entry)) (now (after .entry)) (now («guard_of» .entry))
         → HeldPlaces m (now (begins .entry)) (now («goes_on» .entry))
         → (table ≡ true → HeldEntries m (now (entries .entry)))
-        → frame .thread < 16 → Within m c → m .kept (c .state) ≡ true → Shows run c
+        → frame .thread < 16 → Reached m c → Shows run c
         → Steps run r (stepBy m table c frame)) ⌝ }
 {
     let known = Frame {

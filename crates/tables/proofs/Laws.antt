@@ -1,15 +1,16 @@
--- Laws of rows: a Boolean as a number, a store behind what is done, a body's run from one state, and a region's row of states. Assumes nothing.
-use Prim.Native.Nat.{ℕ, _+_, _≤_, _<_}
+-- Laws of rows: a Boolean as a number, a store behind what is done, lanes, a body's run from one state, and a region's row of states. Assumes nothing.
+use Prim.Native.Nat.{ℕ, _+_, _*_, _/_, _%_, _≤_, _<_}
 use native.Mathlib.Omega.{arith}
-use mathlib.Core.Path.{_≡_, refl, sym, ap, _∙_}
-use mathlib.Core.Bool.{Bool, true, false}
-use mathlib.Core.List.{List}
+use mathlib.Core.Path.{_≡_, refl, sym, ap, subst, _∙_}
+use mathlib.Core.Bool.{Bool, true, false, _&&_, _||_}
+use mathlib.Core.List.{List, [], _∷_}
 use mathlib.Core.Option.{Option, none, some}
 use lib.ListN.{length, getD, set}
 use lib.Seq.{getD-set-same, getD-set-other}
-use lib.Dec.{eqb}
+use lib.Dec.{eqb, ltb}
 use lib.IntN.{ℤ}
-use borrow.Author.Tests.{eqb-true, eqb-false}
+use borrow.Author.Tests.{eqb-true, eqb-false, eq-eqb, ne-eqb, lt-ltb}
+use Rattle.sets.specs.Set.{member}
 use Rattle.syntax.specs.Tree.{Var, Cond, Region}
 use Rattle.machine.specs.Held.{bit}
 use Rattle.meaning.specs.Value.{truth, runBlock}
@@ -21,13 +22,12 @@ use Rattle.meaning.specs.Bools.{and, split, clash, true-not, is-false}
 use Rattle.meaning.specs.Biased.{Biased}
 use Rattle.meaning.specs.StateLaws.{state-at, number-below, state-at-number}
 use Rattle.meaning.specs.BodyLaws.{block-runs-of-run, block-runs-state}
-use Rattle.evaluator.specs.Coding.{RunAs, RanAs}
-use Rattle.evaluator.specs.declared.Ran.{Ran}
+use Rattle.evaluator.specs.Coding.{RunAs, lane}
 use Rattle.variables.specs.Bounded.{Bounded}
 use Rattle.variables.specs.declared.Bounds.{Bounds}
 use Rattle.tables.specs.Rows.{TruthRow}
 use Rattle.tables.specs.HeldLaws.{breaks-parts}
-use Rattle.tables.specs.Steps.{Body, Ended, Moved, Below, RowDone}
+use Rattle.tables.specs.Steps.{Sixteen, Body, Ended, Moved, Below, RowDone}
 
 pub bit-true : {b : Bool} → b ≡ true → bit b ≡ 1
 unfolding bit
@@ -59,12 +59,62 @@ passed P n below here k low =
     split (eqb k n) (λ e. let same = eqb-true k n e in rw same here)
     (λ e. let ne : (k ≡ n → ⊥) = eqb-false k n e in below k (omega arith))
 
+-- a set with one thread more
+module _ (r set g : ℕ) (e : (u : ℕ) → member r u ≡ (eqb u g && ltb g 16) || member set u) where
+  pub with-here : g < 16 → member r g ≡ true
+  with-here low = rw (e g, eq-eqb g g refl, lt-ltb g 16 low)
+
+  pub with-other : (u : ℕ) → (u ≡ g → ⊥) → member r u ≡ member set u
+  with-other u n = rw (e u, ne-eqb u g n)
+
+-- Lanes
+
+pub lane-is : (xs values : List ℕ) (j : ℕ) → length values ≡ 6 → ((k : ℕ) → k < 6 → (n : ℕ) → n ≡ k * 16 + j → getD xs n 0 ≡ getD values k 0)
+    → lane xs j ≡ values
+unfolding lane
+lane-is xs (a ∷ b ∷ c ∷ d ∷ e ∷ f ∷ []) j six h =
+    let at-0 = h 0 (omega arith) j (omega arith) in
+    let at-1 = h 1 (omega arith) (16 + j) (omega arith) in
+    let at-2 = h 2 (omega arith) (32 + j) (omega arith) in
+    let at-3 = h 3 (omega arith) (48 + j) (omega arith) in
+    let at-4 = h 4 (omega arith) (64 + j) (omega arith) in
+    let at-5 = h 5 (omega arith) (80 + j) (omega arith) in
+    cc
+lane-is xs [] j six h = absurd (omega arith)
+lane-is xs (a ∷ []) j six h = absurd (omega arith)
+lane-is xs (a ∷ b ∷ []) j six h = absurd (omega arith)
+lane-is xs (a ∷ b ∷ c ∷ []) j six h = absurd (omega arith)
+lane-is xs (a ∷ b ∷ c ∷ d ∷ []) j six h = absurd (omega arith)
+lane-is xs (a ∷ b ∷ c ∷ d ∷ e ∷ []) j six h = absurd (omega arith)
+lane-is xs (a ∷ b ∷ c ∷ d ∷ e ∷ f ∷ g ∷ gs) j six h = absurd (omega arith)
+
+-- what is known of sixteen states from the first of them on, and used at each
+abbrev pub Known : List Var → (ℕ → ℕ → Type 0) → ℕ → Type 0
+Known vs P s = (s % 16 ≡ 0 → ⊥) → Sixteen vs P (s / 16 * 16)
+
+module _ {vs : List Var} {P : ℕ → ℕ → Type 0} (s : ℕ) where
+  pub known-first : s % 16 ≡ 0 → Sixteen vs P s → Sixteen vs P (s / 16 * 16)
+  known-first e h =
+      let same : s / 16 * 16 ≡ s = omega arith in
+      rw same h
+
+  pub known-at : Sixteen vs P (s / 16 * 16) → s < count vs → P (s % 16) s
+  known-at h low =
+      let e : s / 16 * 16 + s % 16 ≡ s = omega arith in
+      subst (P (s % 16)) e (h .each (s % 16) (omega arith) (omega arith))
+
+  pub known-next : Sixteen vs P (s / 16 * 16) → Known vs P (s + 1)
+  known-next h n =
+      let same : (s + 1) / 16 * 16 ≡ s / 16 * 16 = omega arith in
+      rw same h
+
 -- A body's run from one state
 
-pub fault : (vs : List Var) (keep : Cond) (ran : Ran) (o : Option (List ℤ)) → RanAs vs ran o → ran .ok ≡ false → keptAfter vs keep o ≡ false
-unfolding RanAs RunAs keptAfter
-fault vs keep ran none h e = refl
-fault vs keep ran (some bs) h e = clash (h .0) e
+pub fault : (vs : List Var) (keep : Cond) (ok : Bool) (values : List ℕ) (o : Option (List ℤ)) → RunAs vs ok values o → ok ≡ false
+    → keptAfter vs keep o ≡ false
+unfolding RunAs keptAfter
+fault vs keep ok values none h e = refl
+fault vs keep ok values (some bs) h e = clash (h .0) e
 
 -- a run ends in a state with a number, at which the kept condition's truth is held
 pub record Reached (vs : List Var) (keep : Cond) (kept : List ℕ) (s : ℕ) (o : Option (List ℤ)) (to : ℕ) : Type 0 where
@@ -72,17 +122,17 @@ pub record Reached (vs : List Var) (keep : Cond) (kept : List ℕ) (s : ℕ) (o 
   pub number : to ≡ numberAfter vs s o
   pub held : getD kept to 0 ≡ bit (keptAfter vs keep o)
 
-module _ {vs : List Var} {keep : Cond} {q : Region} {kinds values : List ℕ} {bounds : Bounds} {at : ℕ} {kept guard : List ℕ}
-    (b : Body vs keep q kinds values bounds at kept guard) (s : ℕ) (low : s < count vs)
+module _ {vs : List Var} {keep : Cond} {q : Region} {kinds values : List ℕ} {bounds : Bounds} {at guard : ℕ} {kept holds : List ℕ}
+    (b : Body vs keep q kinds values bounds at guard kept holds) (s : ℕ) (low : s < count vs) (ok : Bool) (ended : List ℕ) (to : ℕ)
+    (number : (as′ : List ℤ) → Bounded vs bounds → Biased vs as′ ended → State vs as′ → to ≡ numberOf vs as′)
   where
-    reached-by : (ran : Ran) (o : Option (List ℤ)) (to : ℕ) → runBlock (q .body) vs (stateAt vs s) ≡ o → RanAs vs ran o → ran .ok ≡ true
-        → ((as′ : List ℤ) → Bounded vs bounds → Biased vs as′ (ran .values) → State vs as′ → to ≡ numberOf vs as′)
+    reached-by : (o : Option (List ℤ)) → runBlock (q .body) vs (stateAt vs s) ≡ o → RunAs vs ok ended o → ok ≡ true
         → Reached vs keep kept s o to
-    unfolding RanAs RunAs keptAfter numberAfter TruthRow
-    reached-by ran none to e h t f = clash t h
-    reached-by ran (some bs) to e h t f =
+    unfolding RunAs keptAfter numberAfter TruthRow
+    reached-by none e h t = clash t h
+    reached-by (some bs) e h t =
         let st : State vs bs = block-runs-state (block-runs-of-run (q .body) (stateAt vs s) e) (state-at (b .bounded .good) s low) in
-        let n = f bs (b .bounded) (h .1) st in
+        let n = number bs (b .bounded) (h .1) st in
         let few : to < count vs = rw n (number-below (b .bounded .good) st) in
         record {
           below = few;
@@ -92,10 +142,9 @@ module _ {vs : List Var} {keep : Cond} {q : Region} {kinds values : List ℕ} {b
               ∙ ap (λ as′. bit (truth keep vs as′)) (ap (stateAt vs) n ∙ state-at-number (b .bounded .good) st);
         }
 
-    pub reached : (ran : Ran) (to : ℕ) → RanAs vs ran (runBlock (q .body) vs (stateAt vs s)) → ran .ok ≡ true
-        → ((as′ : List ℤ) → Bounded vs bounds → Biased vs as′ (ran .values) → State vs as′ → to ≡ numberOf vs as′)
+    pub reached : RunAs vs ok ended (runBlock (q .body) vs (stateAt vs s)) → ok ≡ true
         → Reached vs keep kept s (runBlock (q .body) vs (stateAt vs s)) to
-    reached ran to h t f = reached-by ran (runBlock (q .body) vs (stateAt vs s)) to refl h t f
+    reached h t = reached-by (runBlock (q .body) vs (stateAt vs s)) refl h t
 
 pub ended-fault : {vs : List Var} {keep : Cond} {s : ℕ} {o : Option (List ℤ)} → keptAfter vs keep o ≡ false → Ended vs keep s o 4096
 ended-fault f = record { keeps = λ h. absurd (omega arith); number = λ h. absurd (omega arith); faults = λ _. f }

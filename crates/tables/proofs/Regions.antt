@@ -1,18 +1,18 @@
 -- Laws of all regions and guards: what a row of the slices is given, and what the rows say of refusal 9. Assumes nothing.
-use Prim.Native.Nat.{ℕ, zero, suc, _+_, _*_, _%_, _≤_, _<_}
+use Prim.Native.Nat.{ℕ, zero, suc, _+_, _*_, _≤_, _<_}
 use native.Mathlib.Omega.{arith}
-use native.Mathlib.Nat.{mod-eq-of-lt}
 use mathlib.Core.Path.{_≡_, refl, sym, ap, subst, _∙_}
 use mathlib.Core.Bool.{false}
 use mathlib.Core.List.{List, [], _∷_, _++_}
 use mathlib.Core.Option.{some, Option·some-injective}
 use lib.ListN.{length, getD, getElem?, take, drop, length-append, length-drop, List·getD-append}
-use lib.Seq.{getD-take, getD-drop, getD-append-add, length-take-le}
+use lib.Seq.{getD-take, getD-append-add, length-take-le}
+use Rattle.sets.specs.Set.{member}
 use Rattle.syntax.specs.Token.{Lexeme}
 use Rattle.syntax.specs.Tree.{Region, Monitor}
 use Rattle.syntax.specs.Grammar.{one-cond}
-use Rattle.machine.specs.Held.{bit}
 use Rattle.machine.specs.Table.{runs}
+use Rattle.meaning.specs.Value.{truth}
 use Rattle.meaning.specs.State.{count, stateAt}
 use Rattle.meaning.specs.Check.{breaks, broken}
 use Rattle.meaning.specs.Model.{vars, regions, region, guardOf, kept, holds, after, model}
@@ -24,8 +24,8 @@ use Rattle.evaluator.specs.Coding.{Codes}
 use Rattle.variables.specs.Bounded.{Bounded}
 use Rattle.variables.specs.declared.Bounds.{Bounds}
 use Rattle.tables.specs.declared.Broken.the-variants.{Never, At}
-use Rattle.tables.specs.Rows.{TruthRow, BodiesAt, GuardNumbers, KeptAll, HoldsAll, AfterAll, AfterAs}
-use Rattle.tables.specs.HeldLaws.{guards-few, row-of-kept, kept-truth}
+use Rattle.tables.specs.Rows.{BodiesAt, GuardNumbers, KeptAll, HoldsAll, AfterAll, AfterAs}
+use Rattle.tables.specs.HeldLaws.{row-of-kept, kept-truth}
 use Rattle.tables.specs.Steps.{Body, Below, RowDone}
 
 -- A row that is lent, and has come back into its slice
@@ -98,29 +98,17 @@ filling m kinds values bounds ats numbers n kept′ holds′ ls c b few counted 
 module _ {m : Monitor} {kinds values : List ℕ} {bounds : Bounds} {ats numbers : List ℕ} {n : ℕ} {kept′ holds′ : List ℕ}
     (f : Filling m kinds values bounds ats numbers n kept′ holds′) (r : ℕ) (low : r < n)
   where
-    -- the number that the code takes is the guard's
-    number-is : getD numbers r 0 % 16 ≡ guardOf m r
-    unfolding GuardNumbers
-    number-is =
+    by-guard : (s : ℕ) → s < count (vars m)
+        → member (getD holds′ s 0) (getD numbers r 0) ≡ truth (region m r .guard) (vars m) (stateAt (vars m) s)
+    unfolding GuardNumbers HoldsAll
+    by-guard s below =
         let h : r < length (regions m) = omega (arith, f .counted) in
-        let e = f .by-number r h in
-        let small : getD numbers r 0 < 16 = omega (arith, guard-below m r h, guards-few m, f .counted, f .few-regions) in
-        mod-eq-of-lt small ∙ e
+        ap (member (getD holds′ s 0)) (f .by-number r h) ∙ f .by-holds (guardOf m r) s (guard-below m r h) below ∙ holds-guard m one-cond r s
 
-    guard-row : (row k : ℕ) → row ≡ getD numbers r 0 % 16 * 4096 → k ≡ 4096
-        → TruthRow (vars m) (region m r .guard) (take k (drop row holds′))
-    unfolding TruthRow HoldsAll
-    guard-row row k e w s below =
-        let h : r < length (regions m) = omega (arith, f .counted) in
-        let place : row + s ≡ guardOf m r * 4096 + s = ap (λ (i : ℕ). i + s) (e ∙ ap (λ (i : ℕ). i * 4096) number-is) in
-        getD-take k (drop row holds′) s 0 (omega (arith, f .bounded .few-states)) ∙ getD-drop row holds′ s 0
-        ∙ ap (λ (i : ℕ). getD holds′ i 0) place ∙ f .by-holds (guardOf m r) s (guard-below m r h) below
-        ∙ ap bit (holds-guard m one-cond r s)
-
-    pub body-of : (at row k : ℕ) → at ≡ getD ats r 0 → row ≡ getD numbers r 0 % 16 * 4096 → k ≡ 4096
-        → Body (vars m) (m .keep) (region m r) kinds values bounds at kept′ (take k (drop row holds′))
+    pub body-of : (at : ℕ) → at ≡ getD ats r 0
+        → Body (vars m) (m .keep) (region m r) kinds values bounds at (getD numbers r 0) kept′ holds′
     unfolding BodiesAt
-    body-of at row k p e w =
+    body-of at p =
         let t = f .bodies r (omega (arith, f .counted)) in
         record {
           ls = f .ls;
@@ -131,7 +119,7 @@ module _ {m : Monitor} {kinds values : List ℕ} {bounds : Bounds} {ats numbers 
           spelled = rw p (t .1);
           long = f .long;
           by-kept = row-of-kept m kept′ (f .by-kept);
-          by-guard = guard-row row k e w;
+          by-guard = by-guard;
         }
 
 -- Refusal 9

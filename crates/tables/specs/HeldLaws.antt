@@ -1,10 +1,9 @@
--- The slices hold the monitor of an accepted file: of a sound tree no region breaks, and what is held is what `Held` asks. Assumes nothing.
+-- The slices hold the monitor of an accepted file: what they hold is what `Held` asks. Assumes nothing.
 use Prim.Native.Nat.{ℕ, _+_, _≤_, _<_}
 use native.Mathlib.Omega.{arith}
-use mathlib.Core.Path.{_≡_, refl, sym, ap, _∙_}
+use mathlib.Core.Path.{_≡_, sym, ap, _∙_}
 use mathlib.Core.Bool.{true, false, not, _&&_}
 use mathlib.Core.List.{List, [], _∷_, _++_}
-use mathlib.Core.Option.{Option, none, some}
 use lib.ListN.{length, length-append}
 use lib.Dec.{ltb}
 use borrow.Author.Tests.{ltb-true, lt-ltb}
@@ -17,15 +16,10 @@ use Rattle.meaning.specs.Value.{truth, runBlock}
 use Rattle.meaning.specs.State.{count, stateAt}
 use Rattle.meaning.specs.Model.{vars, regions, guards, guardsOf, placeIn, guardOf, kept, holds, after, model}
 use Rattle.meaning.specs.ModelLaws.{guard-below, kept-below, keeps}
-use Rattle.meaning.specs.Check.{keptAfter, breaks, broken}
-use Rattle.meaning.specs.Accepting.{IsRegion, Keeps, Sound}
-use Rattle.meaning.specs.Bools.{both, split, clash, not-true, is-false, no-some}
-use Rattle.meaning.specs.StateLaws.{state-at}
-use Rattle.meaning.specs.BodyLaws.{run-of-block-runs}
-use Rattle.meaning.specs.Soundness.{broken-none-iff}
-use Rattle.tables.specs.declared.Broken.{Broken}
-use Rattle.tables.specs.declared.Broken.the-variants.{Never, At}
-use Rattle.tables.specs.Rows.{TruthRow, GuardNumbers, KeptAll, HoldsAll, AfterAll, AfterAs}
+use Rattle.meaning.specs.Check.{keptAfter, breaks}
+use Rattle.meaning.specs.Accepting.{Sound}
+use Rattle.meaning.specs.Bools.{both, split, not-true}
+use Rattle.tables.specs.Rows.{TruthRow, GuardNumbers, KeptAll, HoldsAll, AfterAll}
 
 -- a file has at most as many guards as regions
 guards-of-few : (found : List Cond) (rs : List Region) → length (guardsOf found rs) ≤ length found + length rs
@@ -74,34 +68,6 @@ module _ (m : Monitor) where
   unfolding KeptAll TruthRow
   kept-of-row row k s h = k s h ∙ ap bit (sym (kept-is s h))
 
-  -- no region of a sound tree breaks
-  pub sound-none : Sound m → broken (vars m) (m .keep) 0 (regions m) ≡ none
-  unfolding regions IsRegion Keeps keptAfter
-  sound-none ok =
-      broken-none-iff (vars m) (m .keep) (regions m) .1 (λ j q e s low. is-false (λ h.
-      let t = breaks-parts (vars m) (m .keep) q (stateAt (vars m) s) h in
-      let k = ok .keeps j q (stateAt (vars m) s) e (record { state = state-at (ok .ranges) s low; kept = t .0; guard = t .1 }) in
-      clash (k .2) (rw (run-of-block-runs (k .1)) at (t .2))))
-
-  -- the answer for refusal 9 by cases
-  pub after-none : (b : Broken) (o : Option (ℕ × ℕ)) (rows : List ℕ) → AfterAs m b o rows → o ≡ none → (b ≡ Never) × AfterAll m rows
-  unfolding AfterAs
-  after-none b none rows a e = a
-  after-none b (some rn) rows a e = no-some (sym e)
-
-  pub after-never : (b : Broken) (o : Option (ℕ × ℕ)) (rows : List ℕ) → AfterAs m b o rows → b ≡ Never → (o ≡ none) × AfterAll m rows
-  unfolding AfterAs
-  after-never b none rows a e = (refl, a .1)
-  after-never b (some rn) rows a e = absurd (let z : _≡_ {A = ℕ} 0 1 = cc in omega arith)
-
-  pub after-at : (b : Broken) (o : Option (ℕ × ℕ)) (rows : List ℕ) (r s : ℕ) → AfterAs m b o rows → b ≡ At r s → o ≡ some (r, s)
-  unfolding AfterAs
-  after-at b none rows r s a e = absurd (let z : _≡_ {A = ℕ} 0 1 = cc (a .0) in omega arith)
-  after-at b (some rn) rows r s a e =
-      let p : rn .0 ≡ r = cc in
-      let q : rn .1 ≡ s = cc in
-      rw (p, q) refl
-
   pub held : {kept′ holds′ after′ guardOf′ : List ℕ} → Sound m → length (regions m) ≤ 16 → KeptAll m kept′ → HoldsAll m holds′
       → AfterAll m after′ → GuardNumbers m guardOf′ → Held (model m) kept′ holds′ after′ guardOf′
   unfolding model KeptAll HoldsAll AfterAll GuardNumbers runs
@@ -121,10 +87,3 @@ module _ (m : Monitor) where
         by-after = a;
         by-guard = g;
       }
-
-  -- the same, by what `fill_after` promises
-  pub held-after : (b : Broken) (kept′ holds′ after′ guardOf′ : List ℕ) → Sound m → length (regions m) ≤ 16 → KeptAll m kept′
-      → HoldsAll m holds′ → AfterAs m b (broken (vars m) (m .keep) 0 (regions m)) after′ → GuardNumbers m guardOf′
-      → Held (model m) kept′ holds′ after′ guardOf′
-  held-after b kept′ holds′ after′ guardOf′ ok few k h a g =
-      held ok few k h (after-none b (broken (vars m) (m .keep) 0 (regions m)) after′ a (sound-none ok) .1) g

@@ -5,6 +5,7 @@ use mathlib.Core.Bool.{true}
 use mathlib.Core.List.{List, _∷_, _++_}
 use mathlib.Core.Option.{Option, none, some}
 use lib.ListN.{length, getD, drop}
+use Rattle.sets.specs.Set.{member}
 use Rattle.syntax.specs.Token.{Lexeme, mark, rbrace}
 use Rattle.syntax.specs.Tree.{Var, Cond, Monitor, spellCond, spellBlock}
 use Rattle.machine.specs.Held.{bit}
@@ -33,12 +34,12 @@ BodiesAt m ls ats =
 unfoldable pub GuardNumbers : Monitor → List ℕ → Type 0
 GuardNumbers m ns = (r : ℕ) → r < length (regions m) → getD ns r 0 ≡ guardOf m r
 
--- the truth of the kept condition, and of every guard, at every state
+-- the truth of the kept condition at every state, and the guards that hold there as a set
 unfoldable pub KeptAll : Monitor → List ℕ → Type 0
 KeptAll m row = (s : ℕ) → s < count (vars m) → getD row s 0 ≡ bit (kept m s)
 
 unfoldable pub HoldsAll : Monitor → List ℕ → Type 0
-HoldsAll m rows = (g s : ℕ) → g < length (guards m) → s < count (vars m) → getD rows (g * 4096 + s) 0 ≡ bit (holds m g s)
+HoldsAll m rows = (g s : ℕ) → g < length (guards m) → s < count (vars m) → member (getD rows s 0) g ≡ holds m g s
 
 -- the state after every region's body, where it may run
 unfoldable pub AfterAll : Monitor → List ℕ → Type 0

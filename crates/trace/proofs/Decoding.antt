@@ -1,14 +1,12 @@
 -- Laws of the numbers of a line by arithmetic.
 use Prim.Native.Nat.{ℕ, _+_, _*_, _<_, _≤_}
-use native.Mathlib.Omega.{arith}
-use mathlib.Core.Path.{_≡_, refl, sym}
-use mathlib.Core.Bool.{true, false}
+use mathlib.Core.Path.{_≡_}
+use mathlib.Core.Bool.{false}
 use mathlib.Core.List.{List}
 use lib.ListN.{length, getD}
-use lib.Dec.{eqb, leb}
-use borrow.Author.Tests.{leb-true, le-leb, lt-leb}
+use lib.Dec.{eqb}
+use borrow.Author.Tests.{le-leb, lt-leb}
 use Rattle.trace.specs.Decoded.{valueOf, numbersAt}
-use Rattle.trace.specs.declared.Numbers as declared
 
 module _ (trace : List ℕ) (at : ℕ) where
   pub numbers-none : length trace < at + 7 → record { thread = 0; region = 0; flag = false } ≡ numbersAt trace at

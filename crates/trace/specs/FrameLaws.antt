@@ -12,10 +12,9 @@ use lib.Seq.{drop-append-add, drop-cons, drop-length, getD-drop}
 use Rattle.machine.specs.Machine as machine
 use Rattle.meaning.specs.Trace.{frameOf, Frames, frames, none-at, prepend, framesFrom, framesOf}
 use Rattle.meaning.specs.Trace as meaning
-use Rattle.meaning.specs.TraceLaws.{frameLine, IsFrameRecord, FrameRecords, no-frame, one-frame, linesOf, frames-read}
+use Rattle.meaning.specs.TraceLaws.{frameLine, IsFrameRecord, FrameRecords, no-frame, one-frame, linesOf, line-seven, lines-seven, frames-read}
 use Rattle.meaning.specs.Bools.{split}
 use Rattle.meaning.specs.Model.{hexDigit, hex2, hexBool}
-use Rattle.meaning.specs.Digits.{bit-digits}
 use Rattle.meaning.specs.Same.{different}
 use Rattle.trace.specs.Decoded.{valueOf, numbersAt}
 use Rattle.trace.specs.Lined.{lineFor, firstOf, lineAt, countedAs, countedOf}
@@ -51,16 +50,6 @@ first-frame k (l ∷ ls) fs e = go (frameOf l) refl (framesFrom (k + 1) ls) refl
     go (some f) p (none-at j) q fs e = let e₂ = rw (framesFrom, p, q) at e in different (cc)
     go (some f) p (frames gs) q [] e = let e₂ = rw (framesFrom, p, q) at e in different (cc)
     go (some f) p (frames gs) q (g ∷ hs) e = let e₂ = rw (framesFrom, p, q) at e in let s : f ≡ g = cc in rw (p, s)
-
--- a frame's line has seven bytes
-line-seven : (f : machine.Frame) → length (frameLine f) ≡ 7
-unfolding frameLine hex2
-line-seven f = rw (bit-digits)
-
-lines-seven : (fs : List machine.Frame) → length (linesOf fs) ≡ 7 * length fs
-unfolding linesOf
-lines-seven [] = refl
-lines-seven (f ∷ fs) = simp (length-append, line-seven, lines-seven fs) (omega arith)
 
 -- the bytes from the i-th line on are those of the frames from the i-th on
 lines-drop : (fs : List machine.Frame) (i : ℕ) → i ≤ length fs → drop (7 * i) (linesOf fs) ≡ linesOf (drop i fs)

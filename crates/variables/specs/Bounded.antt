@@ -1,11 +1,10 @@
 -- How the variables of a file and the values of a state are held as numbers: each value with 128 added.
-use Prim.Native.Nat.{ℕ, zero, suc, _+_, _<_, _≤_}
+use Prim.Native.Nat.{ℕ, suc, _+_, _<_, _≤_}
 use mathlib.Core.Path.{_≡_}
 use mathlib.Core.Bool.{Bool, true, false}
-use mathlib.Core.List.{List, [], _∷_, _++_, map}
-use mathlib.Core.Option.{Option, none, some}
+use mathlib.Core.List.{List, _∷_, map}
+use mathlib.Core.Option.{some}
 use lib.ListN.{length, getD, drop, take, getElem?}
-use lib.IntN.{ℤ, pos, _-ℤ_}
 use Rattle.syntax.specs.Token.{Lexeme, number, key, k-var}
 use Rattle.syntax.specs.Kind.{kindOf}
 use Rattle.syntax.specs.Tree.{Var, each, spellVar}

@@ -20,63 +20,57 @@ use Rattle.evaluator.proofs.eval_simple.Reads as eval-simple
 use Rattle.evaluator.proofs.eval_simple.Kinds as eval-simple-kinds
 use Rattle.evaluator.proofs.+eval_cond+eval_conj+eval_simple.Lts-eval_simple as eval-simple-lts
 use Rattle.evaluator.proofs.after.Reads as after-reads
+use Rattle.evaluator.proofs.both.Reads as both-reads
 use Rattle.evaluator.proofs.eval_compare.Reads as eval-compare-reads
 use Rattle.evaluator.proofs.kind_at.Reads as kind-at-reads
+use Rattle.evaluator.proofs.other.Reads as other-reads
+use Rattle.evaluator.proofs.union.Reads as union-reads
 use Rattle.evaluator.proofs.+eval_cond+eval_conj+eval_simple.{statement}
 use Rattle.evaluator.proofs.+eval_cond+eval_conj+eval_simple.Tie.{close}
 
-abbrev μ-eval-cond : Measures 2 eval-cond-kinds.ps ℕ
+abbrev μ-eval-cond : Measures 3 eval-cond-kinds.ps ℕ
 μ-eval-cond κs a = 3 * (length (a .0 .now) - a .1 .1 .1 .0) + 2
 
-abbrev μ-eval-conj : Measures 2 eval-conj-kinds.ps ℕ
+abbrev μ-eval-conj : Measures 3 eval-conj-kinds.ps ℕ
 μ-eval-conj κs a = 3 * (length (a .0 .now) - a .1 .1 .1 .0) + 1
 
-abbrev μ-eval-simple : Measures 2 eval-simple-kinds.ps ℕ
+abbrev μ-eval-simple : Measures 3 eval-simple-kinds.ps ℕ
 μ-eval-simple κs a = 3 * (length (a .0 .now) - a .1 .1 .1 .0)
 
-abbrev eval-cond-at : ℕ → In 2 eval-cond-kinds.ps
-eval-cond-at t = and 2 eval-cond-kinds.ps (is 2 eval-cond-kinds.ps μ-eval-cond t) eval-cond.Pre
+abbrev eval-cond-at : ℕ → In 3 eval-cond-kinds.ps
+eval-cond-at t = and 3 eval-cond-kinds.ps (is 3 eval-cond-kinds.ps μ-eval-cond t) eval-cond.Pre
 
-abbrev eval-cond-below : ℕ → In 2 eval-cond-kinds.ps
+abbrev eval-cond-below : ℕ → In 3 eval-cond-kinds.ps
 eval-cond-below t =
-    and 2 eval-cond-kinds.ps (falls 2 eval-cond-kinds.ps _<_ μ-eval-cond t) eval-cond.Pre
+    and 3 eval-cond-kinds.ps (falls 3 eval-cond-kinds.ps _<_ μ-eval-cond t) eval-cond.Pre
 
-abbrev eval-conj-at : ℕ → In 2 eval-conj-kinds.ps
-eval-conj-at t = and 2 eval-conj-kinds.ps (is 2 eval-conj-kinds.ps μ-eval-conj t) eval-conj.Pre
+abbrev eval-conj-at : ℕ → In 3 eval-conj-kinds.ps
+eval-conj-at t = and 3 eval-conj-kinds.ps (is 3 eval-conj-kinds.ps μ-eval-conj t) eval-conj.Pre
 
-abbrev eval-conj-below : ℕ → In 2 eval-conj-kinds.ps
+abbrev eval-conj-below : ℕ → In 3 eval-conj-kinds.ps
 eval-conj-below t =
-    and 2 eval-conj-kinds.ps (falls 2 eval-conj-kinds.ps _<_ μ-eval-conj t) eval-conj.Pre
+    and 3 eval-conj-kinds.ps (falls 3 eval-conj-kinds.ps _<_ μ-eval-conj t) eval-conj.Pre
 
-abbrev eval-simple-at : ℕ → In 2 eval-simple-kinds.ps
+abbrev eval-simple-at : ℕ → In 3 eval-simple-kinds.ps
 eval-simple-at t =
-    and 2 eval-simple-kinds.ps (is 2 eval-simple-kinds.ps μ-eval-simple t) eval-simple.Pre
+    and 3 eval-simple-kinds.ps (is 3 eval-simple-kinds.ps μ-eval-simple t) eval-simple.Pre
 
-abbrev eval-simple-below : ℕ → In 2 eval-simple-kinds.ps
+abbrev eval-simple-below : ℕ → In 3 eval-simple-kinds.ps
 eval-simple-below t =
-    and 2 eval-simple-kinds.ps (falls 2 eval-simple-kinds.ps _<_ μ-eval-simple t) eval-simple.Pre
+    and 3 eval-simple-kinds.ps (falls 3 eval-simple-kinds.ps _<_ μ-eval-simple t) eval-simple.Pre
 
 -- what each asks of its callees and learns from them, those of the cycle below the measure t
 abbrev eval-cond-calls : ℕ → eval-cond-lts.Claims
 eval-cond-calls t =
-    (eval-conj-below t, eval-conj.Post, kind-at-reads.Asked, kind-at-reads.Learnt, after-reads.Asked, after-reads.Learnt, eval-cond-below t, eval-cond.Post)
+    (eval-conj-below t, eval-conj.Post, kind-at-reads.Asked, kind-at-reads.Learnt, after-reads.Asked, after-reads.Learnt, eval-cond-below t, eval-cond.Post, union-reads.Asked, union-reads.Learnt)
 
 abbrev eval-conj-calls : ℕ → eval-conj-lts.Claims
 eval-conj-calls t =
-    (eval-simple-below t, eval-simple.Post, kind-at-reads.Asked, kind-at-reads.Learnt, after-reads.Asked, after-reads.Learnt, eval-conj-below t, eval-conj.Post)
+    (eval-simple-below t, eval-simple.Post, kind-at-reads.Asked, kind-at-reads.Learnt, after-reads.Asked, after-reads.Learnt, eval-conj-below t, eval-conj.Post, both-reads.Asked, both-reads.Learnt)
 
 abbrev eval-simple-calls : ℕ → eval-simple-lts.Claims
 eval-simple-calls t =
-    (kind-at-reads.Asked, kind-at-reads.Learnt, after-reads.Asked, after-reads.Learnt, eval-simple-below t, eval-simple.Post, eval-cond-below t, eval-cond.Post, eval-compare-reads.Asked, eval-compare-reads.Learnt)
-
-eval-cond-eval-conj-requires : (t : ℕ) → eval-cond-lts.Need-eval-conj-requires (eval-cond-calls t) (eval-cond-at t) eval-cond.Post
-eval-cond-eval-conj-requires t c κs = omega (arith, c .before .before .pre)
-
-eval-cond-kind-at-requires : (t : ℕ) → eval-cond-lts.Need-kind-at-requires (eval-cond-calls t) (eval-cond-at t) eval-cond.Post
-eval-cond-kind-at-requires t c κs = search needs
-
-eval-cond-after-requires : (t : ℕ) → eval-cond-lts.Need-after-requires (eval-cond-calls t) (eval-cond-at t) eval-cond.Post
-eval-cond-after-requires t c κs = search needs
+    (kind-at-reads.Asked, kind-at-reads.Learnt, after-reads.Asked, after-reads.Learnt, eval-simple-below t, eval-simple.Post, other-reads.Asked, other-reads.Learnt, eval-cond-below t, eval-cond.Post, eval-compare-reads.Asked, eval-compare-reads.Learnt)
 
 eval-cond-eval-cond-requires : (t : ℕ) → eval-cond-lts.Need-eval-cond-requires (eval-cond-calls t) (eval-cond-at t) eval-cond.Post
 eval-cond-eval-cond-requires t c κs =
@@ -87,22 +81,13 @@ eval-cond-eval-cond-requires t c κs =
 
 eval-cond-returns : (t : ℕ) → eval-cond-lts.Need-returns (eval-cond-calls t) (eval-cond-at t) eval-cond.Post
 eval-cond-returns t c =
-    let after = c .before .before .before in
-    cond-more (after .before .before .before .eval-conj .ensures)
-    (sym (after .before .before .kind-at .ensures) ∙ after .before .if1 .taken) (after .after .ensures)
-    (c .before .before .eval-cond .ensures)
+    let more = c .before .before .before in
+    let kind = more .before .before .before in
+    cond-more (kind .before .eval-conj .ensures) (sym (kind .kind-at .ensures) ∙ more .before .before .if1 .taken)
+    (more .before .after .ensures) (more .eval-cond .ensures) (c .union .ensures)
 
 eval-cond-returns-2 : (t : ℕ) → eval-cond-lts.Need-returns-2 (eval-cond-calls t) (eval-cond-at t) eval-cond.Post
 eval-cond-returns-2 t c = cond-one (c .before .before .eval-conj .ensures) (λ e. c .if1 .left (c .before .kind-at .ensures ∙ e))
-
-eval-conj-eval-simple-requires : (t : ℕ) → eval-conj-lts.Need-eval-simple-requires (eval-conj-calls t) (eval-conj-at t) eval-conj.Post
-eval-conj-eval-simple-requires t c κs = omega (arith, c .before .before .pre)
-
-eval-conj-kind-at-requires : (t : ℕ) → eval-conj-lts.Need-kind-at-requires (eval-conj-calls t) (eval-conj-at t) eval-conj.Post
-eval-conj-kind-at-requires t c κs = search needs
-
-eval-conj-after-requires : (t : ℕ) → eval-conj-lts.Need-after-requires (eval-conj-calls t) (eval-conj-at t) eval-conj.Post
-eval-conj-after-requires t c κs = search needs
 
 eval-conj-eval-conj-requires : (t : ℕ) → eval-conj-lts.Need-eval-conj-requires (eval-conj-calls t) (eval-conj-at t) eval-conj.Post
 eval-conj-eval-conj-requires t c κs =
@@ -113,19 +98,13 @@ eval-conj-eval-conj-requires t c κs =
 
 eval-conj-returns : (t : ℕ) → eval-conj-lts.Need-returns (eval-conj-calls t) (eval-conj-at t) eval-conj.Post
 eval-conj-returns t c =
-    let after = c .before .before .before in
-    conj-more (after .before .before .before .eval-simple .ensures)
-    (sym (after .before .before .kind-at .ensures) ∙ after .before .if1 .taken) (after .after .ensures)
-    (c .before .before .eval-conj .ensures)
+    let more = c .before .before .before in
+    let kind = more .before .before .before in
+    conj-more (kind .before .eval-simple .ensures) (sym (kind .kind-at .ensures) ∙ more .before .before .if1 .taken)
+    (more .before .after .ensures) (more .eval-conj .ensures) (c .both .ensures)
 
 eval-conj-returns-2 : (t : ℕ) → eval-conj-lts.Need-returns-2 (eval-conj-calls t) (eval-conj-at t) eval-conj.Post
 eval-conj-returns-2 t c = conj-one (c .before .before .eval-simple .ensures) (λ e. c .if1 .left (c .before .kind-at .ensures ∙ e))
-
-eval-simple-kind-at-requires : (t : ℕ) → eval-simple-lts.Need-kind-at-requires (eval-simple-calls t) (eval-simple-at t) eval-simple.Post
-eval-simple-kind-at-requires t c κs = search needs
-
-eval-simple-after-requires : (t : ℕ) → eval-simple-lts.Need-after-requires (eval-simple-calls t) (eval-simple-at t) eval-simple.Post
-eval-simple-after-requires t c κs = search needs
 
 eval-simple-eval-simple-requires : (t : ℕ) → eval-simple-lts.Need-eval-simple-requires (eval-simple-calls t) (eval-simple-at t) eval-simple.Post
 eval-simple-eval-simple-requires t c κs =
@@ -135,9 +114,10 @@ eval-simple-eval-simple-requires t c κs =
 
 eval-simple-returns : (t : ℕ) → eval-simple-lts.Need-returns (eval-simple-calls t) (eval-simple-at t) eval-simple.Post
 eval-simple-returns t c =
-    let after = c .before .before .before in
-    simple-not (sym (after .before .kind-at .ensures) ∙ c .before .before .if1 .taken) (after .after .ensures)
-    (c .before .eval-simple .ensures)
+    let simple = c .before .before in
+    let after = simple .before .before in
+    simple-not (sym (after .before .kind-at .ensures) ∙ simple .before .if1 .taken) (after .after .ensures) (simple .eval-simple .ensures)
+    (c .other .ensures)
 
 eval-simple-eval-cond-requires : (t : ℕ) → eval-simple-lts.Need-eval-cond-requires (eval-simple-calls t) (eval-simple-at t) eval-simple.Post
 eval-simple-eval-cond-requires t c κs =
@@ -146,14 +126,12 @@ eval-simple-eval-cond-requires t c κs =
     let step = kind-within 2 (after .after .ensures) (sym (after .before .kind-at .ensures) ∙ c .if2 .taken) refl in
     omega (arith, step, after .after .ensures, start .pre)
 
-eval-simple-after-requires-2 : (t : ℕ) → eval-simple-lts.Need-after-requires-2 (eval-simple-calls t) (eval-simple-at t) eval-simple.Post
-eval-simple-after-requires-2 t c κs = search needs
-
 eval-simple-returns-2 : (t : ℕ) → eval-simple-lts.Need-returns-2 (eval-simple-calls t) (eval-simple-at t) eval-simple.Post
 eval-simple-returns-2 t c =
-    let after = c .before .before .before .before in
-    simple-bracketed (sym (after .before .kind-at .ensures) ∙ c .before .before .if2 .taken) (after .after .ensures)
-    (c .before .eval-cond .ensures) (c .after2 .ensures)
+    let whole = c .before .before in
+    let after = whole .before .before .before in
+    simple-bracketed (sym (after .before .kind-at .ensures) ∙ whole .before .if2 .taken) (after .after .ensures) (whole .eval-cond .ensures)
+    (c .before .after2 .ensures)
 
 eval-simple-returns-3 : (t : ℕ) → eval-simple-lts.Need-returns-3 (eval-simple-calls t) (eval-simple-at t) eval-simple.Post
 unfolding constantKind
@@ -167,9 +145,6 @@ eval-simple-returns-4 t c =
     let after = c .before .before .before .before in
     simple-constant false (sym (after .before .kind-at .ensures) ∙ c .if4 .taken) (after .after .ensures)
 
-eval-simple-eval-compare-requires : (t : ℕ) → eval-simple-lts.Need-eval-compare-requires (eval-simple-calls t) (eval-simple-at t) eval-simple.Post
-eval-simple-eval-compare-requires t c κs = search needs
-
 eval-simple-returns-5 : (t : ℕ) → eval-simple-lts.Need-returns-5 (eval-simple-calls t) (eval-simple-at t) eval-simple.Post
 eval-simple-returns-5 t c =
     let kind = c .before .before .before .before .before .before .kind-at .ensures in
@@ -178,64 +153,33 @@ eval-simple-returns-5 t c =
 
 pub +eval-cond+eval-conj+eval-simple-spec : {M : Type 1} → statement M
 +eval-cond+eval-conj+eval-simple-spec =
-    close μ-eval-cond μ-eval-conj μ-eval-simple (λ t. eval-cond-lts.spec (
-      eval-conj-below t,
-      eval-conj.Post,
-      kind-at-reads.Asked,
-      kind-at-reads.Learnt,
-      after-reads.Asked,
-      after-reads.Learnt,
-      eval-cond-below t,
-      eval-cond.Post,
-    )
-    (eval-cond-at t)
-    eval-cond.Post
-    (eval-cond-eval-conj-requires t)
-    (eval-cond-kind-at-requires t)
-    (eval-cond-after-requires t)
+    close μ-eval-cond μ-eval-conj μ-eval-simple
+    (λ t. eval-cond-lts.spec (eval-cond-calls t) (eval-cond-at t) eval-cond.Post
+    (λ c κs. omega (arith, c .before .before .pre))
+    (λ c κs. tt)
+    (λ c κs. search needs)
     (eval-cond-eval-cond-requires t)
+    (λ c κs. tt)
     (eval-cond-returns t)
     (eval-cond-returns-2 t))
-    (λ t. eval-conj-lts.spec (
-      eval-simple-below t,
-      eval-simple.Post,
-      kind-at-reads.Asked,
-      kind-at-reads.Learnt,
-      after-reads.Asked,
-      after-reads.Learnt,
-      eval-conj-below t,
-      eval-conj.Post,
-    )
-    (eval-conj-at t)
-    eval-conj.Post
-    (eval-conj-eval-simple-requires t)
-    (eval-conj-kind-at-requires t)
-    (eval-conj-after-requires t)
+    (λ t. eval-conj-lts.spec (eval-conj-calls t) (eval-conj-at t) eval-conj.Post
+    (λ c κs. omega (arith, c .before .before .pre))
+    (λ c κs. tt)
+    (λ c κs. search needs)
     (eval-conj-eval-conj-requires t)
+    (λ c κs. tt)
     (eval-conj-returns t)
     (eval-conj-returns-2 t))
-    λ t. eval-simple-lts.spec (
-      kind-at-reads.Asked,
-      kind-at-reads.Learnt,
-      after-reads.Asked,
-      after-reads.Learnt,
-      eval-simple-below t,
-      eval-simple.Post,
-      eval-cond-below t,
-      eval-cond.Post,
-      eval-compare-reads.Asked,
-      eval-compare-reads.Learnt,
-    )
-    (eval-simple-at t)
-    eval-simple.Post
-    (eval-simple-kind-at-requires t)
-    (eval-simple-after-requires t)
+    λ t. eval-simple-lts.spec (eval-simple-calls t) (eval-simple-at t) eval-simple.Post
+    (λ c κs. tt)
+    (λ c κs. search needs)
     (eval-simple-eval-simple-requires t)
+    (λ c κs. tt)
     (eval-simple-returns t)
     (eval-simple-eval-cond-requires t)
-    (eval-simple-after-requires-2 t)
+    (λ c κs. search needs)
     (eval-simple-returns-2 t)
     (eval-simple-returns-3 t)
     (eval-simple-returns-4 t)
-    (eval-simple-eval-compare-requires t)
+    (λ c κs. search needs)
     (eval-simple-returns-5 t)

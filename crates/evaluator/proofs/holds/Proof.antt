@@ -11,20 +11,17 @@ use Rattle.evaluator.proofs.holds.Statement.{statement}
 use Rattle.evaluator.proofs.holds.Tie as tie
 
 returns : tie.Need-returns
-returns c = λ vs as′ ls us t codes biased e ends short. absurd (omega (arith, same-length codes, c .if1 .taken))
+returns c = λ vs as′ ls us t j l codes biased e ends short. absurd (omega (arith, same-length codes, c .if1 .taken))
 
 returns-2 : tie.Need-returns-2
 unfolding EndsCond
-returns-2 c = λ vs as′ ls us t codes biased e ends short.
-    let here = not-past ls (spellCond t) (ends .0) (ends .1) (c .before .before .before .before .args .at) (e ∙ ap (λ l. spellCond t ++ l) (ends .2)) in
+returns-2 c = λ vs as′ ls us t j l codes biased e ends short.
+    let here = not-past ls (spellCond t) (ends .0) (ends .1) (c .before .before .before .before .args .at) (e ∙ ap (λ z. spellCond t ++ z) (ends .2)) in
     absurd (omega (arith, same-length codes, here, c .if2 .taken))
 
-eval-cond-requires : tie.Need-eval-cond-requires
-eval-cond-requires c κs = search needs
-
 returns-3 : tie.Need-returns-3
-returns-3 c = λ vs as′ ls us t codes biased e ends short.
-    c .eval-cond .ensures .reads vs as′ ls us t codes biased e (condition-ends us ends) .0
+returns-3 c = λ vs as′ ls us t j l codes biased e ends short.
+    c .mask .ensures j l ∙ c .before .before .eval-cond .ensures .reads j l vs as′ ls us t codes biased e (condition-ends us ends) .0
 
 pub holds-spec : {M : Type 1} → statement M
-holds-spec = tie.close (tie.spec returns returns-2 eval-cond-requires returns-3)
+holds-spec = tie.close (tie.spec returns returns-2 (λ c κs. search needs) (λ c κs. tt) returns-3)

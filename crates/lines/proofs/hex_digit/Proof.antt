@@ -1,6 +1,7 @@
 -- `lines::hex_digit` gives a digit of a line. Each arm is the digit's own case. Assumes nothing.
 use borrow.Author.Needs.{needs}
-use Rattle.lines.proofs.Laws.{digit-low, digit-high}
+use mathlib.Core.Path.{sym}
+use Rattle.meaning.specs.Digits.{low-digit, high-digit}
 use Rattle.lines.proofs.hex_digit.Statement.{statement}
 use Rattle.lines.proofs.hex_digit.Tie as tie
 
@@ -11,10 +12,10 @@ add-result-2 : tie.Need-add-result-2
 add-result-2 c = search needs
 
 returns : tie.Need-returns
-returns c = digit-low _ (c .if1 .taken)
+returns c = sym (low-digit _ (c .if1 .taken))
 
 returns-2 : tie.Need-returns-2
-returns-2 c = digit-high _ (c .if1 .left)
+returns-2 c = sym (high-digit _ (c .if1 .left))
 
 pub hex-digit-spec : {M : Type 1} → statement M
 hex-digit-spec = tie.close (tie.spec add-result add-result-2 returns returns-2)

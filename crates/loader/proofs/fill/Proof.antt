@@ -2,11 +2,11 @@
 use Prim.Native.Nat.{_≤_}
 use native.Mathlib.Omega.{arith}
 use mathlib.Core.Path.{_≡_}
-use mathlib.Core.List.{List, _∷_}
+use mathlib.Core.List.{List}
 use lib.ListN.{length}
 use denote.Ref.{now}
 use borrow.Author.Needs.{needs}
-use Rattle.syntax.specs.Token.{Lexeme, mark, semicolon}
+use Rattle.syntax.specs.Token.{Lexeme}
 use Rattle.syntax.specs.Tree.{Monitor}
 use Rattle.meaning.specs.Bools.{not-true}
 use Rattle.meaning.specs.Value.{truth}
@@ -15,23 +15,23 @@ use Rattle.meaning.specs.Check.{broken}
 use Rattle.meaning.specs.Model.{vars, regions}
 use Rattle.tables.specs.Rows.{KeptAll, HoldsAll, AfterAs}
 use Rattle.tables.specs.HeldLaws.{kept-of-row}
-use Rattle.loading.specs.Limited.{ends-kept}
 use Rattle.loader.specs.Filling.{Filling}
-use Rattle.loader.proofs.Fills.{few-guards, guards-of, bodies-of, numbers-of, failed, filled-8, filled-9, filled-0}
+use Rattle.loader.proofs.Fills.{keeping, guarding, bodies-of, numbers-of, failed, filled-8, filled-9, filled-0}
 use Rattle.loader.proofs.fill.Statement.{statement}
 use Rattle.loader.proofs.fill.Tie as tie
 
 -- what the function is given, where the kept condition has been evaluated
-abbrev Given : tie.After-holds → Monitor → List Lexeme → Type 0
+abbrev Given : tie.After-holds-at → Monitor → List Lexeme → Type 0
 Given c m ls =
     let a = c .before .before .before .before .before .before .before .args in
     Filling m ls (now (a .kinds)) (now (a .values)) (a .bounds) (a .layout)
 
-holds-at-start : (c : tie.After-holds) {m : Monitor} {ls : List Lexeme} → Given c m ls
-    → c .holds .result ≡ truth (m .keep) (vars m) (starts (vars m))
+holds-at-start : (c : tie.After-holds-at) {m : Monitor} {ls : List Lexeme} → Given c m ls
+    → c .holds-at .result ≡ truth (m .keep) (vars m) (starts (vars m))
 holds-at-start c {m} {ls} f =
-    c .holds .ensures (vars m) (starts (vars m)) ls (mark semicolon ∷ f .laid .behind-keep) (m .keep) (f .codes) (f .bounded .start-values)
-    (f .laid .keep-stands) (ends-kept (f .laid .behind-keep)) (omega (arith, f .few))
+    let k = keeping f in
+    c .holds-at .ensures (vars m) (starts (vars m)) (k .ls) (k .us) (m .keep) (k .codes) (k .bounded .start-values) (k .spelled) (k .ends)
+    (omega (arith, k .few))
 
 -- where the slices have been filled
 abbrev At : Type 0
@@ -43,24 +43,20 @@ row-of c = c .before .before .before .before .before .before .before .before .be
 abbrev holds-of : At → tie.After-fill-holds
 holds-of c = c .before .before .before .before .before .before .before .before .before .before
 
-abbrev start-of : At → tie.After-holds
+abbrev start-of : At → tie.After-holds-at
 start-of c = row-of c .before .before .before
 
 abbrev entry-of : At → tie.Start
 entry-of c = start-of c .before .before .before .before .before .before .before
 
 module _ (c : At) {m : Monitor} {ls : List Lexeme} (f : Given (start-of c) m ls) (l₁ : 4096 ≤ length (now (entry-of c .args .kept)))
-    (l₂ : 65536 ≤ length (now (entry-of c .args .holds))) (l₃ : 65536 ≤ length (now (entry-of c .args .after))) where
+    (l₂ : 4096 ≤ length (now (entry-of c .args .holds))) (l₃ : 65536 ≤ length (now (entry-of c .args .after))) where
   by-kept : KeptAll m (row-of c .fill-row .last .1 .1 .1 .1 .0)
   by-kept =
-      kept-of-row m (row-of c .fill-row .last .1 .1 .1 .1 .0)
-      (row-of c .fill-row .ensures (vars m) ls (mark semicolon ∷ f .laid .behind-keep) (m .keep) (f .codes) (f .bounded)
-      (f .laid .keep-stands) (ends-kept (f .laid .behind-keep)) (f .few) l₁)
+      kept-of-row m (row-of c .fill-row .last .1 .1 .1 .1 .0) (row-of c .fill-row .ensures (vars m) (m .keep) (keeping f) l₁)
 
   by-holds : HoldsAll m (holds-of c .fill-holds .last .1 .1 .1 .1 .1 .0)
-  by-holds =
-      holds-of c .fill-holds .ensures m ls (f .codes) (f .bounded) (f .few) (f .laid .guard-count)
-      (omega (arith, few-guards f, f .laid .guard-count)) (guards-of f _ (holds-of c .before .before .guards-at .ensures)) l₂
+  by-holds = holds-of c .fill-holds .ensures m (guarding f _ (holds-of c .before .before .guards-at .ensures)) l₂
 
   by-after : AfterAs m (c .before .before .fill-after .result) (broken (vars m) (m .keep) 0 (regions m))
       (c .before .before .fill-after .last .1 .1 .1 .1 .1 .1 .1 .1 .0)

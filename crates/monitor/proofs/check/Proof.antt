@@ -1,11 +1,11 @@
 -- `monitor::check` meets its contract: the answer of `load`, whose arrays are as long as it asks. Assumes nothing.
 use borrow.Author.Needs.{needs}
-use Rattle.monitor.proofs.Places.{long}
+use Rattle.monitor.proofs.Loaded.{long}
 use Rattle.monitor.proofs.check.Statement.{statement}
 use Rattle.monitor.proofs.check.Tie as tie
 
 returns : tie.Need-returns
-returns c = c .before .before .before .before .load .ensures (long 4096 0) (long 65536 0) (long 65536 0) .verdict
+returns c = c .before .before .before .before .load .ensures (long 4096 0) (long 4096 0) (long 65536 0) .verdict
 
 pub check-spec : {M : Type 1} → statement M
 check-spec =

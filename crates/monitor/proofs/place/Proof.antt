@@ -1,29 +1,28 @@
 -- `monitor::place` meets its contract: a refused file is answered as it was loaded, an accepted one by what writing its table says. Assumes nothing.
 use borrow.Author.Needs.{needs}
-use Rattle.monitor.proofs.Places.{long, not-placed, too-short, placed}
+use Rattle.monitor.proofs.Loaded.{long}
+use Rattle.monitor.proofs.Places.{not-placed, too-short, placed}
 use Rattle.monitor.proofs.place.Statement.{statement}
 use Rattle.monitor.proofs.place.Tie as tie
 
 returns : tie.Need-returns
-returns c = not-placed (c .before .before .before .before .before .before .load .ensures (long 4096 0) (long 65536 0) (long 65536 0)) _ (c .if1 .taken)
+returns c = not-placed (c .before .before .before .before .before .before .load .ensures (long 4096 0) (long 4096 0) (long 65536 0)) _ (c .if1 .taken)
 
 returns-2 : tie.Need-returns-2
 returns-2 c =
-    too-short
-    (c .before .before .before .before .before .before .before .before .before .before .before .before .before .before .before .before .before .before .before .before .before .before .before .load .ensures
-    (long 4096 0) (long 65536 0) (long 65536 0))
-    (c .before .before .before .before .before .before .before .before .before .before .before .before .before .before .before .before .before .if1 .left)
-    _ (c .before .before .before .before .before .before .before .before .fill-entries .ensures)
-    (c .before .before .before .before .before .write-table .ensures) _ (c .say .ensures) (c .before .enum-told .given .1)
+    let w = c .before .before .before .before .before in
+    let e = w .before .before .before in
+    let i = e .before .before .before .before .before in
+    let loads = i .before .before .before .before .before .before .load .ensures (long 4096 0) (long 4096 0) (long 65536 0) in
+    too-short loads (i .if1 .left) _ (e .entries-of .ensures _ loads) (w .write-table .ensures) _ (c .say .ensures) (c .before .enum-told .given .1)
 
 returns-3 : tie.Need-returns-3
 returns-3 c =
-    placed
-    (c .before .before .before .before .before .before .before .before .before .before .before .before .before .before .before .before .before .before .before .before .before .before .before .load .ensures
-    (long 4096 0) (long 65536 0) (long 65536 0))
-    (c .before .before .before .before .before .before .before .before .before .before .before .before .before .before .before .before .before .if1 .left)
-    _ (c .before .before .before .before .before .before .before .before .fill-entries .ensures)
-    (c .before .before .before .before .before .write-table .ensures) _ (c .before .n .given .1)
+    let w = c .before .before .before .before .before in
+    let e = w .before .before .before in
+    let i = e .before .before .before .before .before in
+    let loads = i .before .before .before .before .before .before .load .ensures (long 4096 0) (long 4096 0) (long 65536 0) in
+    placed loads (i .if1 .left) _ (e .entries-of .ensures _ loads) (w .write-table .ensures) _ (c .before .n .given .1)
 
 pub place-spec : {M : Type 1} → statement M
 place-spec =

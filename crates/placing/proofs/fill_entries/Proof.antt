@@ -1,9 +1,9 @@
 -- `placing::fill_entries` meets its contract: what the code works out is the monitor's entries. Where a count is too large, no monitor is held. Assumes nothing.
 use mathlib.Core.Path.{_∙_}
 use native.Mathlib.Omega.{arith}
+use borrow.Author.Needs.{needs}
 use Rattle.machine.specs.Held.{HeldEntries}
 use Rattle.placing.proofs.Monitors.{code-is}
-use borrow.Author.Needs.{needs}
 use Rattle.placing.proofs.fill_entries.Statement.{statement}
 use Rattle.placing.proofs.fill_entries.Tie as tie
 
@@ -19,14 +19,19 @@ returns-3 : tie.Need-returns-3
 unfolding HeldEntries
 returns-3 c = λ m es er eg held. absurd (omega (arith, held .few-guards, c .if3 .taken))
 
-fill-guards-requires : tie.Need-fill-guards-requires
-fill-guards-requires c κs = search needs
-
 returns-4 : tie.Need-returns-4
 unfolding HeldEntries
 returns-4 c =
     λ m es er eg held r g hr hg.
-    c .fill-guards .ensures g (omega arith) r (omega arith) ∙ code-is m _ _ _ _ held _ _ es er r g hr hg
+    c .fill-regions .ensures r (omega arith) g (omega arith)
+    ∙ code-is m _ _ _ _ _ _ _ held es er eg r g hr hg
 
 pub fill-entries-spec : {M : Type 1} → statement M
-fill-entries-spec = tie.close (tie.spec returns returns-2 returns-3 fill-guards-requires returns-4)
+fill-entries-spec =
+    tie.close
+    (tie.spec
+    returns
+    returns-2
+    returns-3
+    (λ c κs. search needs)
+    returns-4)

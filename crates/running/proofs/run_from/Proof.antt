@@ -26,8 +26,8 @@ use Rattle.running.proofs.Laws.{past-states, kept-by, kept-one, kept-ot
 use Rattle.running.proofs.run_from.Statement.{statement}
 use Rattle.running.proofs.run_from.Tie as tie
 
-not-run-requires : tie.Need-not-run-requires
-not-run-requires c κs = search needs
+no-start-requires : tie.Need-no-start-requires
+no-start-requires c κs = search needs
 
 returns : tie.Need-returns
 returns c m b n h p t ok =
@@ -36,13 +36,13 @@ returns c m b n h p t ok =
     let states = b .states in
     not-started m (a .table) (a .start) (a .bytes .now) _
     (past-states m (a .start) (⊎-elim (λ x. let y = x .taken in omega arith) (λ x. let y = leb-true 4096 (a .start) (x .1 .taken) in omega arith) (c .before .if1 .came)))
-    (c .not-run .ensures)
+    (c .no-start .ensures)
 
 element-copy-out-if3 : tie.Need-element-copy-out-if3
 element-copy-out-if3 c = search needs
 
-not-run-requires-2 : tie.Need-not-run-requires-2
-not-run-requires-2 c κs = search needs
+no-start-requires-2 : tie.Need-no-start-requires-2
+no-start-requires-2 c κs = search needs
 
 returns-2 : tie.Need-returns-2
 returns-2 c m b n h p t ok =
@@ -50,7 +50,7 @@ returns-2 c m b n h p t ok =
     let a = e .before .before .before .args in
     let low : a .start < count (vars m) = omega (arith, b .states, e .if1 .left) in
     not-started m (a .table) (a .start) (a .bytes .now) _
-    (kept-other (kept m (a .start)) _ (kept-by m _ _ _ _ h (a .start) low) (c .before .if3 .taken)) (c .not-run2 .ensures)
+    (kept-other (kept m (a .start)) _ (kept-by m _ _ _ _ h (a .start) low) (c .before .if3 .taken)) (c .no-start2 .ensures)
 
 -- past the tests the start is a kept state
 started : (c : tie.Else3) →
@@ -69,15 +69,15 @@ count-requires c κs = search needs
 enum-known-k : tie.Need-enum-known-k
 enum-known-k c = search needs
 
-not-run-requires-3 : tie.Need-not-run-requires-3
-not-run-requires-3 c κs = search needs
+not-run-requires : tie.Need-not-run-requires
+not-run-requires c κs = search needs
 
 returns-3 : tie.Need-returns-3
 returns-3 c m b n h p t ok =
     let x = c .before .before .before .before in
     let a = x .before .before .before .before .before .before .before .args in
     not-framed m (a .table) (a .start) (a .bytes .now) _ _ (started (x .before) m b h)
-    (counted-bad (a .bytes .now) _ (sym (x .count .ensures) ∙ c .before .before .k .given .1)) (c .not-run3 .ensures)
+    (counted-bad (a .bytes .now) _ (sym (x .count .ensures) ∙ c .before .before .k .given .1)) (c .not-run .ensures)
 
 enum-told : tie.Need-enum-told
 enum-told c = search needs
@@ -107,13 +107,13 @@ facts c m b n h p t ok =
     let k = started (x .before) m b h in
     (f .all, k, f .read, c .run-trace .ensures (model m) (now (a .kept)) (f .all) (sym n) h p t ok k (f .read))
 
-not-run-requires-4 : tie.Need-not-run-requires-4
-not-run-requires-4 c κs = search needs
+not-run-requires-2 : tie.Need-not-run-requires-2
+not-run-requires-2 c κs = search needs
 
 returns-4 : tie.Need-returns-4
 returns-4 c m b n h p t ok =
     let f = facts (c .before .before) m b n h p t ok in
-    ran-refused m _ _ _ _ (f .0) (f .1) (f .2) _ _ p ok (c .before .before .run-trace .result) (f .3) (c .before .if4 .taken) (c .not-run4 .ensures)
+    ran-refused m _ _ _ _ (f .0) (f .1) (f .2) (c .before .before .run-trace .result) (f .3) (c .before .if4 .taken) (c .not-run2 .ensures)
 
 say-requires : tie.Need-say-requires
 say-requires c κs = search needs
@@ -127,26 +127,26 @@ returns-5 c m b n h p t ok =
     let e = c .before .before .before in
     let f = facts (e .before) m b n h p t ok in
     let s = c .before .say .ensures in
-    ran-accepted m _ _ _ _ (f .0) (f .1) (f .2) _ _ p ok (e .before .run-trace .result) (f .3) (e .if4 .left)
+    ran-accepted m _ _ _ _ (f .0) (f .1) (f .2) (e .before .run-trace .result) (f .3) ok (e .if4 .left)
     (λ d shows low. (record { number = s .0; first = s .1; second = s .2 }, c .record-of .ensures m d b shows low))
 
 pub run-from-spec : {M : Type 1} → statement M
 run-from-spec =
     tie.close
     (tie.spec
-    not-run-requires
+    no-start-requires
     returns
     element-copy-out-if3
-    not-run-requires-2
+    no-start-requires-2
     returns-2
     count-requires
     enum-known-k
-    not-run-requires-3
+    not-run-requires
     returns-3
     enum-told
     cast-run-trace
     run-trace-requires
-    not-run-requires-4
+    not-run-requires-2
     returns-4
     say-requires
     record-of-requires

@@ -47,7 +47,7 @@ facts c m kept fs x =
     let p = l .inv .1 m kept fs x in
     stepped m (a .table) (a .state) (now (a .bytes)) fs (l .run) (l .k) (l .at) (c .step .result) p (x .read) (l .inv .0)
     (c .before .before .loop-test .taken) _ (c .before .numbers-at .result) (c .before .numbers-at .ensures) refl
-    (λ t. c .step .ensures m (p .point) kept (x .count) (x .held) (x .places) (x .table-held) t (p .within) (p .keeps) (p .shows))
+    (λ t. c .step .ensures m (p .point) kept (x .count) (x .held) (x .places) (x .table-held) t (p .reached) (p .shows))
 
 returns : tie.Need-returns Inv-loop μ-loop
 returns c = for-asked _ _ _ _ _ _ _ _ _ _ _
@@ -66,7 +66,7 @@ loop-again : tie.Need-loop-again Inv-loop μ-loop
 loop-again c = (
   omega arith,
   λ m kept fs a.
-      point-next m _ _ fs _ _ _ (facts (c .before .before .before) m kept fs a) _ _ (a .places) (a .checked) (c .if1 .left),
+      point-next m _ _ fs _ _ _ (facts (c .before .before .before) m kept fs a) (a .checked) (c .if1 .left),
 )
 
 returns-2 : tie.Need-returns-2 Inv-loop μ-loop

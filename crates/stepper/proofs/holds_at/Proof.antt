@@ -1,30 +1,24 @@
 -- `stepper::holds_at` meets its contract: it is the look-up.
 use borrow.Author.Needs.{needs}
-use mathlib.Core.Path.{refl}
 use Rattle.stepper.specs.Slices.{holdsAt}
 use Rattle.stepper.proofs.holds_at.Statement.{statement}
 use Rattle.stepper.proofs.holds_at.Tie as tie
 
-cast-result : tie.Need-cast-result
-cast-result c = search needs
+cast-has : tie.Need-cast-has
+cast-has c = search needs
 
-mul-result : tie.Need-mul-result
-mul-result c = search needs
+mul-has : tie.Need-mul-has
+mul-has c = search needs
 
-cast-result-2 : tie.Need-cast-result-2
-cast-result-2 c = search needs
+element-copy-out-has : tie.Need-element-copy-out-has
+element-copy-out-has c = search needs
 
-add-result : tie.Need-add-result
-add-result c = search needs
-
-element-copy-out-result : tie.Need-element-copy-out-result
-element-copy-out-result c = search needs
+has-requires : tie.Need-has-requires
+has-requires c κs = search needs
 
 returns : tie.Need-returns
 unfolding holdsAt
-returns c = refl
+returns c = c .has .ensures
 
 pub holds-at-spec : {M : Type 1} → statement M
-holds-at-spec =
-    tie.close
-    (tie.spec cast-result mul-result cast-result-2 add-result element-copy-out-result returns)
+holds-at-spec = tie.close (tie.spec cast-has mul-has element-copy-out-has has-requires returns)

@@ -33,10 +33,10 @@ judge-requires c κs = search needs
 
 returns : tie.Need-returns
 unfolding stepBy frameOf
-returns c m d kept e held places entries thread within keeps shows =
+returns c m d kept e held places entries thread reached shows =
     let a = c .before .before .before .args in
     refuses m kept (a .holds .now) (a .after .now) (a .guard-of .now) held (a .begins .now) (a .goes-on .now) places d (frameOf (a .frame))
-    (a .run) thread within keeps shows (a .regions) e (a .entries .now) (a .table) entries
+    (a .run) thread reached shows (a .regions) e (a .entries .now) (a .table) entries
     (c .before .judge .result) (number (c .before) thread) (λ (z : c .before .judge .result ≡ 0). omega arith)
 
 advance-requires : tie.Need-advance-requires
@@ -44,11 +44,11 @@ advance-requires c κs = search needs
 
 returns-2 : tie.Need-returns-2
 unfolding stepBy frameOf
-returns-2 c m d kept e held places entries thread within keeps shows =
+returns-2 c m d kept e held places entries thread reached shows =
     let a = c .before .before .before .before .args in
     let moves = slices (a .holds .now) (a .after .now) (a .guard-of .now) [] (a .goes-on .now) 0 in
     takes m kept (a .holds .now) (a .after .now) (a .guard-of .now) held (a .begins .now) (a .goes-on .now) places d (frameOf (a .frame))
-    (a .run) thread within keeps shows (a .regions) e (a .entries .now) (a .table) entries
+    (a .run) thread reached shows (a .regions) e (a .entries .now) (a .table) entries
     (c .before .before .judge .result) (c .advance .result) (number (c .before .before) thread) (c .before .if1 .left)
     (subst
     (λ (f : Frame).

@@ -1,7 +1,7 @@
 -- `tables::fill_after` meets its contract. The loop's invariant: no region below r breaks, and their rows are done. Assumes nothing.
-use Prim.Native.Nat.{ℕ, _+_, _-_, _*_, _%_, _≤_, _<_}
+use Prim.Native.Nat.{ℕ, _+_, _-_, _*_, _≤_, _<_}
 use native.Mathlib.Omega.{arith}
-use mathlib.Core.Path.{_≡_, refl, _∙_}
+use mathlib.Core.Path.{_≡_, _∙_}
 use mathlib.Core.List.{List}
 use lib.ListN.{length, getD}
 use denote.Ref.{now}
@@ -26,11 +26,11 @@ abbrev At : Type 0
 At = tie.After-slice-known2 Inv-loop μ-loop
 
 abbrev loop-of : At → tie.At-loop Inv-loop μ-loop
-loop-of c = c .before .before .before .before .before .before .before
+loop-of c = c .before .before .before .before .before .before
 
 abbrev Fill : tie.At-loop Inv-loop μ-loop → Monitor → Type 0
 Fill c m =
-    let a = c .before .before .before .before .before .before .before .before .before .before .args in
+    let a = c .before .before .before .before .before .before .before .before .before .before .before .before .args in
     Filling m (now (a .kinds)) (now (a .values)) (a .bounds) (a .t4) (a .t5) (a .count) (now (a .kept)) (now (a .holds))
 
 abbrev R : At → ℕ
@@ -40,7 +40,7 @@ abbrev xs : At → List ℕ
 xs c = loop-of c .loop .after
 
 abbrev ys : At → List ℕ
-ys c = c .before .before .after-row .last .1 .1 .1 .1 .1 .1 .0
+ys c = c .before .before .after-row .last .1 .1 .1 .1 .1 .1 .1 .0
 
 abbrev size : At → ℕ
 size c = R c * 4096 + 4096 - R c * 4096
@@ -52,7 +52,7 @@ room : (c : At) → R c * 4096 + size c ≤ length (xs c)
 room c = omega arith
 
 whole : (c : At) → length (ys c) ≡ size c
-whole c = c .before .before .after-row .kept .1 .1 .1 .1 .1 .1 .0 ∙ part-long (xs c) (R c * 4096) (size c) (room c)
+whole c = c .before .before .after-row .kept .1 .1 .1 .1 .1 .1 .1 .0 ∙ part-long (xs c) (R c * 4096) (size c) (room c)
 
 abbrev new : At → List ℕ
 new c = back (xs c) (ys c) (R c) (size c) (is-size c) (room c) (whole c)
@@ -63,16 +63,8 @@ new-long c = back-length (xs c) (ys c) (R c) (size c) (is-size c) (room c) (whol
 row-done : (c : At) (m : Monitor) → Fill (loop-of c) m
     → RowDone (vars m) (m .keep) (region m (R c)) (λ k. getD (ys c) k 0) (c .before .before .after-row .result)
 row-done c m f =
-    let a = loop-of c .before .before .before .before .before .before .before .before .before .before .args in
-    let at = c .before .before .before .before .before .wide in
-    let row = getD (a .t5) (R c) 0 % 16 * 4096 in
-    let k = row + 4096 - row in
-    let e : k ≡ 4096 = omega arith in
-    let fits : row + k ≤ length (now (a .holds)) = omega arith in
-    c .before .before .after-row .ensures (vars m) (m .keep) (region m (R c))
-    (body-of f (R c) (omega arith) (at .result) row k (at .ensures) refl e)
-    (omega (arith, part-long (now (a .holds)) row k fits))
-    (omega (arith, part-long (xs c) (R c * 4096) (size c) (room c), is-size c))
+    let at = c .before .before .before .before .wide in
+    c .before .before .after-row .ensures (vars m) (m .keep) (region m (R c)) (body-of f (R c) (omega arith) (at .result) (at .ensures))
 
 -- the rows before it are as they were
 still : (c : At) (m : Monitor) → Fill (loop-of c) m → (j : ℕ) → j < R c → Done m (new c) j
@@ -80,30 +72,27 @@ still c m f j h =
     below-same (λ s. getD (new c) (j * 4096 + s) 0) (loop-of c .loop .inv .2 m f j h)
     (λ s low. row-before (xs c) (ys c) (R c) (size c) (is-size c) (room c) (whole c) j s h (omega (arith, f .bounded .few-states)))
 
-returns : tie.Need-returns Inv-loop μ-loop
-returns c m ls codes bounded few counted small bodies numbers l₁ l₂ l₃ k h = absurd (omega arith)
-
-returns-2 : tie.Need-returns-2 Inv-loop μ-loop
-returns-2 c m ls codes bounded few counted small bodies numbers l₁ l₂ l₃ k h = absurd (omega arith)
-
-returns-3 : tie.Need-returns-3 Inv-loop μ-loop
-returns-3 c m ls codes bounded few counted small bodies numbers l₁ l₂ l₃ k h = absurd (omega arith)
-
-returns-4 : tie.Need-returns-4 Inv-loop μ-loop
-returns-4 c m ls codes bounded few counted small bodies numbers l₁ l₂ l₃ k h = absurd (omega arith)
-
 loop-holds : tie.Need-loop-holds Inv-loop μ-loop
 loop-holds c = (omega arith, omega arith, λ m f j h. absurd (omega arith))
+
+after-row-requires : tie.Need-after-row-requires Inv-loop μ-loop
+after-row-requires c κs =
+    let g = c .before .before .before in
+    let n = g .loop .r * 4096 in
+    let k = n + 4096 - n in
+    let e : k ≡ 4096 = omega arith in
+    let h : n + k ≤ length (g .loop .after) = omega arith in
+    omega (arith, part-long (g .loop .after) n k h, g)
 
 same-length : tie.Need-same-length Inv-loop μ-loop
 same-length c = new-long (c .before) ∙ loop-of (c .before) .loop .inv .1
 
-returns-5 : tie.Need-returns-5 Inv-loop μ-loop
-returns-5 c m ls codes bounded few counted small bodies numbers l₁ l₂ l₃ k h =
+returns-6 : tie.Need-returns-6 Inv-loop μ-loop
+returns-6 c m ls codes bounded few counted small bodies numbers l₁ l₂ l₃ k h =
     let f : Fill (loop-of (c .before)) m =
     filling m _ _ _ _ _ _ _ _ ls codes bounded few counted small bodies numbers l₁ k h in
     stops m (new (c .before)) (R (c .before)) (c .before .before .before .after-row .result) (λ s. getD (ys (c .before)) s 0) (omega arith)
-    (c .if5 .taken) (row-done (c .before) m f) (still (c .before) m f)
+    (c .if6 .taken) (row-done (c .before) m f) (still (c .before) m f)
 
 loop-again : tie.Need-loop-again Inv-loop μ-loop
 loop-again c =
@@ -112,15 +101,15 @@ loop-again c =
       new-long b ∙ loop-of b .loop .inv .1,
       λ m f.
           passed (Done m (new b)) (R b) (still b m f)
-          (below-same (λ s. getD (new b) (R b * 4096 + s) 0) (row-done b m f .whole (c .if5 .left))
+          (below-same (λ s. getD (new b) (R b * 4096 + s) 0) (row-done b m f .whole (c .if6 .left))
           (λ s low. row-at (xs b) (ys b) (R b) (size b) (is-size b) (room b) (whole b) s (omega (arith, f .bounded .few-states)))),
     )
 
 same-length-2 : tie.Need-same-length-2 Inv-loop μ-loop
 same-length-2 c = c .before .loop .inv .1
 
-returns-6 : tie.Need-returns-6 Inv-loop μ-loop
-returns-6 c m ls codes bounded few counted small bodies numbers l₁ l₂ l₃ k h =
+returns-7 : tie.Need-returns-7 Inv-loop μ-loop
+returns-7 c m ls codes bounded few counted small bodies numbers l₁ l₂ l₃ k h =
     let f : Fill (c .before) m =
     filling m _ _ _ _ _ _ _ _ ls codes bounded few counted small bodies numbers l₁ k h in
     never m (c .before .loop .after) (λ j low. c .before .loop .inv .2 m f j (omega arith))
@@ -131,32 +120,27 @@ fill-after-spec =
     (tie.spec
     Inv-loop
     μ-loop
-    returns
-    returns-2
-    returns-3
-    returns-4
+    (λ c m ls _ _ _ _ _ _ _ l₁ l₂ l₃ k h. absurd (omega arith))
+    (λ c m ls _ _ _ _ _ _ _ l₁ l₂ l₃ k h. absurd (omega arith))
+    (λ c m ls _ _ _ _ _ _ _ l₁ l₂ l₃ k h. absurd (omega arith))
+    (λ c m ls _ _ _ _ small _ _ l₁ l₂ l₃ k h. absurd (omega arith))
+    (λ c m ls _ bounded _ _ _ _ _ l₁ l₂ l₃ k h. absurd (omega (arith, bounded .states, bounded .few-states)))
     loop-holds
     (λ c. omega arith)
     (λ c. omega arith)
     (λ c. omega arith)
     (λ c. omega arith)
-    (λ c. omega arith)
-    (λ c. omega arith)
-    (λ c. omega arith)
-    (λ c. omega arith)
     (λ c κs. tt)
     (λ c. omega arith)
     (λ c. omega arith)
     (λ c. omega arith)
     (λ c. omega arith)
     (λ c. omega arith)
-    (λ c. omega arith)
-    (λ c. omega arith)
-    (λ c κs. tt)
+    after-row-requires
     same-length
-    returns-5
+    returns-6
     (λ c. omega arith)
     (λ c. omega arith)
     loop-again
     same-length-2
-    returns-6)
+    returns-7)

@@ -1,77 +1,88 @@
--- `tables::fill_holds` meets its contract. The loop's invariant: the rows of the guards below g are filled. Assumes nothing.
-use Prim.Native.Nat.{ℕ, _+_, _-_, _*_, _≤_, _<_}
+-- `tables::fill_holds` meets its contract. The loop's invariant: the guards that hold at each state below s are held, and between the
+-- first of sixteen states and the next first what is known is the guards' truth at those. Assumes nothing.
+use Prim.Native.Nat.{ℕ, _-_, _*_, _/_, _≤_, _<_}
 use native.Mathlib.Omega.{arith}
-use mathlib.Core.Path.{_≡_, _∙_}
-use mathlib.Core.List.{List}
-use lib.ListN.{length, getD}
-use Rattle.syntax.specs.Token.{Lexeme}
+use mathlib.Core.Path.{_≡_, refl, _∙_}
+use mathlib.Core.Logic.{⊎-elim}
+use lib.ListN.{length, getD, length-set}
+use denote.Ref.{now}
+use Rattle.sets.specs.Set.{member}
 use Rattle.syntax.specs.Tree.{Monitor}
-use Rattle.machine.specs.Held.{bit}
 use Rattle.meaning.specs.State as state
-use Rattle.meaning.specs.Model.{vars, guards, noGuard}
+use Rattle.meaning.specs.Model.{vars, guards}
 use Rattle.meaning.specs.Model as model
-use Rattle.evaluator.specs.Coding.{Codes}
-use Rattle.variables.specs.Bounded.{Bounded}
-use Rattle.tables.specs.Rows.{TruthRow, GuardsAt, HoldsAll}
-use Rattle.tables.proofs.Laws.{passed}
-use Rattle.tables.proofs.Regions.{part-long, back, back-length, row-before, row-at}
+use Rattle.tables.specs.Rows.{HoldsAll}
+use Rattle.tables.specs.Steps.{Guards, Sixteen, Truths}
+use Rattle.tables.proofs.Laws.{stored, Known, known-first, known-at, known-next}
 use Rattle.tables.proofs.fill_holds.Statement.{statement}
 use Rattle.tables.proofs.fill_holds.Tie as tie
 
 abbrev Inv-loop : tie.InvT-loop
-Inv-loop kinds values bounds count holds₀ ats g₀ holds g =
-    (g ≤ count) × (length holds ≡ length holds₀)
-    × ((m : Monitor) (ls : List Lexeme) → Codes (vars m) ls kinds values → Bounded (vars m) bounds → length ls ≤ 8192
-    → count ≡ length (guards m) → GuardsAt m ls ats → (j : ℕ) → j < g → (s : ℕ) → s < state.count (vars m)
-    → getD holds (j * 4096 + s) 0 ≡ bit (model.holds m j s))
+Inv-loop kinds values bounds ats count holds₀ states known₀ s₀ holds known s =
+    (s ≤ states) × (length holds ≡ length holds₀) × (length known ≡ 16)
+    × ((m : Monitor) → Guards m kinds values bounds ats count
+    → ((k : ℕ) → k < s → k < state.count (vars m) → (g : ℕ) → g < length (guards m) → member (getD holds k 0) g ≡ model.holds m g k)
+    × Known (vars m) (Truths m known) s)
 
 abbrev μ-loop : tie.MeasureT-loop
-μ-loop kinds values bounds count holds₀ ats g₀ holds g = count - g
+μ-loop kinds values bounds ats count holds₀ states known₀ s₀ holds known s = states - s
 
 returns : tie.Need-returns Inv-loop μ-loop
-returns c m ls codes bounded few counted small ats long = absurd (omega arith)
+returns c m given long = absurd (omega (arith, given .bounded .states, given .bounded .few-states))
 
 returns-2 : tie.Need-returns-2 Inv-loop μ-loop
-returns-2 c m ls codes bounded few counted small ats long = absurd (omega arith)
+returns-2 c m given long = absurd (omega (arith, given .bounded .states, given .bounded .few-states))
+
+returns-3 : tie.Need-returns-3 Inv-loop μ-loop
+returns-3 c m given long = absurd (omega (arith, given .few-guards))
 
 loop-holds : tie.Need-loop-holds Inv-loop μ-loop
-loop-holds c = (omega arith, omega arith, λ m ls codes bounded few counted ats j h. absurd (omega arith))
+loop-holds c = (omega arith, omega arith, refl, λ m given. (λ k h. absurd (omega arith), λ n. absurd (omega arith)))
+
+-- what is known of the sixteen states that s is among
+known-long : (c : tie.Joined4 Inv-loop μ-loop) → length (c .if4 .known) ≡ 16
+known-long c =
+    let i = c .before .before .loop in
+    ⊎-elim (λ w. rw (w .6) (w .4 .kept .1 .1 .1 .1 .1 .0 ∙ i .inv .2)) (λ w. rw (w .1) (i .inv .2)) (c .if4 .came)
+
+known-now : (c : tie.Joined4 Inv-loop μ-loop) →
+    let i = c .before .before .loop in
+    let g = c .before .before .before in
+    let a = g .before .before .before .before .before .before .args in
+    (m : Monitor) → Guards m (now (a .kinds)) (now (a .values)) (a .bounds) (a .ats) (a .count)
+    → Sixteen (vars m) (Truths m (c .if4 .known)) (i .s / 16 * 16)
+known-now c m given =
+    let i = c .before .before .loop in
+    ⊎-elim
+    (λ w.
+    rw (w .6)
+    (known-first (i .s) (w .0 .taken) (w .4 .ensures m _ (i .s) given (w .1 .ensures (vars m) (given .bounded)))))
+    (λ w. rw (w .1) (i .inv .3 m given .1 (w .0 .left))) (c .if4 .came)
 
 loop-again : tie.Need-loop-again Inv-loop μ-loop
-unfolding TruthRow GuardsAt model.holds
+unfolding model.holds
 loop-again c =
-    let i = c .before .before .before .before .before .before .loop in
-    let at = c .before .before .before .before .wide in
-    let call = c .before .before .fill-row in
-    let xs = i .holds in
-    let ys = call .last .1 .1 .1 .1 .0 in
-    let n = i .g * 4096 + 4096 - i .g * 4096 in
-    let w : n ≡ 4096 = omega arith in
-    let room : i .g * 4096 + n ≤ length xs = omega arith in
-    let part = part-long xs (i .g * 4096) n room in
-    let whole : length ys ≡ n = call .kept .1 .1 .1 .1 .0 ∙ part in (
+    let i = c .before .before .before .before .loop in (
       omega arith,
-      back-length xs ys (i .g) n w room whole ∙ i .inv .1,
-      λ m ls codes bounded few counted ats.
-          let t = ats (i .g) (omega arith) in
-          passed
-          (λ j. (s : ℕ) → s < state.count (vars m) → getD (back xs ys (i .g) n w room whole) (j * 4096 + s) 0 ≡ bit (model.holds m j s))
-          (i .g)
-          (λ j h s low.
-          row-before xs ys (i .g) n w room whole j s h (omega (arith, bounded .few-states))
-          ∙ i .inv .2 m ls codes bounded few counted ats j h s low)
-          (λ s low.
-          row-at xs ys (i .g) n w room whole s (omega (arith, bounded .few-states))
-          ∙ call .ensures (vars m) ls (t .0) (getD (guards m) (i .g) noGuard) codes bounded (rw (at .ensures) (t .1)) (t .2) few (omega arith) s low),
+      simp length-set (i .inv .1),
+      known-long (c .before .before),
+      λ m given.
+          let known = known-now (c .before .before) m given in (
+            stored (λ k x. k < state.count (vars m) → (g : ℕ) → g < length (guards m) → member x g ≡ model.holds m g k) (i .holds) (i .s)
+                (c .guards-in .result) (omega arith) (i .inv .3 m given .0)
+                (λ low g h. c .guards-in .ensures g (omega (arith, given .counted)) ∙ known-at (i .s) known low g h),
+            known-next (i .s) known,
+          ),
     )
 
 same-length : tie.Need-same-length Inv-loop μ-loop
 same-length c = c .before .loop .inv .1
 
-returns-3 : tie.Need-returns-3 Inv-loop μ-loop
+returns-4 : tie.Need-returns-4 Inv-loop μ-loop
 unfolding HoldsAll
-returns-3 c m ls codes bounded few counted small ats long g s h low =
-    c .before .loop .inv .2 m ls codes bounded few counted ats g (omega arith) s low
+returns-4 c m given long g s h low =
+    let p = c .before in
+    p .loop .inv .3 m given .0 s (omega (arith, given .bounded .states)) low g h
 
 pub fill-holds-spec : {M : Type 1} → statement M
 fill-holds-spec =
@@ -81,18 +92,18 @@ fill-holds-spec =
     μ-loop
     returns
     returns-2
+    returns-3
     loop-holds
+    (λ c κs. omega arith)
+    (λ c. omega (arith, c .before .before .before .before .before .before))
+    (λ c κs. omega (arith, c .before .before .before .before .before .before))
+    (λ c. omega (arith, known-long (c .before)))
+    (λ c. omega arith)
+    (λ c κs. omega (arith, known-long (c .before), c .before .before .before .before))
     (λ c. omega arith)
     (λ c. omega arith)
-    (λ c. omega arith)
-    (λ c. omega arith)
-    (λ c κs. tt)
-    (λ c. omega arith)
-    (λ c. omega arith)
-    (λ c. omega arith)
-    (λ c κs. tt)
     (λ c. omega arith)
     (λ c. omega arith)
     loop-again
     same-length
-    returns-3)
+    returns-4)

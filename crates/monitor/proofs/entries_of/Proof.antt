@@ -1,0 +1,17 @@
+-- `monitor::entries_of` meets its contract: the slices hold the monitor of an accepted file, and so do the entries filled from them.
+-- Assumes nothing.
+use mathlib.Core.Path.{sym}
+use borrow.Author.Needs.{needs}
+use Rattle.meaning.specs.Model.{model}
+use Rattle.monitor.specs.Results.{EntriesOf}
+use Rattle.monitor.proofs.entries_of.Statement.{statement}
+use Rattle.monitor.proofs.entries_of.Tie as tie
+
+returns : tie.Need-returns
+unfolding EntriesOf model
+returns c file loads m e =
+    let x = loads .monitored m e in
+    c .fill-entries .ensures (model m) (sym (x .bounded .states)) (sym (x .region-count)) (sym (x .guard-count)) (x .held)
+
+pub entries-of-spec : {M : Type 1} → statement M
+entries-of-spec = tie.close (tie.spec (λ c κs. search needs) returns)

@@ -1,0 +1,26 @@
+-- `output::runner_lines` meets its contract: a trace is judged by its first 65,536 bytes. Assumes nothing.
+use native.Mathlib.Omega.{arith}
+use lib.ListN.{length-take}
+use borrow.Author.Needs.{needs}
+use Rattle.output.proofs.Laws.{runner-cut}
+use Rattle.output.proofs.runner_lines.Statement.{statement}
+use Rattle.output.proofs.runner_lines.Tie as tie
+
+slice-aggregate-put-runs : tie.Need-slice-aggregate-put-runs
+slice-aggregate-put-runs c = simp length-take (omega arith)
+
+put-runs-requires : tie.Need-put-runs-requires
+put-runs-requires c κs = simp length-take (omega arith)
+
+returns : tie.Need-returns
+returns c = rw (← runner-cut) (c .put-runs .ensures)
+
+pub runner-lines-spec : {M : Type 1} → statement M
+runner-lines-spec =
+    tie.close
+    (tie.spec
+    slice-aggregate-put-runs
+    put-runs-requires
+    returns
+    (λ c κs. search needs)
+    (λ c. search needs))

@@ -1,0 +1,13 @@
+-- What printing into a lent buffer says.
+use Prim.Native.Nat.{ℕ, _≤_}
+use mathlib.Core.Path.{_≡_}
+use mathlib.Core.List.{List, _++_}
+use lib.ListN.{length, take, drop}
+
+-- the lines stand from byte 0 on, the bytes behind them are as they were, and the count is theirs
+pub record Prints (lines before : List ℕ) (n : ℕ) (after : List ℕ) : Type 0 where
+  pub bytes : after ≡ lines ++ drop (length lines) before
+  pub count : n ≡ length lines
+  -- so the first n bytes are in the buffer, as writing them out asks it
+  pub within : n ≤ length after
+  pub part : n ≡ length (take n after)

@@ -1,0 +1,81 @@
+// What the programs print, from byte 0 of a lent buffer; the bytes behind are kept. Each call states every byte, for every input.
+use running::Running;
+ghost use mathlib.Core.Path.{_≡_};
+ghost use mathlib.Core.Bool.{_&&_};
+ghost use Prim.Native.Nat.{_+_, _≤_};
+ghost use lib.ListN.{length};
+ghost use lib.Dec.{ltb};
+ghost use Rattle.meaning.specs.Calls as calls;
+ghost use Rattle.meaning.specs.Lines.{runLine, placer, runner};
+ghost use Rattle.meaning.specs.Widths.{RunFits};
+ghost use Rattle.running.specs.Results.{Runs};
+ghost use Rattle.lines.specs.Written.{Writes};
+ghost use Rattle.output.specs.Printed.{Prints};
+
+// What placer prints of a file: its table, or its refusal's line.
+pub fn placer_lines(file: &[u8], out: &mut [u8; 4096]) -> usize
+    ensures { λ r. ⌜ Prints (placer (now (file .entry))) (now (out .entry)) r (now (out .exit)) ⌝ }
+{
+    put_table(file, out)
+}
+
+// What runner prints of a file and a trace: a line for each machine, or the file's refusal once.
+pub fn runner_lines(file: &[u8], trace: &[u8], out: &mut [u8; 4096]) -> usize
+    ensures { λ r. ⌜ Prints (runner (now (file .entry)) (now (trace .entry))) (now (out .entry)) r (now (out .exit)) ⌝ }
+{
+    if 65536 < trace.len() {
+        return put_runs(file, &trace[..65536], out);
+    }
+    put_runs(file, trace, out)
+}
+
+// The table, or the refusal's line, into a slice.
+fn put_table(file: &[u8], out: &mut [u8]) -> usize
+    requires { ⌜ 4096 ≤ length (now out) ⌝ }
+    ensures { λ r. ⌜ Prints (placer (now (file .entry))) (now (out .entry)) r (now (out .exit)) ⌝ }
+{
+    let placing = monitor::place(file, out);
+    let answer = placing.answer;
+    if answer.number == 0 {
+        return placing.length;
+    }
+    lines::put_answer(out, 0, answer.number, answer.first, answer.second)
+}
+
+// A trace of at most 65,536 bytes: the plain machine's line, and the table's unless the file is refused.
+fn put_runs(file: &[u8], trace: &[u8], out: &mut [u8]) -> usize
+    requires { ⌜ (length (now trace) ≤ 65536) × (4096 ≤ length (now out)) ⌝ }
+    ensures { λ r. ⌜ Prints (runner (now (file .entry)) (now (trace .entry))) (now (out .entry)) r (now (out .exit)) ⌝ }
+{
+    let both = monitor::run_both_from_start(file, trace);
+    let plain = both.plain;
+    let table = both.table;
+    let next = put_running(out, 0, plain);
+    let answer = plain.answer;
+    if is_of_file(answer.number) {
+        return next;
+    }
+    put_running(out, next, table)
+}
+
+// Is a number one of a file's refusals?
+fn is_of_file(number: u8) -> bool
+    ensures { λ r. ⌜ r ≡ ltb 0 number && ltb number 10 ⌝ }
+{
+    (0 < number) & (number < 10)
+}
+
+// A machine's line at a place of the buffer: its refusal, or its record.
+fn put_running(out: &mut [u8], at: usize, running: Running) -> usize
+    ensures { λ r. ⌜ ((x : calls.Running) → Runs x running → RunFits x → at + 47 ≤ length (now (out .entry))
+        → Writes (runLine x) (now (out .entry)) at r (now (out .exit))) ⌝ }
+{
+    let answer = running.answer;
+    if answer.number != 0 {
+        return lines::put_answer(out, at, answer.number, answer.first, answer.second);
+    }
+    let record = running.record;
+    let values = record.values;
+    let threads = record.threads;
+    lines::put_record(out, at, record.vars, values, threads)
+}
