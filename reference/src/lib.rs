@@ -32,6 +32,9 @@ pub mod lines;
 pub mod cases;
 pub mod tally;
 
+// Hostile input, and the programs compared on it.
+pub mod hostile;
+
 pub use answer::Answer;
 pub use check::check;
 pub use machines::{run, Machine, Place, Record};

@@ -2,17 +2,23 @@
 
 use std::fs;
 use std::io::{self, Read, Write};
+use std::num::ParseIntError;
 use std::path::Path;
 use std::process::ExitCode;
+use std::str::FromStr;
 
 use reference::cases::{write_cases, Size};
+use reference::hostile::compare::{compare, Plan};
+use reference::hostile::Bases;
 use reference::{lines, tally};
 
 const USAGE: &str = "usage:
   reference placer < FILE
   reference runner DIR
   reference cases SEED COUNT DIR [small]
-  reference tally DIR";
+  reference tally DIR
+  reference hostile-cases SEED COUNT DIR
+  reference hostile SEED COUNT WORKERS PROGRAMS KEPT [UNDER..]";
 
 fn main() -> ExitCode {
     let arguments: Vec<String> = std::env::args().skip(1).collect();
@@ -23,6 +29,10 @@ fn main() -> ExitCode {
         ["cases", seed, count, directory] => cases(seed, count, directory, Size::FULL),
         ["cases", seed, count, directory, "small"] => cases(seed, count, directory, Size::SMALL),
         ["tally", directory] => tally(Path::new(directory)),
+        ["hostile-cases", seed, count, directory] => hostile_cases(seed, count, directory),
+        ["hostile", seed, count, workers, programs, kept, ref under @ ..] => {
+            hostile(seed, count, workers, programs, kept, under)
+        }
         _ => Err(io::Error::other(USAGE)),
     };
     match done {
@@ -55,11 +65,46 @@ fn read_or_empty(path: &Path) -> io::Result<Vec<u8>> {
 }
 
 fn cases(seed: &str, count: &str, directory: &str, size: Size) -> io::Result<()> {
-    let seed = seed.parse().map_err(io::Error::other)?;
-    let count = count.parse().map_err(io::Error::other)?;
-    write_cases(seed, count, Path::new(directory), size)
+    write_cases(parsed(seed)?, parsed(count)?, Path::new(directory), size)
+}
+
+fn parsed<T: FromStr<Err = ParseIntError>>(number: &str) -> io::Result<T> {
+    number.parse().map_err(io::Error::other)
 }
 
 fn tally(directory: &Path) -> io::Result<()> {
     io::stdout().write_all(tally::tally(directory)?.as_bytes())
+}
+
+fn hostile_cases(seed: &str, count: &str, directory: &str) -> io::Result<()> {
+    let mut bases = Bases::of(parsed(seed)?);
+    for number in 0..parsed(count)? {
+        bases.input(number).write(Path::new(directory), number)?;
+    }
+    Ok(())
+}
+
+/// Fails when the programs differ anywhere.
+fn hostile(
+    seed: &str,
+    count: &str,
+    workers: &str,
+    programs: &str,
+    kept: &str,
+    under: &[&str],
+) -> io::Result<()> {
+    let plan = Plan {
+        seed: parsed(seed)?,
+        count: parsed(count)?,
+        workers: parsed(workers)?,
+        programs: fs::canonicalize(programs)?,
+        kept: kept.into(),
+        under: under.iter().map(|word| word.to_string()).collect(),
+    };
+    let outcome = compare(&plan)?;
+    print!("{}", outcome.text());
+    match outcome.is_good(&plan) {
+        true => Ok(()),
+        false => Err(io::Error::other("the programs differ, or not all inputs were run")),
+    }
 }

@@ -63,9 +63,23 @@ impl Size {
     };
 }
 
+#[derive(Clone)]
 pub struct Case {
     pub monitor: Vec<u8>,
     pub trace: Vec<u8>,
+}
+
+impl Case {
+    /// Writes the case with this number to a directory of its own, with the
+    /// expected lines.
+    pub fn write(&self, directory: &Path, number: usize) -> io::Result<()> {
+        let to = directory.join(format!("{number:05}"));
+        fs::create_dir_all(&to)?;
+        fs::write(to.join("monitor.txt"), &self.monitor)?;
+        fs::write(to.join("trace.txt"), &self.trace)?;
+        fs::write(to.join("placer.txt"), placer(&self.monitor))?;
+        fs::write(to.join("runner.txt"), runner(&self.monitor, &self.trace))
+    }
 }
 
 /// What a case is made for.
@@ -301,16 +315,7 @@ fn long_trace(draws: &mut Draws, size: Size) -> Case {
     }
 }
 
-/// Writes the cases, each in a directory of its own, with the expected lines.
+/// Writes the cases, each in a directory of its own.
 pub fn write_cases(seed: u64, count: usize, directory: &Path, size: Size) -> io::Result<()> {
-    for number in 0..count {
-        let case = make_case(seed, number, size);
-        let to = directory.join(format!("{number:05}"));
-        fs::create_dir_all(&to)?;
-        fs::write(to.join("monitor.txt"), &case.monitor)?;
-        fs::write(to.join("trace.txt"), &case.trace)?;
-        fs::write(to.join("placer.txt"), placer(&case.monitor))?;
-        fs::write(to.join("runner.txt"), runner(&case.monitor, &case.trace))?;
-    }
-    Ok(())
+    (0..count).try_for_each(|number| make_case(seed, number, size).write(directory, number))
 }

@@ -1,0 +1,17 @@
+-- `panel::threads::called` is safe and ends: the measure is the threads that are left.
+-- Assumes nothing.
+use borrow.Author.Needs.{needs}
+use Prim.Native.Nat.{_≤_, _-_}
+use Rattle.panel.proofs.threads.called.Statement.{statement}
+use Rattle.panel.proofs.threads.called.Tie as tie
+
+abbrev Inv-loop : tie.InvT-loop
+Inv-loop sheet guard threads notified t₀ t = t ≤ 16
+
+abbrev μ-loop : tie.MeasureT-loop
+μ-loop sheet guard threads notified t₀ t = 16 - t
+
+pub called-spec : {M : Type 1} → statement M
+called-spec =
+    tie.close
+    (tie.spec Inv-loop μ-loop (λ c. search needs) (λ c κs. search needs) (λ c. search needs) (λ c. search needs) (λ c. search needs) (λ c. search needs) (λ c. search needs))

@@ -1,0 +1,511 @@
+//! Damaged files.
+
+use super::{about, any_kind, Source};
+use crate::cases::damage::{any_bytes, damage_bytes, damage_tokens};
+use crate::cases::draws::Draws;
+use crate::cases::words::{blanks, integer, laid_out, words, Layout, Words};
+use crate::limits::{
+    MOST_BYTES, MOST_DEPTH, MOST_METHODS, MOST_REGIONS, MOST_TOKENS, MOST_VARIABLES,
+};
+use crate::ranges::{HIGHEST, LOWEST, MOST_STATES};
+use crate::tokens::{is_blank, tokens, LONGEST_NUMBER, LONGEST_WORD, MARKS, RESERVED};
+
+/// What is done to a file.
+#[derive(Clone, Copy)]
+enum Kind {
+    /// Nothing: the trace alone is hostile.
+    Whole,
+    /// Another case of the generator, refused or not.
+    Other,
+    /// Single bytes flipped, removed, inserted, swapped, or the file cut off there.
+    Bytes,
+    /// Runs of bytes removed, doubled, moved; two files joined.
+    Parts,
+    /// Other blanks, and bytes that look like blanks and are none.
+    Blanks,
+    /// Single tokens removed, inserted, swapped, doubled, replaced.
+    Tokens,
+    /// Runs of tokens doubled, moved, put in any order.
+    Phrases,
+    /// A token for another one that may stand in its place.
+    Meaning,
+    /// A name for another one of the file, or for one that is nearly the same.
+    Names,
+    /// Another kept condition, or statements that may leave a range.
+    Claims,
+    /// Long runs of brackets, `!`, `||`, statements and the like.
+    Runs,
+    /// Words and numbers about their greatest length, or nearly reserved.
+    Spelling,
+    /// Ranges about -128 to 127, and about 4,096 states.
+    Ranges,
+    /// About 6 variables, 8 methods, 16 regions.
+    Declarations,
+    /// Filled up to about 8,192 bytes, or far more.
+    Length,
+    /// Any bytes, any bytes of tokens, any tokens.
+    Any,
+}
+
+const SHARES: [(Kind, usize); 16] = [
+    (Kind::Whole, 28),
+    (Kind::Other, 3),
+    (Kind::Bytes, 5),
+    (Kind::Parts, 4),
+    (Kind::Blanks, 2),
+    (Kind::Tokens, 5),
+    (Kind::Phrases, 3),
+    (Kind::Meaning, 11),
+    (Kind::Names, 4),
+    (Kind::Claims, 8),
+    (Kind::Runs, 11),
+    (Kind::Spelling, 5),
+    (Kind::Ranges, 4),
+    (Kind::Declarations, 4),
+    (Kind::Length, 4),
+    (Kind::Any, 3),
+];
+
+/// The file with damage of one kind, or now and then of two.
+pub fn hostile(draws: &mut Draws, source: &mut Source, file: Vec<u8>) -> Vec<u8> {
+    let mut file = damaged(draws, source, file);
+    if draws.chance(15) {
+        file = damaged(draws, source, file);
+    }
+    file
+}
+
+fn damaged(draws: &mut Draws, source: &mut Source, mut file: Vec<u8>) -> Vec<u8> {
+    let on_tokens = match any_kind(draws, &SHARES) {
+        Kind::Whole => return file,
+        Kind::Other => return source.any(draws).monitor,
+        Kind::Bytes => {
+            for _ in 0..draws.pick(&[1, 1, 1, 2, 3, 8]) {
+                damage_bytes(draws, &mut file);
+            }
+            return file;
+        }
+        Kind::Parts => {
+            parts(draws, source, &mut file);
+            return file;
+        }
+        Kind::Blanks => {
+            other_blanks(draws, &mut file);
+            return file;
+        }
+        Kind::Length => {
+            filled(draws, &mut file);
+            return file;
+        }
+        Kind::Any => {
+            let most = draws.pick(&[20, 300, 300, 9_000]);
+            return any_bytes(draws, most);
+        }
+        Kind::Tokens => damage_some_tokens,
+        Kind::Phrases => phrases,
+        Kind::Meaning => other_meaning,
+        Kind::Names => names,
+        Kind::Claims => claims,
+        Kind::Runs => runs,
+        Kind::Spelling => spelling,
+        Kind::Ranges => other_ranges,
+        Kind::Declarations => declarations,
+    };
+    let mut file = words_of(&file);
+    if !file.is_empty() {
+        on_tokens(draws, &mut file);
+    }
+    let layout = draws.pick(&[Layout::Tight, Layout::Single, Layout::Loose]);
+    laid_out(draws, &file, layout)
+}
+
+/// The tokens of a file; none if it cannot be cut into tokens.
+fn words_of(file: &[u8]) -> Words {
+    let tokens = tokens(file).unwrap_or_default();
+    tokens.into_iter().map(|token| String::from_utf8(token.text).expect("ASCII")).collect()
+}
+
+/// A run of a list, as two places in it.
+fn any_run(draws: &mut Draws, length: usize) -> (usize, usize) {
+    let start = draws.count(0, length);
+    let most = draws.pick(&[4, 40, length]).min(length - start);
+    (start, start + draws.count(0, most))
+}
+
+fn parts(draws: &mut Draws, source: &mut Source, file: &mut Vec<u8>) {
+    let (start, end) = any_run(draws, file.len());
+    let run = file[start..end].to_vec();
+    let place = draws.count(0, file.len());
+    match draws.below(7) {
+        0 => drop(file.drain(start..end)),
+        1 => drop(file.splice(end..end, run)),
+        2 => drop(file.splice(place..place, run)),
+        3 => file[start..end].reverse(),
+        4 => file[start..end].fill(draws.byte()),
+        5 => file.extend(source.any(draws).monitor),
+        _ => {
+            // The head of one file and the tail of another.
+            let other = source.any(draws).monitor;
+            let from = draws.count(0, other.len());
+            file.truncate(place);
+            file.extend(&other[from..]);
+        }
+    }
+}
+
+fn other_blanks(draws: &mut Draws, file: &mut Vec<u8>) {
+    let places: Vec<usize> = (0..file.len()).filter(|place| is_blank(file[*place])).collect();
+    let blank = draws.pick(b"\t\n\r\x00\x08\x0B\x0B\x0C\x0E\x1F\x7F\x85\xA0");
+    match draws.below(4) {
+        // All of them, or one.
+        0 => places.into_iter().for_each(|place| file[place] = blank),
+        1 if !places.is_empty() => file[draws.pick(&places)] = blank,
+        2 => file.push(blank),
+        _ => file.insert(0, blank),
+    }
+}
+
+/// Fills a file up with blanks, with bytes of tokens or with any bytes.
+fn filled(draws: &mut Draws, file: &mut Vec<u8>) {
+    let length = match draws.below(8) {
+        0 => draws.count(MOST_BYTES, 70_000),
+        _ => about(draws, MOST_BYTES),
+    };
+    let missing = length.saturating_sub(file.len());
+    let filler = match draws.below(6) {
+        0 => vec![draws.byte(); missing],
+        1 => (0..missing).map(|_| draws.byte()).collect(),
+        2 => (0..missing).map(|_| draws.pick(b"{}();=!<>+- \n")).collect(),
+        _ => blanks(draws, missing),
+    };
+    // At an end, or where two tokens may have a blank between them.
+    let gaps: Vec<usize> = (0..file.len()).filter(|at| b"{};".contains(&file[*at])).collect();
+    let place = match draws.below(3) {
+        0 => 0,
+        1 if !gaps.is_empty() => draws.pick(&gaps),
+        _ => file.len(),
+    };
+    file.splice(place..place, filler);
+}
+
+fn damage_some_tokens(draws: &mut Draws, file: &mut Words) {
+    for _ in 0..draws.pick(&[1, 1, 1, 2, 5]) {
+        damage_tokens(draws, file);
+    }
+}
+
+fn phrases(draws: &mut Draws, file: &mut Words) {
+    let (start, end) = any_run(draws, file.len());
+    let run = file[start..end].to_vec();
+    match draws.below(5) {
+        0 => drop(file.drain(start..end)),
+        1 => drop(file.splice(end..end, run)),
+        2 => {
+            let place = draws.count(0, file.len());
+            file.splice(place..place, run);
+        }
+        3 => file[start..end].reverse(),
+        _ => {
+            for place in start..end {
+                let other = draws.count(start, end - 1);
+                file.swap(place, other);
+            }
+        }
+    }
+}
+
+/// The names that a file declares as variables.
+fn variables_of(file: &Words) -> Words {
+    let declared = file.windows(2).filter(|pair| pair[0] == "var");
+    declared.map(|pair| pair[1].clone()).collect()
+}
+
+fn other_meaning(draws: &mut Draws, file: &mut Words) {
+    let variables = variables_of(file);
+    let sorts: [&[&str]; 4] =
+        [&["==", "!=", "<", "<=", ">", ">="], &["+", "-"], &["&&", "||"], &["true", "false"]];
+    for _ in 0..draws.pick(&[1, 1, 2, 4]) {
+        let place = draws.below(file.len());
+        let token = file[place].clone();
+        if let Some(sort) = sorts.iter().find(|sort| sort.contains(&token.as_str())) {
+            file[place] = draws.pick(sort).into();
+        } else if token.parse::<u32>().is_ok() {
+            file[place] = draws.pick(&["0", "1", "2", "3", "10", "63", "127", "128"]).into();
+        } else if variables.contains(&token) {
+            file[place] = draws.pick(&variables);
+        }
+    }
+}
+
+fn is_name(token: &str) -> bool {
+    token.as_bytes()[0].is_ascii_alphabetic() && !RESERVED.contains(&token)
+}
+
+fn names(draws: &mut Draws, file: &mut Words) {
+    let places: Vec<usize> = (0..file.len()).filter(|place| is_name(&file[*place])).collect();
+    if places.is_empty() {
+        return;
+    }
+    let [place, other] = [0, 1].map(|_| draws.pick(&places));
+    let [name, other] = [place, other].map(|place| file[place].clone());
+    match draws.below(5) {
+        0 => file[place] += draws.pick(&["_", "0", "a"]),
+        1 => file[place] = draws.pick(&["True", "Keep", "x", "IN"]).into(),
+        2 => file[place] = other,
+        // Two names that differ in their last byte alone, everywhere.
+        _ => {
+            let stem = "n".repeat(draws.pick(&[1, 8, LONGEST_WORD - 2, LONGEST_WORD - 1]));
+            for token in file {
+                if *token == name {
+                    *token = format!("{stem}1");
+                } else if *token == other {
+                    *token = format!("{stem}2");
+                }
+            }
+        }
+    }
+}
+
+const KEPT: [&str; 7] = [
+    "false",
+    "NAME > 0",
+    "NAME < 1",
+    "NAME == - 128",
+    "NAME != NAME",
+    "! ( NAME < 2 )",
+    "NAME < 127",
+];
+
+const STATEMENTS: [&str; 7] = [
+    "NAME := NAME + 1 ;",
+    "NAME := NAME - 1 ;",
+    "NAME := 127 ;",
+    "NAME := - 128 ;",
+    "NAME := NAME + 999 - 999 ;",
+    "if ( NAME < 1 ) { NAME := NAME + 1 ; }",
+    "if ( NAME > 0 ) { NAME := NAME - 1 ; } else { NAME := 0 ; }",
+];
+
+fn claims(draws: &mut Draws, file: &mut Words) {
+    let name = draws.pick(&[variables_of(file), words("x")].concat());
+    let kept = file.iter().position(|token| token == "keep");
+    match kept {
+        Some(place) if draws.chance(50) => {
+            let length = file[place..].iter().position(|token| token == ";").unwrap_or(1);
+            let condition = words(&draws.pick(&KEPT).replace("NAME", &name));
+            file.splice(place + 1..place + length, condition);
+        }
+        _ => {
+            let places = body_places(file);
+            let place = if places.is_empty() { file.len() } else { draws.pick(&places) };
+            let statement = words(&draws.pick(&STATEMENTS).replace("NAME", &name));
+            file.splice(place..place, statement);
+        }
+    }
+}
+
+/// A run of something many times over: what is repeated, what stands behind it, what
+/// closes each, and what joins all of it to what follows. NAME is a variable.
+type Run = [&'static str; 4];
+
+const CONDITION_RUNS: [Run; 6] = [
+    ["!", "", "", ""],
+    ["true ||", "", "", ""],
+    ["false ||", "", "", ""],
+    ["! NAME != NAME &&", "", "", ""],
+    ["(", "true", ")", "&&"],
+    ["! (", "false || NAME == NAME", ")", "||"],
+];
+
+/// Sums that leave sixteen bits.
+const SUM_CONDITION_RUNS: [Run; 3] = [
+    ["999 +", "NAME > 127", "", "&&"],
+    ["- 999", "< NAME", "", "&&"],
+    ["999 +", "0 < 0", "", "||"],
+];
+
+/// The same, and they come back.
+const SUM_RUNS: [Run; 2] = [["999 +", "0", "- 999", "+"], ["- 999", "- 0", "+ 999", "+"]];
+
+const BODY_RUNS: [Run; 4] = [
+    ["NAME := NAME ;", "", "", ""],
+    ["if ( true ) { } else { }", "", "", ""],
+    ["if ( true ) {", "NAME := NAME ;", "}", ""],
+    ["if ( NAME < NAME ) { } else {", "", "}", ""],
+];
+
+fn runs(draws: &mut Draws, file: &mut Words) {
+    let (run, places) = match draws.below(10) {
+        0..=2 => (draws.pick(&CONDITION_RUNS), condition_places(file)),
+        3 => (draws.pick(&SUM_CONDITION_RUNS), condition_places(file)),
+        4 => (draws.pick(&SUM_RUNS), places_behind(file, &[":="])),
+        5..=7 => (draws.pick(&BODY_RUNS), body_places(file)),
+        8 => ([draws.pick(&MARKS), "", "", ""], Vec::new()),
+        _ => ([draws.pick(&RESERVED), "", "", ""], Vec::new()),
+    };
+    let name = variables_of(file).first().cloned().unwrap_or("x".into());
+    let [repeated, middle, closing, end] = run.map(|text| words(&text.replace("NAME", &name)));
+    let others = file.len() + middle.len() + end.len();
+    let room = MOST_TOKENS.saturating_sub(others) / (repeated.len() + closing.len());
+    let depth = MOST_DEPTH as usize;
+    let nests = [words(")"), words("}")].contains(&closing);
+    let times = match draws.below(6) {
+        0 => draws.count(1, depth + 2),
+        1..=4 if nests => draws.count(depth - 4, depth),
+        1 => draws.count(1, 200),
+        2..=4 => (room + draws.below(3)).saturating_sub(1),
+        _ => room + draws.count(1, 1_000),
+    };
+    let place = if places.is_empty() { draws.count(0, file.len()) } else { draws.pick(&places) };
+    let run = [vec![repeated; times].concat(), middle, vec![closing; times].concat(), end];
+    file.splice(place..place, run.concat());
+}
+
+/// The places behind one of these runs of tokens.
+fn places_behind(file: &Words, runs: &[&str]) -> Vec<usize> {
+    let is_behind = |place: &usize| runs.iter().any(|run| file[..*place].ends_with(&words(run)));
+    (0..file.len()).filter(is_behind).collect()
+}
+
+/// Where conditions begin.
+fn condition_places(file: &Words) -> Vec<usize> {
+    places_behind(file, &["keep", "waituntil (", "if ("])
+}
+
+/// Where bodies and the blocks of an `if` begin.
+fn body_places(file: &Words) -> Vec<usize> {
+    places_behind(file, &[") {"])
+}
+
+fn spelling(draws: &mut Draws, file: &mut Words) {
+    let is_wanted: fn(&str) -> bool = match draws.below(4) {
+        0 | 1 => is_name,
+        2 => |token| token.as_bytes()[0].is_ascii_digit(),
+        _ => |_| true,
+    };
+    let places: Vec<usize> = (0..file.len()).filter(|place| is_wanted(&file[*place])).collect();
+    if places.is_empty() {
+        return;
+    }
+    let place = draws.pick(&places);
+    let token = file[place].clone();
+    let first = token.as_bytes()[0];
+    let longest = if first.is_ascii_digit() { LONGEST_NUMBER } else { LONGEST_WORD };
+    let missing = about(draws, longest).saturating_sub(token.len());
+    let spelled = if first.is_ascii_digit() {
+        match draws.chance(70) {
+            true => "0".repeat(missing) + &token,
+            false => draws.pick(&["0", "000", "127", "128", "129", "255", "256", "999"]).into(),
+        }
+    } else if first.is_ascii_alphabetic() {
+        match draws.below(8) {
+            0 => token.to_uppercase(),
+            1 => token[..token.len() - 1].into(),
+            2 => token.clone() + draws.pick(&["_", "0", "x", "E"]),
+            3 => draws.pick(&RESERVED).to_string() + draws.pick(&["", "_", "1", "s"]),
+            _ => token.clone() + &draws.pick(&["_", "0", "Z"]).repeat(missing),
+        }
+    } else {
+        token.clone() + draws.pick(&["=", ".", "&", "|", "-", "!"])
+    };
+    // Everywhere, or here alone.
+    let everywhere = draws.chance(70) && !RESERVED.contains(&token.as_str());
+    for (at, word) in file.iter_mut().enumerate() {
+        if at == place || everywhere && *word == token {
+            *word = spelled.clone();
+        }
+    }
+}
+
+/// A variable of the file: where its declaration stands, and its numbers.
+struct Declared {
+    place: usize,
+    length: usize,
+    start: i64,
+    lowest: i64,
+    highest: i64,
+}
+
+fn declared(file: &Words) -> Vec<Declared> {
+    let places = (0..file.len()).filter(|place| file[*place] == "var");
+    let declared = places.map(|place| {
+        // In a damaged file another `var` may come before the `;`.
+        let behind = &file[place + 1..];
+        let end = behind.iter().position(|token| [";", "var"].contains(&&token[..]));
+        let length = 1 + end.unwrap_or(behind.len());
+        let tokens = &file[place..place + length];
+        let parts = tokens.split(|token| ["=", "in", ".."].contains(&&token[..]));
+        let numbers: Vec<Words> = parts.skip(1).map(|part| part.to_vec()).collect();
+        let number = |index: usize| {
+            let text = numbers.get(index).map(|number| number.concat()).unwrap_or_default();
+            text.parse::<i16>().map_or(0, i64::from)
+        };
+        Declared { place, length, start: number(0), lowest: number(1), highest: number(2) }
+    });
+    declared.collect()
+}
+
+fn other_ranges(draws: &mut Draws, file: &mut Words) {
+    let mut variables = declared(file);
+    if draws.chance(50) {
+        widen(draws, &mut variables);
+    } else if !variables.is_empty() {
+        let number = draws.below(variables.len());
+        let variable = &mut variables[number];
+        let [low, high] = [LOWEST, HIGHEST];
+        match draws.below(4) {
+            0 => variable.lowest = draws.pick(&[low - 1, low, -1, 0, 1, high, -999]),
+            1 => variable.highest = draws.pick(&[high + 1, high, 1, 0, -1, low, 999]),
+            2 => variable.start = draws.pick(&[variable.lowest - 1, variable.highest + 1]),
+            _ => (variable.lowest, variable.highest) = (low, high),
+        }
+    }
+    // From the last one on: what stands before it keeps its place.
+    for Declared { place, length, start, lowest, highest } in variables.into_iter().rev() {
+        let name = file.get(place + 1).cloned().unwrap_or_default();
+        let [start, lowest, highest] =
+            [start, lowest, highest].map(|number| integer(draws, number).join(" "));
+        let range = words(&format!("var {name} = {start} in {lowest} .. {highest}"));
+        file.splice(place..place + length, range);
+    }
+}
+
+/// Wider ranges around the old ones, mostly with 4,096 states or just more.
+fn widen(draws: &mut Draws, variables: &mut [Declared]) {
+    let size_of = |variable: &Declared| (variable.highest - variable.lowest + 1).clamp(1, 256);
+    let mut sizes: Vec<usize> =
+        variables.iter().map(|variable| (size_of(variable) as usize).next_power_of_two()).collect();
+    let states =
+        |sizes: &[usize]| sizes.iter().fold(1, |all: usize, size| all.saturating_mul(*size));
+    while states(&sizes) < MOST_STATES && sizes.iter().any(|size| *size < 256) {
+        let number = draws.below(sizes.len());
+        sizes[number] = (2 * sizes[number]).min(256);
+    }
+    for (variable, size) in variables.iter_mut().zip(sizes) {
+        let size = size as i64 + i64::from(draws.chance(10));
+        variable.lowest = LOWEST.max(variable.highest + 1 - size).min(variable.lowest);
+        variable.highest = variable.highest.max(variable.lowest + size - 1);
+    }
+}
+
+fn declarations(draws: &mut Draws, file: &mut Words) {
+    let count_of = |word: &str| file.iter().filter(|token| *token == word).count();
+    let (kind, most, before) = draws.pick(&[
+        ("var", MOST_VARIABLES, "keep"),
+        ("method", MOST_METHODS, "method"),
+        ("waituntil", MOST_REGIONS, "waituntil"),
+    ]);
+    let missing = about(draws, most).saturating_sub(count_of(kind));
+    for number in 0..missing {
+        let places: Vec<usize> = (0..file.len()).filter(|at| file[*at] == before).collect();
+        let place = if places.is_empty() { file.len() } else { draws.pick(&places) };
+        let guard = draws.pick(&["true", "false", "0 < 1", "00 < 001", "! true"]);
+        let region = format!("waituntil ( {guard} ) {{ }}");
+        let added = match kind {
+            "var" => format!("var v{number} = 0 in 0 .. {} ;", draws.below(3)),
+            "method" => format!("method q{number} {{ {region} }}"),
+            _ => region,
+        };
+        file.splice(place..place, words(&added));
+    }
+}
