@@ -1,6 +1,6 @@
 -- What an answer of the code says: document 01's number and places.
 use mathlib.Core.Path.{_≡_}
-use Rattle.meaning.specs.Check.{Answer, answer, Verdict, accepted, refused}
+use Rattle.meaning.specs.Answer.{Answer, answer, Verdict, accepted, refused}
 use Rattle.answers.specs.declared.Answer as code
 
 pub record Says (r : code.Answer) (a : Answer) : Type 0 where

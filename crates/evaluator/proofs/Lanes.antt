@@ -10,7 +10,7 @@ use lib.ListN.{length, getD, set, replicate, length-set, length-replicate}
 use lib.Seq.{getD-set-same, getD-set-other, ext-getD}
 use borrow.Author.Tests.{eqb-true, eqb-false, lt-ltb, le-ltb, ltb-true, ltb-false}
 use Rattle.sets.specs.Set.{member}
-use Rattle.sets.specs.SetLaws.{member-none}
+use Rattle.sets.proofs.SetLaws.{member-none}
 use Rattle.evaluator.specs.Coding.{lane}
 
 -- the lanes before j are stored, and each holds what it has to

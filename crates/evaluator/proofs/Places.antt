@@ -10,7 +10,7 @@ use mathlib.Core.List.{List, [], _∷_, _++_, map}
 use mathlib.Core.Option.{some}
 use lib.ListN.{length, getD, drop, getElem?, length-map, length-drop, length-append, List·getD-eq-default}
 use Rattle.syntax.specs.Token.{Lexeme, name, number}
-use Rattle.syntax.specs.Kind.{kindOf}
+use Rattle.syntax.specs.Held.Kind.{kindOf}
 use Rattle.syntax.specs.Tree.{Var}
 use Rattle.evaluator.specs.Coding.{Kinds, Codes, slotOf}
 use Rattle.evaluator.specs.Steps.{Next, frontKind}

@@ -12,11 +12,11 @@ use lib.ListN.{length, getD, drop, replicate, getD-replicate}
 use lib.IntN.{ℤ, pos, negℤ, _-ℤ_, +ℤ-idl}
 use borrow.Author.Tests.{eqb-false}
 use Rattle.syntax.specs.Token.{Lexeme, mark, key, Mark, markNumber, keywordNumber, rparen, and-and, or-or, semicolon, k-true, k-false}
-use Rattle.syntax.specs.Kind.{kindOf}
+use Rattle.syntax.specs.Held.Kind.{kindOf}
 use Rattle.syntax.specs.Tree.{Var, plain, negated, Atom, literal, variable, Sign, added, taken, Term, Expr, Comparison, eq, ne, lt, le, gt, ge, only, or, just, and, Simple, negation, bracketed, constant, compare, each, spellInt, spellAtom, signMark, spellTerm, spellExpr, comparisonMark, spellConstant, spellCond, spellConj, spellSimple}
 use Rattle.meaning.specs.Value.{intOf, atomValue, joined, termsValue, exprValue, compares, truth, conjTruth, simpleTruth}
 use Rattle.evaluator.specs.Coding.{Codes, EndsCond, lane}
-use Rattle.meaning.specs.Biased.{Biased}
+use Rattle.meaning.specs.Held.{Biased}
 use Rattle.evaluator.specs.Steps.{Next, frontKind, EndsAtom, EndsExpr, EndsConj, EndsWhole, operand, AtomRead, worth, signOf, Near, Sums, TermRead, ExprRead, testOf, Truths, spellCompared, comparedTruth, CompareRead, SimpleRead, ConjRead, CondRead}
 use Rattle.evaluator.proofs.Numbers.{compares-worth, joined-zero, joined-parts}
 use Rattle.evaluator.proofs.Places.{front-is, behind, number-at, name-at, apart, kind-within}

@@ -8,11 +8,11 @@ use mathlib.Core.Option.{Option, none, some}
 use lib.ListN.{length, getD, drop, replicate, length-drop, length-append, getD-replicate}
 use lib.IntN.{ℤ}
 use Rattle.syntax.specs.Token.{Lexeme, key, mark, markNumber, keywordNumber, rbrace, rparen, semicolon, k-else}
-use Rattle.syntax.specs.Kind.{kindOf}
+use Rattle.syntax.specs.Held.Kind.{kindOf}
 use Rattle.syntax.specs.Tree.{Var, Cond, Block, end, then, Stmt, assign, if-then, if-else, spellExpr, spellBlock, spellStmt}
 use Rattle.meaning.specs.Value.{truth, assigned, andThen, runBlock, runStmt}
 use Rattle.evaluator.specs.Coding.{Codes, RunAs, lane}
-use Rattle.meaning.specs.Biased.{Biased, Ranges}
+use Rattle.meaning.specs.Held.{Biased, Ranges}
 use Rattle.evaluator.specs.Steps.{Next, Closes, frontKind, ExprRead, CondRead, Stored, BlockRun, StmtRun, BranchRun, RunIn, oneBlock}
 use Rattle.evaluator.proofs.Places.{front-is, behind, name-at, apart, same-length}
 use Rattle.evaluator.proofs.Readings.{semicolon-ends, rparen-ends}

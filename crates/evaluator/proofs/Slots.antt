@@ -15,7 +15,7 @@ use Rattle.syntax.specs.Bytes.{sameBytes}
 use Rattle.syntax.specs.Tree.{Var}
 use Rattle.meaning.specs.Value.{intOf, valueOf, inRange, assigned}
 use Rattle.evaluator.specs.Coding.{slotOf, RunAs, lane}
-use Rattle.meaning.specs.Biased.{Offset, Biased, Ranges}
+use Rattle.meaning.specs.Held.{Offset, Biased, Ranges}
 use Rattle.evaluator.specs.Steps.{operand, worth, Stored}
 use Rattle.evaluator.proofs.Numbers.{less-parts, same-difference}
 

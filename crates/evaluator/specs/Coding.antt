@@ -9,9 +9,9 @@ use lib.ListN.{length, getD, drop, getElem?}
 use lib.IntN.{ℤ}
 use Rattle.syntax.specs.Bytes.{sameBytes}
 use Rattle.syntax.specs.Token.{Lexeme, name, number, mark, lbrace, rbrace}
-use Rattle.syntax.specs.Kind.{kindOf}
+use Rattle.syntax.specs.Held.Kind.{kindOf}
 use Rattle.syntax.specs.Tree.{Var, Block, spellBlock}
-use Rattle.meaning.specs.Biased.{Biased}
+use Rattle.meaning.specs.Held.{Biased}
 
 -- the place of the first variable of a name, and their count where there is none
 unfoldable pub slotOf : List Var → List ℕ → ℕ

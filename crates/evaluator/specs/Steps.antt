@@ -8,10 +8,10 @@ use lib.Dec.{eqb, ltb}
 use lib.ListN.{length, getD, drop}
 use lib.IntN.{ℤ, pos, _-ℤ_}
 use Rattle.syntax.specs.Token.{Lexeme, key, mark, lbrace, rbrace, k-else}
-use Rattle.syntax.specs.Kind.{kindOf}
+use Rattle.syntax.specs.Held.Kind.{kindOf}
 use Rattle.syntax.specs.Tree.{Var, Atom, Sign, added, taken, Expr, Comparison, Block, Stmt, spellAtom, spellExpr, comparisonMark, spellCond, spellConj, spellSimple, spellBlock, spellStmt}
 use Rattle.meaning.specs.Value.{atomValue, joined, exprValue, compares, truth, conjTruth, simpleTruth, runBlock, runStmt, assigned}
-use Rattle.meaning.specs.Biased.{Biased, Ranges}
+use Rattle.meaning.specs.Held.{Biased, Ranges}
 use Rattle.evaluator.specs.Coding.{Codes, RunAs, slotOf, lane}
 
 -- a place among few enough tokens

@@ -10,8 +10,8 @@ use lib.Seq.{drop-drop, drop-cons, drop-append-seam}
 use lib.Dec.{eqb}
 use borrow.Author.Tests.{eqb-true, eqb-false, eq-eqb, ne-eqb}
 use Rattle.syntax.specs.Token.{Lexeme}
-use Rattle.syntax.specs.Kind.{kindOf}
-use Rattle.meaning.specs.Bools.{split}
+use Rattle.syntax.specs.Held.Kind.{kindOf}
+use Rattle.logic.proofs.Bools.{split}
 use Rattle.layout.specs.Closing.{closeFrom}
 
 module _ (o c : ℕ) where

@@ -7,11 +7,11 @@ use mathlib.Core.List.{List, _∷_}
 use lib.ListN.{length, drop, take}
 use lib.Seq.{take-append-seam}
 use Rattle.syntax.specs.Token.{Token, lexemes, mark, rparen, markNumber}
-use Rattle.syntax.specs.Kind.{kindOf, Words}
+use Rattle.syntax.specs.Held.Kind.{kindOf, Words}
 use Rattle.syntax.specs.Tree.{Cond, spellCond}
 use Rattle.meaning.specs.Model.{sameLexemes, sameGuard}
-use Rattle.meaning.specs.Bools.{is-false}
-use Rattle.meaning.specs.SameLexemes.{decides-lexemes}
+use Rattle.logic.proofs.Bools.{is-false}
+use Rattle.meaning.proofs.SameGuards.{decides-lexemes}
 use Rattle.layout.specs.Closing.{closeFrom}
 use Rattle.layout.specs.Steps.{GuardAt}
 use Rattle.layout.proofs.Closes.{close-length, stands-below}

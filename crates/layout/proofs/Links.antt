@@ -10,9 +10,9 @@ use lib.Seq.{drop-drop, getD-drop, getD-set-same, getD-set-other}
 use lib.Dec.{eqb}
 use borrow.Author.Tests.{eqb-true, eqb-false}
 use Rattle.syntax.specs.Token.{Lexeme, mark, lbrace, rbrace, markNumber}
-use Rattle.syntax.specs.Kind.{kindOf}
+use Rattle.syntax.specs.Held.Kind.{kindOf}
 use Rattle.syntax.specs.Tree.{Block, spellBlock}
-use Rattle.meaning.specs.Bools.{split}
+use Rattle.logic.proofs.Bools.{split}
 use Rattle.layout.specs.Closing.{closeFrom}
 use Rattle.layout.specs.Laid.{Kinds, Linked}
 use Rattle.layout.proofs.Closes.{close-stands, stands-below}

@@ -5,9 +5,9 @@ use mathlib.Core.Path.{_≡_, refl, sym, ap, _∙_}
 use mathlib.Core.List.{List, [], _∷_, _++_, map, append-assoc, append-nil}
 use lib.ListN.{length, drop, getD, length-append}
 use Rattle.syntax.specs.Token.{Token, lexemes, Lexeme, mark, rbrace, markNumber, keywordNumber}
-use Rattle.syntax.specs.Kind.{kindOf, Words}
+use Rattle.syntax.specs.Held.Kind.{kindOf, Words}
 use Rattle.syntax.specs.Tree.{Region, Method, all, each, spellRegion, spellMethod}
-use Rattle.machine.specs.Held.{bit}
+use Rattle.logic.specs.Tests.{bit}
 use Rattle.layout.specs.Steps.{Flagged, more, flagRegions, flagged, flagAt, Holds, Reached, AddsRegion, AddsMethod}
 use Rattle.layout.specs.declared.Layout.{Layout}
 use Rattle.layout.specs.declared.Spot.{Spot}

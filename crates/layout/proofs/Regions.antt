@@ -13,8 +13,8 @@ use borrow.Author.Tests.{eqb-true, eqb-false}
 use Rattle.syntax.specs.Token.{Lexeme}
 use Rattle.syntax.specs.Tree.{Cond, Region, spellCond}
 use Rattle.meaning.specs.Model.{sameLexemes, sameGuard, placeIn, guardsOf, noGuard}
-use Rattle.meaning.specs.ModelLaws.{Found, place-here, place-later, found-spells, place-append, found-append, place-last, found-last, known, new, known-or-new}
-use Rattle.meaning.specs.Bools.{split}
+use Rattle.meaning.proofs.ModelLaws.{Found, place-here, place-later, found-spells, place-append, found-append, place-last, found-last, known, new, known-or-new}
+use Rattle.logic.proofs.Bools.{split}
 use Rattle.layout.specs.Laid.{RegionAt}
 use Rattle.layout.specs.Steps.{GuardAt, Flagged, noFlagged, parts, found, Arrays, Room, Holds, withGuard, withRegion}
 use Rattle.layout.specs.declared.Layout.{Layout}

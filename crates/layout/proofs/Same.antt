@@ -11,13 +11,14 @@ use lib.Dec.{eqb, lit<}
 use borrow.Author.Tests.{eq-eqb, ne-eqb}
 use Rattle.syntax.specs.Bytes.{sameBytes}
 use Rattle.syntax.specs.Token.{Token, lexemes, Lexeme, name, key, number, mark, Mark, lbrace, rbrace, lparen, rparen, semicolon, equals, dots, becomes, same, differs, below, at-most, above, at-least, plus, minus, bang, and-and, or-or, Keyword, k-monitor, k-var, k-in, k-keep, k-method, k-waituntil, k-if, k-else, k-true, k-false, markNumber, keywordNumber, isMark, isKey}
-use Rattle.syntax.specs.Kind.{kindOf, valueOf, Words}
+use Rattle.syntax.specs.Held.Kind.{kindOf, valueOf, Words}
 use Rattle.syntax.specs.Spelling.{Spells}
-use Rattle.syntax.specs.Scanning.{token-stands}
+use Rattle.syntax.proofs.Scanning.{token-stands}
 use Rattle.meaning.specs.Model.{sameLexeme, sameLexemes}
-use Rattle.meaning.specs.Bools.{is-false}
-use Rattle.meaning.specs.Same.{different, decides-key, decides-mark}
-use Rattle.meaning.specs.SameLexemes.{decides-lexeme}
+use Rattle.logic.proofs.Bools.{is-false}
+use Rattle.logic.proofs.Bools.{different}
+use Rattle.syntax.proofs.Lexemes.{decides-key, decides-mark}
+use Rattle.meaning.proofs.SameGuards.{decides-lexeme}
 use Rattle.layout.specs.Steps.{noToken, lexemeAt}
 
 -- the first of what is left of a run, and the rest of it

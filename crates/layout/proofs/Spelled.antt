@@ -8,9 +8,9 @@ use lib.ListN.{length, drop, getD}
 use lib.Seq.{drop-drop, getD-drop}
 use lib.Dec.{eqb}
 use Rattle.syntax.specs.Token.{Token, lexemes, Lexeme, mark, lbrace, rbrace, rparen, markNumber}
-use Rattle.syntax.specs.Kind.{kindOf, Words}
+use Rattle.syntax.specs.Held.Kind.{kindOf, Words}
 use Rattle.syntax.specs.Tree.{Region, spellCond, spellBlock, spellRegion}
-use Rattle.machine.specs.Held.{bit}
+use Rattle.logic.specs.Tests.{bit}
 use Rattle.layout.specs.Closing.{closeFrom}
 use Rattle.layout.specs.Laid.{RegionAt}
 use Rattle.layout.specs.Steps.{flagAt}

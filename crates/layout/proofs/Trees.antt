@@ -10,9 +10,9 @@ use borrow.Author.Tests.{leb-true}
 use lib.ListN.{length, drop, take, take-append-drop}
 use lib.Seq.{drop-append-seam}
 use Rattle.syntax.specs.Token.{Lexeme, name, key, number, mark, lbrace, rbrace, lparen, rparen, semicolon, equals, dots, becomes, minus, bang, and-and, or-or, k-monitor, k-var, k-in, k-keep, k-method, k-waituntil, k-if, k-else, k-true, k-false, markNumber, keywordNumber}
-use Rattle.syntax.specs.Kind.{kindOf}
+use Rattle.syntax.specs.Held.Kind.{kindOf}
 use Rattle.syntax.specs.Tree.{Int, plain, negated, Atom, literal, variable, Sign, added, taken, Term, Expr, Comparison, eq, ne, lt, le, gt, ge, Cond, only, or, Conj, just, and, Simple, negation, bracketed, constant, compare, Block, end, then, Stmt, assign, if-then, if-else, Region, Method, Var, Monitor, all, each, spell, spellInt, spellAtom, signMark, spellTerm, spellExpr, comparisonMark, spellConstant, spellCond, spellConj, spellSimple, spellBlock, spellStmt, spellRegion, spellMethod, spellVar}
-use Rattle.meaning.specs.Bools.{both, not-true}
+use Rattle.logic.proofs.Bools.{both, not-true}
 use Rattle.layout.proofs.Closes.{Balanced, balanced-nil, balanced-join, balanced-one, balanced-wrap}
 
 -- a token's kind but `keep`, from a lowest on: 8 for a condition's tokens but brackets, 4 for a file's but brackets and braces

@@ -9,14 +9,15 @@ use lib.Seq.{getD-append-add}
 use lib.Dec.{eqb, ltb}
 use borrow.Author.Tests.{ltb-true, ltb-false, lt-ltb, le-ltb, ne-eqb}
 use Rattle.syntax.specs.Token.{Token, lexemes, Lexeme, key, mark, semicolon, k-keep, markNumber}
-use Rattle.syntax.specs.Kind.{kindOf, valueOf, Words}
+use Rattle.syntax.specs.Held.Kind.{kindOf, valueOf, Words}
 use Rattle.syntax.specs.Tree.{Region, Method, Monitor, all, spell, spellCond}
-use Rattle.machine.specs.Held.{bit, followsBy}
-use Rattle.machine.specs.Machine as machine
-use Rattle.meaning.specs.Check.{regionsOf}
+use Rattle.logic.specs.Tests.{bit}
+use Rattle.machine.specs.Held.{followsBy}
+use Rattle.machine.specs.Monitor as machine
+use Rattle.meaning.specs.Accepted.{regionsOf}
 use Rattle.meaning.specs.Model.{guardsOf, beginsIn, goesOnIn, noRegion, regions, guards, region, guardOf, follows}
-use Rattle.meaning.specs.MethodLaws.{InMethod, in-method, begins-in-method, goes-on-in-method}
-use Rattle.meaning.specs.Bools.{split}
+use Rattle.meaning.proofs.MethodLaws.{InMethod, in-method, begins-in-method, goes-on-in-method}
+use Rattle.logic.proofs.Bools.{split}
 use Rattle.layout.specs.Laid.{IsKeep, Laid}
 use Rattle.layout.specs.Closing.{closeFrom}
 use Rattle.layout.specs.Steps.{Flagged, noFlagged, more, flagRegions, flagged, parts, found, Holds}

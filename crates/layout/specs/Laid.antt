@@ -5,9 +5,10 @@ use mathlib.Core.List.{List, _∷_, _++_, map}
 use mathlib.Core.Option.{some}
 use lib.ListN.{length, getD, drop, getElem?}
 use Rattle.syntax.specs.Token.{Lexeme, key, mark, lbrace, rbrace, rparen, semicolon, k-keep, Token, lexemes}
-use Rattle.syntax.specs.Kind.{kindOf}
+use Rattle.syntax.specs.Held.Kind.{kindOf}
 use Rattle.syntax.specs.Tree.{Monitor, Region, Block, spellCond, spellBlock, all}
-use Rattle.machine.specs.Held.{bit, followsBy}
+use Rattle.logic.specs.Tests.{bit}
+use Rattle.machine.specs.Held.{followsBy}
 use Rattle.meaning.specs.Model.{regions, guards, region, guardOf, beginsIn, follows}
 use Rattle.layout.specs.declared.Layout.{Layout}
 

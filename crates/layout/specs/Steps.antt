@@ -6,9 +6,9 @@ use mathlib.Core.List.{List, [], _∷_, _++_, map}
 use lib.ListN.{length, getD, drop, take, set}
 use lib.Dec.{eqb}
 use Rattle.syntax.specs.Token.{Lexeme, mark, rbrace, rparen, Token, lexemes}
-use Rattle.syntax.specs.Kind.{kindOf, Words}
+use Rattle.syntax.specs.Held.Kind.{kindOf, Words}
 use Rattle.syntax.specs.Tree.{Cond, Region, Method, all, each, spellCond, spellRegion}
-use Rattle.machine.specs.Held.{bit}
+use Rattle.logic.specs.Tests.{bit}
 use Rattle.meaning.specs.Model.{sameLexeme, sameLexemes, sameGuard, placeIn, guardsOf, noRegion}
 use Rattle.layout.specs.Laid.{RegionAt}
 use Rattle.layout.specs.declared.Layout.{Layout}

@@ -9,7 +9,7 @@ ghost use Rattle.syntax.specs.Token.{Lexeme, Token, lexemes};
 ghost use Rattle.syntax.specs.Tree.{Monitor, spell};
 ghost use Rattle.meaning.specs.Model.{regions};
 ghost use Rattle.layout.specs.Laid.{Kinds, IsKeep, Laid, Linked};
-ghost use Rattle.syntax.specs.Kind.{Words};
+ghost use Rattle.syntax.specs.Held.Kind.{Words};
 ghost use Rattle.layout.specs.Closing.{closeFrom};
 ghost use Rattle.layout.specs.Steps.{Sized, SameToken, SameTokens, SameGuard, flagAt, withGuard, withRegion, Numbers, Room, AddsRegion, AddsMethod, Grown};
 

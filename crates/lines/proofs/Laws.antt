@@ -8,10 +8,11 @@ use native.Mathlib.Omega.{arith}
 use lib.ListN.{length, getD, take, drop, set, length-append, length-drop, length-map, take-append-drop, List·getD-map}
 use lib.Seq.{take-at, drop-append-add, drop-drop, length-take-le, sets-eq}
 use lib.IntN.{ℤ, pos, _+ℤ_, natAbs, -ℤ-+ℤ-cancel}
-use Rattle.machine.specs.Machine as machine
-use Rattle.meaning.specs.Biased.{Offset}
+use Rattle.machine.specs.Monitor as machine
+use Rattle.meaning.specs.Held.{Offset}
 use Rattle.meaning.specs.Calls as calls
-use Rattle.meaning.specs.Model.{hexDigit, hex2, forEach}
+use Rattle.meaning.specs.Hex.{hexDigit, hex2}
+use Rattle.meaning.specs.Decide.Table.{forEach}
 use Rattle.meaning.specs.Lines.{placeByte, valueDigits, placeDigits}
 use Rattle.stepper.specs.Shown.{placeOf, idleThread}
 use Rattle.stepper.specs.Slices.{placesOf}

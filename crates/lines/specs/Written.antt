@@ -4,11 +4,12 @@ use mathlib.Core.Path.{_≡_}
 use mathlib.Core.List.{List, _++_, map}
 use lib.ListN.{length, getD, take, drop}
 use lib.IntN.{pos}
-use Rattle.machine.specs.Machine as machine
-use Rattle.meaning.specs.Biased.{Offset}
-use Rattle.meaning.specs.Model.{hex2, forEach}
+use Rattle.machine.specs.Monitor as machine
+use Rattle.meaning.specs.Held.{Offset}
+use Rattle.meaning.specs.Hex.{hex2}
+use Rattle.meaning.specs.Decide.Table.{forEach}
 use Rattle.meaning.specs.Calls as calls
-use Rattle.meaning.specs.Widths.{RecordFits}
+use Rattle.demands.specs.Widths.{RecordFits}
 use Rattle.stepper.specs.Shown.{placeOf}
 use Rattle.stepper.specs.Slices.{placesOf}
 use Rattle.stepper.specs.declared.Thread.{Thread}

@@ -8,11 +8,11 @@ use mathlib.Core.Option.{Option, none, some}
 use lib.ListN.{length, getD}
 use Rattle.syntax.specs.Token.{Lexeme, mark, semicolon}
 use Rattle.syntax.specs.Tree.{Monitor}
-use Rattle.meaning.specs.Bools.{clash}
-use Rattle.meaning.specs.Same.{different}
+use Rattle.logic.proofs.Bools.{clash}
+use Rattle.logic.proofs.Bools.{different}
 use Rattle.meaning.specs.Value.{truth}
 use Rattle.meaning.specs.State.{starts}
-use Rattle.meaning.specs.Check.{broken}
+use Rattle.meaning.specs.Decide.Check.{broken}
 use Rattle.meaning.specs.Model.{vars, regions, guards}
 use Rattle.variables.specs.declared.Bounds.{Bounds}
 use Rattle.layout.specs.declared.Layout.{Layout}
@@ -22,8 +22,8 @@ use Rattle.tables.specs.Steps.{Condition, Guards}
 use Rattle.tables.specs.declared.Broken.{Broken}
 use Rattle.tables.specs.declared.Broken.the-variants.{Never, At}
 use Rattle.answers.specs.declared.Answer.{Answer}
-use Rattle.loading.specs.Guarded.{guards-stand}
-use Rattle.loading.specs.Limited.{ends-kept}
+use Rattle.loader.proofs.GuardsAt.{guards-stand}
+use Rattle.loader.proofs.Counts.{ends-kept}
 use Rattle.loader.specs.Filling.{Filling, Filled}
 
 module _ {m : Monitor} {ls : List Lexeme} {kinds values : List ℕ} {b : Bounds} {l : Layout} (f : Filling m ls kinds values b l) where

@@ -10,19 +10,20 @@ use lib.Dec.{ltb}
 use borrow.Author.Tests.{ltb-true, ltb-false}
 use Rattle.syntax.specs.Token.{number, key, k-keep, Token, lexemes}
 use Rattle.syntax.specs.Tree.{Monitor, all, spell}
-use Rattle.syntax.specs.Reading.{read}
-use Rattle.syntax.specs.Kind.{Words}
-use Rattle.meaning.specs.Bools.{split}
-use Rattle.meaning.specs.Check.{answer, refused, crowded, pastLimit, misnamed, check}
-use Rattle.meaning.specs.Place7.{behindKeep}
+use Rattle.syntax.specs.Decide.Reading.{read}
+use Rattle.syntax.specs.Held.Kind.{Words}
+use Rattle.logic.proofs.Bools.{split}
+use Rattle.meaning.specs.Answer.{answer, refused}
+use Rattle.meaning.specs.Decide.Check.{crowded, pastLimit, misnamed, check}
+use Rattle.meaning.proofs.KeywordPlaces.{behindKeep}
 use Rattle.reader.specs.Reads.{Reads}
 use Rattle.reader.specs.declared.Pos.the-variants.{Stuck}
 use Rattle.variables.specs.Bounded.{RangedBy}
 use Rattle.variables.specs.declared.Declared.{Declared}
 use Rattle.answers.specs.Says.{Is, answerOf}
-use Rattle.loading.specs.Held.{lexemes-length}
-use Rattle.loading.specs.Limited.{few-tokens}
-use Rattle.loading.specs.Judged.{says-4, says-4-end, no-7}
+use Rattle.loader.proofs.TokenSlices.{lexemes-length}
+use Rattle.loader.proofs.Counts.{few-tokens}
+use Rattle.loader.proofs.Refusals.{says-4, says-4-end, no-7}
 use Rattle.loader.specs.Loading.{Past7, JudgedBy, Judges}
 use Rattle.loader.specs.declared.Judged.{Judged}
 

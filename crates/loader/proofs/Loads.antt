@@ -8,27 +8,28 @@ use mathlib.Core.Option.{Option, none, some}
 use lib.ListN.{length, take, getD, length-map}
 use Rattle.syntax.specs.Token.{Token, lexemes}
 use Rattle.syntax.specs.Tree.{Monitor}
-use Rattle.syntax.specs.Kind.{Words}
-use Rattle.meaning.specs.Bools.{split}
-use Rattle.meaning.specs.Same.{different}
+use Rattle.syntax.specs.Held.Kind.{Words}
+use Rattle.logic.proofs.Bools.{split}
+use Rattle.logic.proofs.Bools.{different}
 use Rattle.meaning.specs.Value.{truth}
 use Rattle.meaning.specs.State.{starts}
-use Rattle.meaning.specs.Check.{Answer, answer, accepted, refused, broken, check}
+use Rattle.meaning.specs.Answer.{Answer, answer, accepted, refused}
+use Rattle.meaning.specs.Decide.Check.{broken, check}
 use Rattle.meaning.specs.Model.{vars, regions}
-use Rattle.meaning.specs.Sizes.{Sizes}
-use Rattle.meaning.specs.Verdicts.{accepted-iff}
+use Rattle.meaning.proofs.Sizes.{Sizes}
+use Rattle.meaning.proofs.Verdicts.{accepted-iff}
 use Rattle.passes.specs.Tokens.{Resolved}
 use Rattle.layout.specs.Laid.{Kinds, IsKeep, Laid, Linked}
 use Rattle.layout.specs.declared.Layout.{Layout}
 use Rattle.tables.specs.HeldLaws.{held}
 use Rattle.answers.specs.Says.{Says, Is, answerOf}
 use Rattle.answers.specs.declared.Answer as code
-use Rattle.loading.specs.Held.{lexemes-length}
-use Rattle.loading.specs.Judged.{kinds-of, says-8, says-9, says-0}
-use Rattle.loading.specs.Limited.{few-tokens, few-parts}
-use Rattle.loading.specs.Named.{codes}
-use Rattle.loading.specs.Placed.{keep-stands}
-use Rattle.loading.specs.Flagged.{held-places}
+use Rattle.loader.proofs.TokenSlices.{lexemes-length}
+use Rattle.loader.proofs.Refusals.{kinds-of, says-8, says-9, says-0}
+use Rattle.loader.proofs.Counts.{few-tokens, few-parts}
+use Rattle.loader.proofs.Names.{codes}
+use Rattle.loader.proofs.TokensStand.{keep-stands}
+use Rattle.loader.proofs.Flags.{held-places}
 use Rattle.loader.specs.Loading.{Past7, JudgedBy, Judges, Monitored, Loads}
 use Rattle.loader.specs.Filling.{Filling, Filled}
 use Rattle.loader.specs.declared.Judged.{Judged}

@@ -9,7 +9,8 @@ use Rattle.syntax.specs.Token.{Lexeme}
 use Rattle.syntax.specs.Tree.{Monitor}
 use Rattle.meaning.specs.Value.{truth}
 use Rattle.meaning.specs.State.{starts}
-use Rattle.meaning.specs.Check.{answer, broken}
+use Rattle.meaning.specs.Answer.{answer}
+use Rattle.meaning.specs.Decide.Check.{broken}
 use Rattle.meaning.specs.Model.{vars, regions}
 use Rattle.evaluator.specs.Coding.{Codes}
 use Rattle.variables.specs.Bounded.{Bounded}

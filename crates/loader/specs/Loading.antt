@@ -7,9 +7,10 @@ use lib.ListN.{length, drop}
 use Rattle.syntax.specs.Token.{number, key, k-var, k-keep, Token, lexemes}
 use Rattle.syntax.specs.Tree.{Monitor, spell}
 use Rattle.machine.specs.Held.{Held, HeldPlaces}
-use Rattle.meaning.specs.Check.{accepted, crowded, pastLimit, misnamed, illRanged, placesOf, check}
+use Rattle.meaning.specs.Answer.{accepted}
+use Rattle.meaning.specs.Decide.Check.{crowded, pastLimit, misnamed, illRanged, placesOf, check}
 use Rattle.meaning.specs.Model.{vars, regions, guards, model}
-use Rattle.meaning.specs.Place7.{behindKeep}
+use Rattle.meaning.proofs.KeywordPlaces.{behindKeep}
 use Rattle.variables.specs.Bounded.{Bounded}
 use Rattle.answers.specs.Says.{Is}
 use Rattle.loader.specs.declared.Judged.{Judged}

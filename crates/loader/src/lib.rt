@@ -10,7 +10,7 @@ ghost use mathlib.Core.Path.{_≡_};
 ghost use mathlib.Core.List.{List};
 ghost use Prim.Native.Nat.{ℕ, _%_, _≤_, _<_};
 ghost use lib.ListN.{length, getD};
-ghost use Rattle.syntax.specs.Kind.{Words};
+ghost use Rattle.syntax.specs.Held.Kind.{Words};
 ghost use Rattle.syntax.specs.Token.{Lexeme, Token};
 ghost use Rattle.syntax.specs.Tree.{Monitor};
 ghost use Rattle.loader.specs.Loading.{Judges, Loads};

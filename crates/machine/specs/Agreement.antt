@@ -1,23 +1,15 @@
--- Demand 3 ("Both machines on one list"): the two machines agree on every list of frames. The claim is `Demand3`, the theorem
--- `demand-3`; it rests on `Simulation`, whose relation holds where all threads are idle and none is notified.
-use Prim.Native.Nat.{ℕ, _≤_}
-use native.Mathlib.Omega.{arith}
-use mathlib.Core.Path.{_≡_, refl, sym, subst, ap, _∙_}
-use mathlib.Core.Bool.{Bool, true, false}
-use mathlib.Core.Logic.{_⊎_, inl, inr, _↔_, ⊎-elim, Iff·trans, Iff·symm}
-use mathlib.Core.List.{List, _∷_, _++_}
+-- Both machines on one list: what it is that they agree ("Both machines on one list"; demand 3).
+use Prim.Native.Nat.{ℕ, _≤_, _<_}
+use mathlib.Core.Path.{_≡_}
+use mathlib.Core.Bool.{true, false}
+use mathlib.Core.Logic.{_⊎_}
+use mathlib.Core.List.{List}
 use lib.ListN.{length, take}
-use lib.Seq.{take-length}
-use Rattle.machine.specs.Machine.{Place, idle, Monitor, Frame, Config, Told, isWaiting, allIdle, waitsOn, next, plainTold, Run, accepted, stopped, run}
-use Rattle.machine.specs.Table.{Entry, tableTold, entryOf, broadcast}
-use Rattle.machine.specs.Rules.{Notices}
-use Rattle.machine.specs.RulesDecided.{Decides}
-use Rattle.machine.specs.Line.{waits-iff, next-iff}
-use Rattle.machine.specs.Rechecks.{Recheck, RecheckFrom, recheck-iff, waiters, recheck-waits}
-use Rattle.machine.specs.Points.{Checked, Placed, entries-placed, PlainPoint, Agree, idle-plain, idle-agree}
-use Rattle.machine.specs.Simulation.{Result, same-refusal, at-recheck, same-point, run-plain, run-agree, at}
-
--- The claim
+use Rattle.machine.specs.Monitor.{due, Monitor, Frame, Config, allIdle, Run, accepted, stopped}
+use Rattle.machine.specs.Decide.Step.{isWaiting, plainTold, run}
+use Rattle.machine.specs.Decide.Table.{tableTold, entryOf}
+use Rattle.machine.specs.Rules.{Waits, First}
+use Rattle.machine.specs.Recheck.{Recheck}
 
 -- "An answer is the number (0 for accepted) and two places, 0 where unused"; a frame's refusal uses the first
 unfoldable pub answer : Run → ℕ × ℕ
@@ -31,9 +23,10 @@ pub record SamePoint (m : Monitor) (plain table : Config) : Type 0 where
   pub is-kept : m .kept (table .state) ≡ true
   -- by the plain machine every waiter whose guard holds, by the table's the one next in line
   pub all-notified :
-      (g u : ℕ) → m .holds g (plain .state) ≡ true → waitsOn m (plain .place) g u ≡ true → plain .notified u ≡ true
+      (g u : ℕ) → m .holds g (plain .state) ≡ true → Waits m (plain .place) g u → plain .notified u ≡ true
   pub next-notified :
-      (g u : ℕ) → m .holds g (table .state) ≡ true → next m (table .place) g u ≡ true → table .notified u ≡ true
+      (g u : ℕ) → m .holds g (table .state) ≡ true → Waits m (table .place) g u
+      → First m (table .place) (Waits m (table .place) g) u → table .notified u ≡ true
 
 -- Two machines, as runs of a list of frames, agree on a list; `recheck` says which of its frames are rechecks
 pub record AgreeOn
@@ -52,86 +45,14 @@ plainRun m s fs = run m (plainTold m) 0 (allIdle s) fs
 unfoldable pub tableRun : Monitor → ℕ → List Frame → Run
 tableRun m s fs = run m (tableTold m (entryOf m)) 0 (allIdle s) fs
 
-unfoldable pub Demand3 : Monitor → Type 0
-Demand3 m = (s : ℕ) → m .kept s ≡ true → (fs : List Frame) → AgreeOn m (plainRun m s) (tableRun m s) Recheck fs
+-- from every state that meets the kept condition, on every list of frames
+unfoldable pub Agrees : Monitor → Type 0
+Agrees m = (s : ℕ) → m .kept s ≡ true → (fs : List Frame) → AgreeOn m (plainRun m s) (tableRun m s) Recheck fs
 
--- From the simulation
-
-agree-point :
-    {m : Monitor} {bc : ℕ → Bool} {s : ℕ} {p : ℕ → Place} {nP nT : ℕ → Bool} → Agree m bc s p nP nT
-    → SamePoint m (at s p nP) (at s p nT)
-agree-point {m} {bc} {s} {p} {nP} {nT} ag = record {
-  same-state = refl;
-  same-places = λ u. refl;
-  is-kept = ag .plain .is-kept;
-  all-notified = λ g u h w. ag .plain .all g u (waits-iff m p g u .0 w) h;
-  next-notified = λ g u h w. let x = next-iff m p g u .0 w in ag .first g u (x .0) h (x .1);
-}
-
-result-answer :
-    {m : Monitor} {bc began : ℕ → Bool} {fs : List Frame} {x y : Run} → Result m bc began fs 0 x y
-    → (answer x ≡ answer y) ⊎ ((k : ℕ) × (y ≡ stopped 14 k) × RecheckFrom began fs k)
-unfolding answer
-result-answer same-refusal = inl refl
-result-answer (at-recheck {j} i z r) = inr (i, ap (stopped 14) (omega arith), r)
-result-answer (same-point ag) = inl refl
-
-result-point :
-    {m : Monitor} {bc began : ℕ → Bool} {fs : List Frame} {x y : Run} → Result m bc began fs 0 x y
-    → (c : Config) → y ≡ accepted c → (d : Config) × (x ≡ accepted d) × SamePoint m d c
-result-point same-refusal c e = let z : _≡_ {A = ℕ} 0 1 = cc in absurd (omega arith)
-result-point (at-recheck i z r) c e = let z : _≡_ {A = ℕ} 0 1 = cc in absurd (omega arith)
-result-point {m} (same-point {s} {p} {nP} {nT} ag) c e =
-    let z : at s p nT ≡ c = cc in (at s p nP, refl, subst (SamePoint m (at s p nP)) z (agree-point ag))
-
--- from any two points in the relation, and for any table that is so placed
-pub agree-from :
-    (m : Monitor) → Checked m → (e : ℕ → ℕ → Entry) (bc : ℕ → Bool) → Placed m e bc
-    → (s : ℕ) (p : ℕ → Place) (nP nT : ℕ → Bool) → Agree m bc s p nP nT → (fs : List Frame)
-    → AgreeOn m (run m (plainTold m) 0 (at s p nP)) (run m (tableTold m e) 0 (at s p nT)) (RecheckFrom (waiters (at s p nT))) fs
-agree-from m ok e bc placed s p nP nT ag fs = record {
-  same-answer = result-answer (run-agree m ok e bc placed fs 0 s p nP nT ag);
-  every-point = λ n _ c h. result-point (run-agree m ok e bc placed (take n fs) 0 s p nP nT ag) c h;
-}
-
--- Demand 3
-pub demand-3 : (m : Monitor) → Checked m → Demand3 m
-unfolding Demand3 plainRun tableRun allIdle isWaiting
-demand-3 m ok s k fs =
-    let start = idle-agree m (broadcast m) s k in
-    let a = agree-from m ok (entryOf m) (broadcast m) (entries-placed m ok) s (λ _. idle) (λ _. false) (λ _. false) start fs in
-    record {
-      same-answer = ⊎-elim inl (λ x. inr (x .0, x .1, recheck-iff fs (x .0) .0 (x .2))) (a .same-answer);
-      every-point = a .every-point;
-    }
-
--- What follows
-
-module _ (m : Monitor) (ok : Checked m) (s : ℕ) (k : m .kept s ≡ true) (fs : List Frame) where
-  -- without rechecks the answers are always equal
-  pub same-without-rechecks : ((j : ℕ) → Recheck fs j → ⊥) → answer (plainRun m s fs) ≡ answer (tableRun m s fs)
-  unfolding Demand3
-  same-without-rechecks h = ⊎-elim (λ x. x) (λ x. absurd (h (x .0) (x .2))) (demand-3 m ok s k fs .same-answer)
-
-  -- what the table's machine accepts the plain one accepts, with the same values and places
-  pub table-accepts :
-      (c : Config) → tableRun m s fs ≡ accepted c → (d : Config) × (plainRun m s fs ≡ accepted d) × SamePoint m d c
-  unfolding Demand3
-  table-accepts c h =
-      let x = demand-3 m ok s k fs .every-point (length fs) (omega arith) c (ap (tableRun m s) (take-length fs) ∙ h) in
-      (x .0, ap (plainRun m s) (sym (take-length fs)) ∙ x .1, x .2)
-
-  -- the plain machine at each of its points, also past a recheck that the table's refuses
-  pub plain-every-point : (d : Config) → plainRun m s fs ≡ accepted d → PlainPoint m (d .state) (d .place) (d .notified)
-  unfolding plainRun allIdle
-  plain-every-point = run-plain m ok fs 0 s (λ _. idle) (λ _. false) (idle-plain m s k)
-
--- A recheck told from the frames alone is a waiting thread's frame with 00, after frames that a machine accepts
-pub recheck-is-waiting :
-    (m : Monitor) → Checked m → (told : Told) (notices : Notices) → Decides m told notices
-    → (s : ℕ) (front : List Frame) (c : Config) → run m told 0 (allIdle s) front ≡ accepted c → (f : Frame) (more : List Frame)
-    → Recheck (front ++ (f ∷ more)) (length front) ↔ ((f .flag ≡ false) × (isWaiting (c .place (f .thread)) ≡ true))
-unfolding allIdle isWaiting
-recheck-is-waiting m ok told notices decides s front c h f more =
-    Iff·trans (Iff·symm (recheck-iff (front ++ (f ∷ more)) (length front)))
-    (recheck-waits m (ok .leaves) notices (decides .accepts 0 (allIdle s) front c .0 h) f more)
+-- What the check of a file guarantees of its monitor
+pub record Checked (m : Monitor) : Type 0 where
+  pub below : (s : ℕ) → m .kept s ≡ true → s < m .states
+  pub keeps : (r s : ℕ) → m .kept s ≡ true → m .holds (m .guardOf r) s ≡ true → m .kept (m .after r s) ≡ true
+  pub outside : (r s : ℕ) → m .regions ≤ r → m .holds (m .guardOf r) s ≡ false
+  pub leaves : (r : ℕ) → isWaiting (m .follows r) ≡ false
+  pub onward : (r w : ℕ) → m .follows r ≡ due w → w < m .regions

@@ -1,17 +1,14 @@
 -- How a monitor freed from its syntax is held in slices of numbers: what the code looks up instead of evaluating.
 use Prim.Native.Nat.{ℕ, zero, suc, _+_, _*_, _<_, _≤_}
 use mathlib.Core.Path.{_≡_}
-use mathlib.Core.Bool.{Bool, true, false}
+use mathlib.Core.Bool.{true}
 use mathlib.Core.List.{List}
 use lib.ListN.{getD}
+use Rattle.logic.specs.Tests.{bit}
 use Rattle.sets.specs.Set.{member}
-use Rattle.machine.specs.Machine.{Place, idle, due, Monitor}
-use Rattle.machine.specs.Table.{runs, Entry, none, entry, entryOf}
-
--- a Boolean as a number
-unfoldable pub bit : Bool → ℕ
-bit true = 1
-bit false = 0
+use Rattle.machine.specs.Monitor.{Place, idle, due, Monitor}
+use Rattle.machine.specs.Decide.Table.{runs, entryOf}
+use Rattle.machine.specs.Algorithm1.{Entry, none, entry}
 
 -- where a thread is after a region's body: due at the next region where the flag is 1, else idle
 unfoldable pub followsBy : ℕ → ℕ → Place

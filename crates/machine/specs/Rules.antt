@@ -1,12 +1,13 @@
 -- The published step rules 1a, 1b, 2a, 2b (source document 001, Figures 4 to 6), as document 01 narrows them: a relation, over
 -- whom a body notifies. `RulesDecided` shows that the step of `Machine` takes a frame exactly where this relation does.
-use Prim.Native.Nat.{ℕ, _<_}
+use Prim.Native.Nat.{ℕ, _+_, _<_}
 use mathlib.Core.Path.{_≡_}
 use mathlib.Core.Bool.{Bool, true, false}
 use mathlib.Core.Logic.{_⊎_, _↔_}
-use mathlib.Core.List.{List, [], _∷_}
-use Rattle.machine.specs.Machine.{Place, idle, waiting, due, Monitor, Frame, Config, threads, ahead}
-use Rattle.machine.specs.Table.{Entry, entry}
+use mathlib.Core.List.{List, [], _∷_, _++_}
+use lib.ListN.{length}
+use Rattle.machine.specs.Monitor.{Place, idle, waiting, due, Monitor, Frame, Config, threads, ahead}
+use Rattle.machine.specs.Algorithm1.{Entry, entry}
 
 -- a set of threads to notify: by the state after a body, the places then and the region that ran
 abbrev pub Notices : Type 1
@@ -90,3 +91,20 @@ module _ (m : Monitor) where
     pub data Rules : Config → List Frame → Config → Type 0 where
       no-more : {c : Config} → Rules c [] c
       one-more : {c d c′ : Config} {f : Frame} {fs : List Frame} → Rule c f d → Rules d fs c′ → Rules c (f ∷ fs) c′
+
+module _ (m : Monitor) (notices : Notices) where
+  -- what a frame that is refused by a number breaks: "13 first"
+  pub data Refuses (c : Config) (f : Frame) : ℕ → Type 0 where
+    may-not : (May m (c .place) f → ⊥) → Refuses c f 13
+    no-rule : May m (c .place) f → ((c′ : Config) → Rule m notices c f c′ → ⊥) → Refuses c f 14
+
+  -- The frames before frame j, counted on from k, are allowed one after the other, and frame j is refused by number a
+  pub record Stops (k : ℕ) (c : Config) (fs : List Frame) (a j : ℕ) : Type 0 where
+    pub front : List Frame
+    pub frame : Frame
+    pub more : List Frame
+    pub point : Config
+    pub splits : fs ≡ front ++ (frame ∷ more)
+    pub place : j ≡ k + length front
+    pub allow : Rules m notices c front point
+    pub refuse : Refuses point frame a

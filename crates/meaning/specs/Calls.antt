@@ -1,18 +1,18 @@
--- The library's calls: placing the table of a file into a lent buffer (10), and running a trace from a start state on a machine (11 to 14).
-use Prim.Native.Nat.{ℕ, zero, suc, _+_, _*_}
+-- What the library's calls give: of placing the answer, the length and every byte of the buffer; of a run the record or the answer.
+use Prim.Native.Nat.{ℕ, zero, suc, _+_, _*_, _<_}
+use mathlib.Core.Path.{_≡_}
 use mathlib.Core.Bool.{Bool, true, false}
-use mathlib.Core.List.{List, [], _∷_, _++_}
-use lib.ListN.{length, drop}
-use lib.Dec.{ltb}
+use mathlib.Core.List.{List, [], _∷_}
+use lib.ListN.{length}
 use lib.IntN.{ℤ}
 use Rattle.syntax.specs.Tree.{Monitor}
-use Rattle.machine.specs.Machine.{Place, Frame, Config, Run, Told, run, allIdle, stopped, plainTold, threads}
-use Rattle.machine.specs.Machine as machine
-use Rattle.machine.specs.Table.{entryOf, tableTold}
-use Rattle.meaning.specs.State.{stateAt}
-use Rattle.meaning.specs.Check.{Answer, answer, accepted, refused, check}
-use Rattle.meaning.specs.Model.{vars, kept, model, tableOf}
-use Rattle.meaning.specs.Trace.{Frames, frames, none-at, framesOf}
+use Rattle.machine.specs.Monitor.{Place, Config, threads}
+use Rattle.machine.specs.Rules.{Notices, PlainNotices, TableNotices}
+use Rattle.machine.specs.Decide.Table.{entryOf}
+use Rattle.meaning.specs.Value.{truth}
+use Rattle.meaning.specs.State.{count, stateAt}
+use Rattle.meaning.specs.Answer.{Answer, answer}
+use Rattle.meaning.specs.Model.{vars, model}
 
 -- Placing: the answer, the table's length, and every byte of the buffer afterwards
 
@@ -25,26 +25,10 @@ pub record Placing : Type 0 where
 abbrev pub notPlaced : Answer → List ℕ → Placing
 notPlaced a buffer = record { answer = a; length = 0; buffer = buffer }
 
--- "success writes the table from byte 0 and keeps the bytes behind it"
-unfoldable pub written : List ℕ → List ℕ → Placing
-written table buffer =
-    elim (ltb (length buffer) (length table)) [
-      | true ↦ notPlaced (answer 10 0 0) buffer
-      | false ↦ record { answer = answer 0 0 0; length = length table; buffer = table ++ drop (length table) buffer }
-    ]
-
-unfoldable pub place : List ℕ → List ℕ → Placing
-place file buffer =
-    elim (check file) [ accepted m ↦ written (tableOf (model m)) buffer | refused a ↦ notPlaced a buffer ]
-
 -- Running
 
 pub data Machine : Type 0 where
   plain-machine table-machine : Machine
-
-unfoldable pub toldBy : machine.Monitor → Machine → Told
-toldBy m plain-machine = plainTold m
-toldBy m table-machine = tableTold m (entryOf m)
 
 -- what a function gives for each of n threads from t on
 unfoldable pub eachThread : {A : Type 0} → ℕ → ℕ → (ℕ → A) → List A
@@ -82,22 +66,12 @@ pub data Running : Type 0 where
   ran : Record → Running
   not-run : Answer → Running
 
-unfoldable pub runningOf : Monitor → Run → Running
-runningOf m (machine.accepted c) = ran (recordOf m c)
-runningOf m (stopped a k) = not-run (answer a k 0)
+-- 11: "start state number not below the count of states, or kept condition false there"; a state that counts
+pub record Startable (m : Monitor) (s : ℕ) : Type 0 where
+  pub below : s < count (vars m)
+  pub keeps : truth (m .keep) (vars m) (stateAt (vars m) s) ≡ true
 
--- a run of a list of frames from a state, all idle and none notified
-unfoldable pub runList : Monitor → Machine → ℕ → List Frame → Run
-runList m w s fs = run (model m) (toldBy (model m) w) 0 (allIdle s) fs
-
--- 12 over the whole trace, before any 13 or 14
-unfoldable pub runFrames : Monitor → Machine → ℕ → Frames → Running
-runFrames m w s (frames fs) = runningOf m (runList m w s fs)
-runFrames m w s (none-at k) = not-run (answer 12 k 0)
-
--- 11: "start state number not below the count of states, or kept condition false there"
-unfoldable pub runFrom : Monitor → Machine → ℕ → List ℕ → Running
-runFrom m w s trace = elim (kept m s) [ true ↦ runFrames m w s (framesOf trace) | false ↦ not-run (answer 11 0 0) ]
-
-unfoldable pub running : List ℕ → List ℕ → ℕ → Machine → Running
-running file trace s w = elim (check file) [ accepted m ↦ runFrom m w s trace | refused a ↦ not-run a ]
+-- whom a body notifies, by the source's Figures 4 and 6
+unfoldable pub noticesOf : Monitor → Machine → Notices
+noticesOf m plain-machine = PlainNotices (model m)
+noticesOf m table-machine = TableNotices (model m) (entryOf (model m))

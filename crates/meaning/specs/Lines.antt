@@ -4,11 +4,15 @@ use mathlib.Core.List.{List, [], _∷_, _++_}
 use lib.ListN.{take}
 use lib.IntN.{ℤ, pos, _+ℤ_, natAbs}
 use Rattle.syntax.specs.Tree.{Monitor}
-use Rattle.machine.specs.Machine.{Place, idle, waiting, due}
+use Rattle.machine.specs.Monitor.{Place, idle, waiting, due}
 use Rattle.meaning.specs.State.{starts, numberOf}
-use Rattle.meaning.specs.Check.{Answer, accepted, refused, check}
-use Rattle.meaning.specs.Model.{vars, model, hex2, tableOf}
-use Rattle.meaning.specs.Calls.{Machine, plain-machine, table-machine, Record, Running, ran, not-run, runFrom}
+use Rattle.meaning.specs.Answer.{Answer, accepted, refused}
+use Rattle.meaning.specs.Decide.Check.{check}
+use Rattle.meaning.specs.Model.{vars, model}
+use Rattle.meaning.specs.Hex.{hex2}
+use Rattle.meaning.specs.Decide.Table.{tableOf}
+use Rattle.meaning.specs.Calls.{Machine, plain-machine, table-machine, Record, Running, ran, not-run}
+use Rattle.meaning.specs.Decide.Calls.{runFrom}
 
 unfoldable pub hex4 : ℕ → List ℕ
 hex4 n = hex2 (n / 256) ++ hex2 (n % 256)

@@ -1,5 +1,5 @@
--- Guards and when two are one, the monitor of a file freed from its syntax, and the lines of its table.
-use Prim.Native.Nat.{ℕ, zero, suc, _+_, _-_, _/_, _%_}
+-- Guards and when two are one, and the monitor of a file freed from its syntax.
+use Prim.Native.Nat.{ℕ, suc, _+_, _-_}
 use mathlib.Core.Bool.{Bool, true, false, _&&_, _||_}
 use mathlib.Core.List.{List, [], _∷_, _++_}
 use mathlib.Core.Option.{Option, none, some}
@@ -9,12 +9,10 @@ use lib.IntN.{ℤ}
 use Rattle.syntax.specs.Bytes.{sameBytes}
 use Rattle.syntax.specs.Token.{Lexeme, name, key, number, mark, isMark, isKey}
 use Rattle.syntax.specs.Tree.{Cond, only, just, constant, end, Region, Method, Var, Monitor, all, spellCond}
-use Rattle.machine.specs.Machine as machine
-use Rattle.machine.specs.Table.{Entry, entry, entryOf}
-use Rattle.machine.specs.Table as table
+use Rattle.machine.specs.Monitor as machine
 use Rattle.meaning.specs.Value.{truth, runBlock}
 use Rattle.meaning.specs.State.{count, stateAt, numberOf}
-use Rattle.meaning.specs.Check.{regionsOf}
+use Rattle.meaning.specs.Accepted.{regionsOf}
 
 unfoldable pub sameLexeme : Lexeme → Lexeme → Bool
 sameLexeme (name x) l = elim l [ name y ↦ sameBytes x y | key k ↦ false | number n ↦ false | mark m ↦ false ]
@@ -111,30 +109,3 @@ module _ (m : Monitor) where
         begins = beginsIn (all (m .methods));
         follows = follows;
       }
-
--- The table's lines
-
--- one of the digits 0-9 and A-F
-unfoldable pub hexDigit : ℕ → ℕ
-hexDigit n = elim (ltb n 10) [ true ↦ n + 48 | false ↦ n + 55 ]
-
-unfoldable pub hex2 : ℕ → List ℕ
-hex2 n = hexDigit (n / 16) ∷ hexDigit (n % 16) ∷ []
-
-unfoldable pub hexBool : Bool → List ℕ
-hexBool true = hex2 1
-hexBool false = hex2 0
-
--- "region, guard, 01 unconditional or 00 conditional, 01 broadcast or 00 signal, two digits each"
-unfoldable pub entryLine : ℕ → ℕ → Entry → List ℕ
-entryLine r g table.none = []
-entryLine r g (entry a b) = hex2 r ++ (hex2 g ++ (hexBool a ++ (hexBool b ++ (10 ∷ []))))
-
--- what a function gives for each of n numbers from k on, joined
-unfoldable pub forEach : ℕ → ℕ → (ℕ → List ℕ) → List ℕ
-forEach zero k f = []
-forEach (suc n) k f = f k ++ forEach n (k + 1) f
-
--- "For each region and each guard, in that order"
-unfoldable pub tableOf : machine.Monitor → List ℕ
-tableOf m = forEach (m .regions) 0 (λ r. forEach (m .guards) 0 (λ g. entryLine r g (entryOf m r g)))

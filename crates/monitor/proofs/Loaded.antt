@@ -7,14 +7,16 @@ use mathlib.Core.List.{List}
 use lib.ListN.{length, replicate, length-replicate}
 use lib.IntN.{ℤ}
 use Rattle.syntax.specs.Tree.{Var, Monitor}
-use Rattle.meaning.specs.Check.{Answer, Verdict, accepted, refused, check}
-use Rattle.meaning.specs.Verdicts.{refusal-number, refused-iff}
+use Rattle.meaning.specs.Answer.{Answer, Verdict, accepted, refused}
+use Rattle.meaning.specs.Decide.Check.{check}
+use Rattle.meaning.proofs.Verdicts.{refusal-number, refused-iff}
 use Rattle.meaning.specs.Model.{vars}
 use Rattle.meaning.specs.State.{starts, numberOf}
-use Rattle.meaning.specs.Biased.{Biased}
-use Rattle.meaning.specs.Accepting.{State}
-use Rattle.meaning.specs.StateLaws.{starts-state}
-use Rattle.meaning.specs.Calls.{Machine, runFrom, running}
+use Rattle.meaning.specs.Held.{Biased}
+use Rattle.meaning.specs.Accepted.{State}
+use Rattle.meaning.proofs.StateLaws.{starts-state}
+use Rattle.meaning.specs.Calls.{Machine}
+use Rattle.meaning.specs.Decide.Calls.{runFrom, running}
 use Rattle.variables.specs.Bounded.{Bounded}
 use Rattle.answers.specs.Says.{Is, answerOf}
 use Rattle.answers.specs.declared.Answer as code

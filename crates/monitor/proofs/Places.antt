@@ -7,12 +7,14 @@ use mathlib.Core.List.{List}
 use lib.ListN.{length}
 use lib.Dec.{ltb}
 use Rattle.syntax.specs.Tree.{Monitor}
-use Rattle.machine.specs.Machine as machine
+use Rattle.machine.specs.Monitor as machine
 use Rattle.machine.specs.Held.{HeldEntries}
-use Rattle.meaning.specs.Check.{answer, accepted, check}
-use Rattle.meaning.specs.Calls.{written, place}
-use Rattle.meaning.specs.Model.{model, tableOf}
-use Rattle.meaning.specs.Same.{different}
+use Rattle.meaning.specs.Answer.{answer, accepted}
+use Rattle.meaning.specs.Decide.Check.{check}
+use Rattle.meaning.specs.Decide.Calls.{written, place}
+use Rattle.meaning.specs.Model.{model}
+use Rattle.meaning.specs.Decide.Table.{tableOf}
+use Rattle.logic.proofs.Bools.{different}
 use Rattle.answers.specs.Says.{Says, Is, answerOf}
 use Rattle.answers.specs.declared.Answer as code
 use Rattle.placing.specs.Written.{placedOf, bufferOf, Writes}

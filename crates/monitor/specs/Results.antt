@@ -3,14 +3,16 @@ use Prim.Native.Nat.{ℕ}
 use mathlib.Core.Path.{_≡_}
 use mathlib.Core.List.{List}
 use Rattle.answers.specs.Says.{Says}
-use Rattle.meaning.specs.Calls.{plain-machine, table-machine, running}
+use Rattle.meaning.specs.Calls.{plain-machine, table-machine}
+use Rattle.meaning.specs.Decide.Calls.{running}
 use Rattle.meaning.specs.Calls as calls
 use Rattle.syntax.specs.Tree.{Monitor}
 use Rattle.machine.specs.Held.{HeldEntries}
-use Rattle.meaning.specs.Check.{Verdict, accepted, refused, check}
+use Rattle.meaning.specs.Answer.{Verdict, accepted, refused}
+use Rattle.meaning.specs.Decide.Check.{check}
 use Rattle.meaning.specs.State.{numberOf, starts}
 use Rattle.meaning.specs.Model.{vars, model}
-use Rattle.meaning.specs.Demands.{SameRunning}
+use Rattle.demands.specs.Demand3.{SameRunning}
 use Rattle.running.specs.Results.{Runs}
 use Rattle.running.specs.declared.Running.{Running}
 use Rattle.monitor.specs.declared.Placing.{Placing}

@@ -10,16 +10,21 @@ use lib.ListN.{length, take, drop, length-append}
 use lib.Seq.{length-take-le, take-all, take-take}
 use lib.Dec.{ltb}
 use borrow.Author.Tests.{ltb-true, lt-ltb}
-use Rattle.meaning.specs.Check.{Answer, answer, Verdict, accepted, refused, check}
+use Rattle.meaning.specs.Answer.{Answer, answer, Verdict, accepted, refused}
+use Rattle.meaning.specs.Decide.Check.{check}
 use Rattle.meaning.specs.Model.{model}
-use Rattle.meaning.specs.Bools.{both, and, clash}
-use Rattle.meaning.specs.Verdicts.{refusal-number, accepted-iff, refused-iff}
-use Rattle.meaning.specs.Sizes.{sizes}
-use Rattle.meaning.specs.Calls.{Machine, plain-machine, table-machine, ran, not-run, place, running}
+use Rattle.logic.proofs.Bools.{both, and, clash}
+use Rattle.meaning.proofs.Verdicts.{refusal-number, accepted-iff, refused-iff}
+use Rattle.meaning.proofs.Sizes.{sizes}
+use Rattle.meaning.specs.Calls.{Machine, plain-machine, table-machine, ran, not-run}
+use Rattle.meaning.specs.Decide.Calls.{place, running}
 use Rattle.meaning.specs.Calls as calls
-use Rattle.meaning.specs.Demands.{PlacesAs, file-refused, too-short, placed, place-iff, accepted-writes-table, answerOf, running-iff}
+use Rattle.demands.specs.Demand1.{PlacesAs, file-refused, too-short, placed}
+use Rattle.demands.proofs.Demand1.{place-iff, accepted-writes-table, running-iff}
+use Rattle.demands.specs.Demand3.{runAnswer}
 use Rattle.meaning.specs.Lines.{refusalLine, recordLine, runLine, machineLine, placer, runner}
-use Rattle.meaning.specs.Widths.{AnswerFits, refusal-fits, RunFits, running-fits, trace-number, line-short, table-short}
+use Rattle.demands.specs.Widths.{AnswerFits, RunFits}
+use Rattle.demands.proofs.Widths.{refusal-fits, running-fits, trace-number, line-short, table-short}
 use Rattle.answers.specs.Says.{Says}
 use Rattle.answers.specs.declared.Answer as code
 use Rattle.running.specs.Results.{Runs}
@@ -106,8 +111,8 @@ module _ (r : Running) {before after : List ℕ} {at n : ℕ} (room : at + 47 �
 
 -- ---- the runs
 
-number-is : (x : calls.Running) (r : Running) → Runs x r → r .answer .number ≡ answerOf x .number
-unfolding Runs answerOf
+number-is : (x : calls.Running) (r : Running) → Runs x r → r .answer .number ≡ runAnswer x .number
+unfolding Runs runAnswer
 number-is (ran rec) r s = s .0 .number
 number-is (not-run a) r s = s .0 .number
 
@@ -133,7 +138,7 @@ module _ (file trace : List ℕ) (short : length trace ≤ 65536) where
 
     -- the number of a file's refusal: one line
     one-line : of-file ≡ true → runLine (end plain-machine) ≡ runner file trace
-    unfolding running runLine runner answerOf
+    unfolding running runLine runner runAnswer
     one-line h = go (check file) refl
       where
         go : (v : Verdict) → check file ≡ v → runLine (end plain-machine) ≡ runner file trace
@@ -148,7 +153,7 @@ module _ (file trace : List ℕ) (short : length trace ≤ 65536) where
 
     -- any other: a line for each machine
     two-lines : of-file ≡ false → runLine (end plain-machine) ++ runLine (end table-machine) ≡ runner file trace
-    unfolding running runLine machineLine runner answerOf startOf
+    unfolding running runLine machineLine runner runAnswer startOf
     two-lines h = go (check file) refl
       where
         go : (v : Verdict) → check file ≡ v → runLine (end plain-machine) ++ runLine (end table-machine) ≡ runner file trace

@@ -7,7 +7,7 @@ ghost use lib.ListN.{length};
 ghost use lib.Dec.{ltb};
 ghost use Rattle.meaning.specs.Calls as calls;
 ghost use Rattle.meaning.specs.Lines.{runLine, placer, runner};
-ghost use Rattle.meaning.specs.Widths.{RunFits};
+ghost use Rattle.demands.specs.Widths.{RunFits};
 ghost use Rattle.running.specs.Results.{Runs};
 ghost use Rattle.lines.specs.Written.{Writes};
 ghost use Rattle.output.specs.Printed.{Prints};

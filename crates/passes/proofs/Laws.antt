@@ -11,9 +11,10 @@ use lib.Seq.{take-suc, drop-cons}
 use lib.Dec.{leb}
 use borrow.Author.Tests.{leb-false}
 use Rattle.syntax.specs.Token.{Lexeme, number, mark, lbrace, Token, k-var, k-method, k-waituntil, markNumber, isKey}
-use Rattle.syntax.specs.Kind.{kindOf, valueOf, Words}
-use Rattle.meaning.specs.Check.{opens, closes, tally, crowded, pastLimit}
-use Rattle.meaning.specs.Bools.{is-false, no-some, clash}
+use Rattle.syntax.specs.Held.Kind.{kindOf, valueOf, Words}
+use Rattle.meaning.specs.Accepted.{opens, closes}
+use Rattle.meaning.specs.Decide.Check.{tally, crowded, pastLimit}
+use Rattle.logic.proofs.Bools.{is-false, no-some, clash}
 use Rattle.passes.specs.Tokens.{foundOf}
 use Rattle.passes.specs.declared.Found.the-variants.{At, Nothing}
 

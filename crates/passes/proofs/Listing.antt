@@ -9,9 +9,9 @@ use lib.ListN.{length, take, drop, getD, set, length-append, length-map, drop-of
 use lib.Seq.{length-take-le, take-all, set-at, append-snoc, getD-at}
 use lib.Dec.{eqb}
 use Rattle.syntax.specs.Token.{Lexeme, name, key, number, mark, Token, k-var, Keyword, keywordNumber, isKey, isName}
-use Rattle.syntax.specs.Kind.{kindOf, valueOf, Words}
-use Rattle.meaning.specs.Bools.{split}
-use Rattle.meaning.specs.Check.{tally, pastLimit}
+use Rattle.syntax.specs.Held.Kind.{kindOf, valueOf, Words}
+use Rattle.logic.proofs.Bools.{split}
+use Rattle.meaning.specs.Decide.Check.{tally, pastLimit}
 use Rattle.passes.specs.declared.Names.{Names}
 use Rattle.passes.specs.Tokens.{titlesOf, titlesFrom, slotOrValue, Stands, Titles, Resolved, Grows}
 use Rattle.passes.specs.Kinds.{kind-name, kind-key}

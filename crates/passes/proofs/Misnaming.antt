@@ -9,9 +9,10 @@ use lib.ListN.{length, drop, getD, length-append, length-reverse}
 use lib.Dec.{eqb}
 use Rattle.syntax.specs.Bytes.{sameBytes}
 use Rattle.syntax.specs.Token.{Lexeme, name, key, number, mark, Token, k-var, k-method, keywordNumber, isKey}
-use Rattle.syntax.specs.Kind.{kindOf, Words}
-use Rattle.meaning.specs.Same.{decides-key, different}
-use Rattle.meaning.specs.Check.{pastLimit, member, misnamed}
+use Rattle.syntax.specs.Held.Kind.{kindOf, Words}
+use Rattle.syntax.proofs.Lexemes.{decides-key}
+use Rattle.logic.proofs.Bools.{different}
+use Rattle.meaning.specs.Decide.Check.{pastLimit, member, misnamed}
 use Rattle.passes.specs.declared.Names.{Names}
 use Rattle.passes.specs.declared.Found.the-variants.{At, Nothing}
 use Rattle.passes.specs.Tokens.{foundOf, Titles, Grows, Judges, wrongBy, wrongly}

@@ -10,12 +10,13 @@ use lib.Dec.{ltb, eqb, leb·suc-suc}
 use borrow.Author.Tests.{lt-ltb, ltb-true, ltb-false, eq-eqb}
 use Rattle.syntax.specs.Bytes.{sameBytes}
 use Rattle.syntax.specs.Token.{Lexeme, name, key, number, mark, Token, k-var, k-method, k-monitor, Mark, Keyword, keywordNumber, isName}
-use Rattle.syntax.specs.Kind.{kindOf, valueOf, Words}
+use Rattle.syntax.specs.Held.Kind.{kindOf, valueOf, Words}
 use Rattle.syntax.specs.Spelling.{Spells, reserved, named, valued, marked}
-use Rattle.syntax.specs.Scanning.{token-stands}
-use Rattle.meaning.specs.Bools.{split, is-false, clash}
-use Rattle.meaning.specs.Same.{decides-same, different}
-use Rattle.meaning.specs.Check.{member}
+use Rattle.syntax.proofs.Scanning.{token-stands}
+use Rattle.logic.proofs.Bools.{split, is-false, clash}
+use Rattle.syntax.proofs.Lexemes.{decides-same}
+use Rattle.logic.proofs.Bools.{different}
+use Rattle.meaning.specs.Decide.Check.{member}
 use Rattle.passes.specs.declared.Names.{Names}
 use Rattle.passes.specs.Tokens.{slotIn, slotOrValue, Stands, Titles, wrongBy, wrongly}
 use Rattle.passes.specs.Kinds.{kind-name, kind-key}

@@ -3,12 +3,12 @@ use Prim.Native.Nat.{ℕ, _+_, _<_}
 use native.Mathlib.Omega.{arith}
 use mathlib.Core.Path.{_≡_, refl, sym, _∙_}
 use mathlib.Core.Bool.{_||_}
-use Rattle.meaning.specs.Check.{opens, closes}
+use Rattle.meaning.specs.Accepted.{opens, closes}
 use lib.Dec.{eqb}
 use borrow.Author.Tests.{eqb-true, eqb-false, eq-eqb, ne-eqb}
 use Rattle.syntax.specs.Token.{Lexeme, name, key, number, mark, Mark, lbrace, rbrace, lparen, rparen, semicolon, equals, dots, becomes, same, differs, below, at-most, above, at-least, plus, minus, bang, and-and, or-or, Keyword, k-monitor, k-var, k-in, k-keep, k-method, k-waituntil, k-if, k-else, k-true, k-false, markNumber, keywordNumber, isMark, isKey, isName}
-use Rattle.syntax.specs.Kind.{kindOf}
-use Rattle.meaning.specs.Bools.{split}
+use Rattle.syntax.specs.Held.Kind.{kindOf}
+use Rattle.logic.proofs.Bools.{split}
 
 mark-few : (m : Mark) → markNumber m < 19
 unfolding markNumber

@@ -7,8 +7,8 @@ use mathlib.Core.Option.{Option, none, some}
 use lib.ListN.{length, take, drop, getD}
 use Rattle.syntax.specs.Bytes.{sameBytes}
 use Rattle.syntax.specs.Token.{Lexeme, name, key, number, mark, k-monitor, k-var, k-method, Token, isKey}
-use Rattle.syntax.specs.Kind.{kindOf}
-use Rattle.meaning.specs.Check.{member}
+use Rattle.syntax.specs.Held.Kind.{kindOf}
+use Rattle.meaning.specs.Decide.Check.{member}
 use Rattle.passes.specs.declared.Names.{Names}
 use Rattle.passes.specs.declared.Found.{Found}
 use Rattle.passes.specs.declared.Found.the-variants.{At, Nothing}

@@ -7,8 +7,9 @@ ghost use mathlib.Core.Option.{none};
 ghost use lib.Dec.{leb, eqb};
 ghost use Rattle.syntax.specs.Bytes.{sameBytes};
 ghost use Rattle.syntax.specs.Token.{Token, Lexeme, name, number, k-var, k-method, k-waituntil, isKey};
-ghost use Rattle.syntax.specs.Kind.{kindOf, valueOf, Words};
-ghost use Rattle.meaning.specs.Check.{opens, tally, crowded, pastLimit, member, misnamed};
+ghost use Rattle.syntax.specs.Held.Kind.{kindOf, valueOf, Words};
+ghost use Rattle.meaning.specs.Accepted.{opens};
+ghost use Rattle.meaning.specs.Decide.Check.{tally, crowded, pastLimit, member, misnamed};
 ghost use Rattle.passes.specs.Tokens.{foundOf, titlesOf, slotIn, slotOrValue, Resolved, Stands, Titles, Grows, Judges};
 
 // The place of the first token that offends, or that there is none.

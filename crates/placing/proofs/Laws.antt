@@ -12,9 +12,10 @@ use lib.ListN.{length, getD, take, drop, set, length-append, length-drop, take-a
 use lib.Seq.{take-at, drop-append-add, drop-drop, length-take-le, sets-eq}
 use lib.Dec.{eqb}
 use borrow.Author.Tests.{lt-ltb, le-ltb}
-use Rattle.machine.specs.Machine.{any}
-use Rattle.machine.specs.Table.{entry}
-use Rattle.meaning.specs.Model.{hexDigit, hex2, hexBool, entryLine, forEach}
+use Rattle.logic.specs.Tests.{any}
+use Rattle.machine.specs.Algorithm1.{entry}
+use Rattle.meaning.specs.Hex.{hexDigit, hex2, hexBool}
+use Rattle.meaning.specs.Decide.Table.{entryLine, forEach}
 use Rattle.placing.specs.Slices.{entryBy, lineAt, over}
 use Rattle.placing.specs.Written.{placedOf, bufferOf, Writes}
 use Rattle.placing.specs.declared.Placed.the-variants.{Length, Short}

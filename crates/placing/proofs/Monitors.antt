@@ -8,11 +8,13 @@ use native.Mathlib.Nat.{mod-eq-of-lt}
 use native.Mathlib.Omega.{arith}
 use lib.ListN.{getD}
 use lib.Dec.{eqb}
-use Rattle.sets.specs.SetLaws.{eqb-sym}
-use Rattle.machine.specs.Machine.{Monitor}
-use Rattle.machine.specs.Table.{Entry, none, entry, runs, someMove, everyMove, stands, unconditional, broadcast, entryOf}
-use Rattle.machine.specs.Held.{Held, bit, codeOf, HeldEntries}
-use Rattle.meaning.specs.Model.{tableOf}
+use Rattle.sets.proofs.SetLaws.{eqb-sym}
+use Rattle.machine.specs.Monitor.{Monitor}
+use Rattle.machine.specs.Algorithm1.{Entry, none, entry}
+use Rattle.machine.specs.Decide.Table.{runs, someMove, everyMove, stands, unconditional, broadcast, entryOf}
+use Rattle.machine.specs.Held.{Held, codeOf, HeldEntries}
+use Rattle.logic.specs.Tests.{bit}
+use Rattle.meaning.specs.Decide.Table.{tableOf}
 use Rattle.placing.specs.Slices.{runsAt, someAt, rises, neither, holdsThen, wideAt, made, codeAt, entryBy, lineAt, linesAt, tableAt}
 use Rattle.placing.proofs.Laws.{any-same, forEach-same}
 

@@ -7,8 +7,8 @@ use mathlib.Core.List.{List}
 use lib.ListN.{getD}
 use lib.Bits.{bitAnd, bitOr, bitXor}
 use Rattle.sets.specs.Set.{member}
-use Rattle.sets.specs.SetLaws.{member-and, member-or, member-xor, member-none, member-one, member-full, bit-of}
-use Rattle.machine.specs.Machine.{any}
+use Rattle.sets.proofs.SetLaws.{member-and, member-or, member-xor, member-none, member-one, member-full, bit-of}
+use Rattle.logic.specs.Tests.{any}
 use Rattle.placing.specs.Slices.{runsAt, someAt, rises, neither, holdsThen, Swept, wideAt, sweptCode, codeAt}
 use Rattle.placing.specs.declared.Sweep.{Sweep}
 use Rattle.placing.proofs.Laws.{any-next}

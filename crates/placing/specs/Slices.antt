@@ -7,9 +7,9 @@ use mathlib.Core.List.{List, _++_}
 use lib.ListN.{length, getD, take, drop}
 use lib.Dec.{eqb}
 use Rattle.sets.specs.Set.{member}
-use Rattle.machine.specs.Machine.{any}
-use Rattle.machine.specs.Table.{Entry, none, entry}
-use Rattle.meaning.specs.Model.{entryLine, forEach}
+use Rattle.logic.specs.Tests.{any}
+use Rattle.machine.specs.Algorithm1.{Entry, none, entry}
+use Rattle.meaning.specs.Decide.Table.{entryLine, forEach}
 use Rattle.machine.specs.Held.{codeOf}
 use Rattle.placing.specs.declared.Sweep.{Sweep}
 

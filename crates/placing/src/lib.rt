@@ -2,9 +2,10 @@
 ghost use mathlib.Core.Path.{_≡_};
 ghost use Prim.Native.Nat.{ℕ, _+_, _*_, _%_, _<_, _≤_};
 ghost use lib.ListN.{length, getD};
-ghost use Rattle.machine.specs.Machine.{Monitor};
+ghost use Rattle.machine.specs.Monitor.{Monitor};
 ghost use Rattle.machine.specs.Held.{Held, codeOf, HeldEntries};
-ghost use Rattle.meaning.specs.Model.{tableOf, hexDigit, entryLine};
+ghost use Rattle.meaning.specs.Decide.Table.{tableOf, entryLine};
+ghost use Rattle.meaning.specs.Hex.{hexDigit};
 ghost use Rattle.placing.specs.Written.{Writes};
 ghost use Rattle.placing.specs.Slices.{Swept, made, sweptCode, codeAt, entryBy, lineAt, linesAt, tableAt, over};
 

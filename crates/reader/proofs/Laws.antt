@@ -11,9 +11,9 @@ use lib.Seq.{drop-cons}
 use lib.Dec.{leb}
 use borrow.Author.Tests.{le-leb, lt-leb}
 use Rattle.syntax.specs.Token.{Lexeme, number}
-use Rattle.syntax.specs.Kind.{kindOf}
+use Rattle.syntax.specs.Held.Kind.{kindOf}
 use Rattle.syntax.specs.Tree.{Monitor}
-use Rattle.syntax.specs.Reading.{Got, got, stuck, Reader, onwards, _>>=_, give, begins, rest, choose, expect, atEnd, readMonitor, read}
+use Rattle.syntax.specs.Decide.Reading.{Got, got, stuck, Reader, onwards, _>>=_, give, begins, rest, choose, expect, atEnd, readMonitor, read}
 use Rattle.reader.specs.Reads.{Reads, Goes, Follows, halted, among, seen, Tells, Expects}
 use Rattle.reader.specs.declared.Pos.{Pos}
 use Rattle.reader.specs.declared.Pos.the-variants.{Next, Stuck}

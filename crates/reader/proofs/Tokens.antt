@@ -7,9 +7,9 @@ use native.Mathlib.Omega.{arith}
 use lib.Dec.{leb, eqb, leb·zero, leb·suc-zero, leb·suc-suc, eqb·zero-suc, eqb·suc-zero, eqb·suc-suc, lit<, lit≤}
 use borrow.Author.Tests.{eq-eqb, ne-eqb, eqb-true, eqb-false, le-leb, lt-leb, leb-true, leb-false}
 use Rattle.syntax.specs.Token.{Lexeme, name, key, number, mark, Mark, lbrace, rbrace, lparen, rparen, semicolon, equals, dots, becomes, same, differs, below, at-most, above, at-least, plus, minus, bang, and-and, or-or, Keyword, k-monitor, k-var, k-in, k-keep, k-method, k-waituntil, k-if, k-else, k-true, k-false, markNumber, keywordNumber, isMark, isKey, isName}
-use Rattle.syntax.specs.Kind.{kindOf}
+use Rattle.syntax.specs.Held.Kind.{kindOf}
 use Rattle.syntax.specs.Tree.{Sign, added, taken, Comparison, eq, ne, lt, le, gt, ge}
-use Rattle.syntax.specs.Reading.{Got, got, stuck, Reader, onwards, _>>=_, give, begins, rest, choose, expect, readName, readNumber, isSign, readSign, readComparison}
+use Rattle.syntax.specs.Decide.Reading.{Got, got, stuck, Reader, onwards, _>>=_, give, begins, rest, choose, expect, readName, readNumber, isSign, readSign, readComparison}
 use Rattle.reader.specs.Reads.{Follows, Tells, Expects}
 use Rattle.reader.specs.declared.Pos.{Pos}
 use Rattle.reader.proofs.Laws.{shape, shaped}

@@ -6,8 +6,8 @@ use mathlib.Core.List.{List, [], _∷_, map}
 use lib.ListN.{length, drop}
 use lib.Dec.{leb}
 use Rattle.syntax.specs.Token.{Lexeme}
-use Rattle.syntax.specs.Kind.{kindOf}
-use Rattle.syntax.specs.Reading.{Got, got, stuck, Reader, expect}
+use Rattle.syntax.specs.Held.Kind.{kindOf}
+use Rattle.syntax.specs.Decide.Reading.{Got, got, stuck, Reader, expect}
 use Rattle.reader.specs.declared.Pos.{Pos}
 use Rattle.reader.specs.declared.Pos.the-variants.{Next, Stuck}
 

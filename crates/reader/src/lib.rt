@@ -6,9 +6,9 @@ ghost use lib.ListN.{length};
 ghost use Prim.Native.Nat.{_≤_};
 ghost use Rattle.syntax.specs.Token.{Lexeme, isKey, k-var, k-method, k-waituntil};
 ghost use Rattle.syntax.specs.Tree.{Int, Atom, Term, Expr, Cond, Conj, Simple, Block, Stmt, Region, Method, Var, Monitor};
-ghost use Rattle.syntax.specs.Reading.{atEnd, isSign, readMany, readInt, readAtom, readTerm, readExpr, readCond, readConj, readSimple, readBlock, readStmt, readRegion, readMethod, readVar, readMonitor};
-ghost use Rattle.syntax.specs.Reading as reading;
-ghost use Rattle.syntax.specs.Kind.{kindOf};
+ghost use Rattle.syntax.specs.Decide.Reading.{atEnd, isSign, readMany, readInt, readAtom, readTerm, readExpr, readCond, readConj, readSimple, readBlock, readStmt, readRegion, readMethod, readVar, readMonitor};
+ghost use Rattle.syntax.specs.Decide.Reading as reading;
+ghost use Rattle.syntax.specs.Held.Kind.{kindOf};
 ghost use Rattle.reader.specs.Reads.{Reads, Follows, Expects, halted, seen};
 
 // The token behind a phrase, or the token at which it cannot go on; the count of tokens stands for the file's end.

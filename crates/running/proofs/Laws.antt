@@ -12,26 +12,29 @@ use lib.Dec.{eqb}
 use lib.Count as count
 use borrow.Author.Tests.{eqb-true, eqb-false}
 use Rattle.sets.specs.Set.{member, size}
-use Rattle.sets.specs.SetLaws.{member-zero, member-suc, size-ones}
+use Rattle.sets.proofs.SetLaws.{member-zero, member-suc, size-ones}
 use Rattle.syntax.specs.Tree.{Monitor}
-use Rattle.machine.specs.Machine.{Config, Told, Run, accepted, stopped, allIdle, run, threads}
-use Rattle.machine.specs.Machine as machine
-use Rattle.machine.specs.Points.{Checked}
-use Rattle.machine.specs.Held.{Held, bit}
-use Rattle.meaning.specs.Bools.{split}
-use Rattle.meaning.specs.Check.{answer}
-use Rattle.meaning.specs.Biased.{Biased}
+use Rattle.machine.specs.Monitor.{Config, Run, accepted, stopped, allIdle, threads}
+use Rattle.machine.specs.Decide.Step.{Told, run}
+use Rattle.machine.specs.Monitor as machine
+use Rattle.machine.specs.Agreement.{Checked}
+use Rattle.machine.specs.Held.{Held}
+use Rattle.logic.specs.Tests.{bit}
+use Rattle.logic.proofs.Bools.{split}
+use Rattle.meaning.specs.Answer.{answer}
+use Rattle.meaning.specs.Held.{Biased}
 use Rattle.meaning.specs.State.{stateAt}
 use Rattle.meaning.specs.State as state
-use Rattle.meaning.specs.Trace.{framesOf, frames, none-at}
+use Rattle.meaning.specs.Decide.Frames.{framesOf, frames, none-at}
 use Rattle.meaning.specs.Model.{vars, kept, model}
-use Rattle.meaning.specs.ModelLaws.{kept-below}
-use Rattle.meaning.specs.Calls.{Machine, eachThread, bits, ones, toldBy, not-run, recordOf, runningOf, runList, runFrames, runFrom}
+use Rattle.meaning.proofs.ModelLaws.{kept-below}
+use Rattle.meaning.specs.Calls.{Machine, eachThread, bits, ones, not-run, recordOf}
+use Rattle.meaning.specs.Decide.Calls.{toldBy, runningOf, runList, runFrames, runFrom}
 use Rattle.stepper.specs.declared.Thread.{Thread}
 use Rattle.stepper.specs.declared.Run as code
 use Rattle.stepper.specs.Shown.{Shows, placeOf, idleThread, toldOn}
-use Rattle.meaning.specs.Demands.{run-reached, run-stops}
-use Rattle.meaning.specs.Widths.{each-length}
+use Rattle.demands.proofs.Demand2.{run-reached, run-stops}
+use Rattle.demands.proofs.Widths.{each-length}
 use Rattle.runs.specs.Ended.{EndsAs}
 use Rattle.runs.specs.declared.Ended.{Ended}
 use Rattle.running.specs.Results.{Runs, Records, machineOf}

@@ -5,10 +5,10 @@ use mathlib.Core.Bool.{Bool, true, false}
 use mathlib.Core.List.{map}
 use lib.ListN.{length, getD, replicate}
 use lib.IntN.{pos}
-use Rattle.machine.specs.Machine as machine
+use Rattle.machine.specs.Monitor as machine
 use Rattle.stepper.specs.Shown.{placeOf}
-use Rattle.meaning.specs.Biased.{Offset}
-use Rattle.meaning.specs.Check.{answer}
+use Rattle.meaning.specs.Held.{Offset}
+use Rattle.meaning.specs.Answer.{answer}
 use Rattle.meaning.specs.Calls.{Machine, plain-machine, table-machine, ran, not-run}
 use Rattle.meaning.specs.Calls as calls
 use Rattle.running.specs.declared.Record as code

@@ -11,13 +11,14 @@ ghost use mathlib.Core.Bool.{true};
 ghost use Prim.Native.Nat.{_<_};
 ghost use lib.ListN.{length};
 ghost use Rattle.syntax.specs.Tree.{Monitor};
-ghost use Rattle.machine.specs.Machine.{Config};
-ghost use Rattle.machine.specs.Points.{Checked};
+ghost use Rattle.machine.specs.Monitor.{Config};
+ghost use Rattle.machine.specs.Agreement.{Checked};
 ghost use Rattle.machine.specs.Held.{Held, HeldPlaces, HeldEntries};
 ghost use Rattle.meaning.specs.Model.{vars, regions, model};
-ghost use Rattle.meaning.specs.Check.{answer};
+ghost use Rattle.meaning.specs.Answer.{answer};
 ghost use Rattle.meaning.specs.State.{count};
 ghost use Rattle.meaning.specs.Calls as calls;
+ghost use Rattle.meaning.specs.Decide.Calls as decided;
 ghost use Rattle.stepper.specs.Shown.{Shows};
 ghost use Rattle.variables.specs.Bounded.{Bounded};
 ghost use Rattle.running.specs.Results.{Runs, Records, NoRecord, machineOf};
@@ -99,7 +100,7 @@ pub fn run_from(
         → Held (model m) (now (kept .entry)) (now (holds .entry)) (now (after .entry)) (layout .«guard_of»)
         → HeldPlaces (model m) (layout .begins) (layout .«goes_on»)
         → (table ≡ true → HeldEntries (model m) (now (entries .entry)))
-        → Checked (model m) → Runs (calls.runFrom m (machineOf table) start (now (bytes .entry))) r) ⌝ }
+        → Checked (model m) → Runs (decided.runFrom m (machineOf table) start (now (bytes .entry))) r) ⌝ }
 {
     if bounds.states <= start || 4096 <= start {
         return no_start();

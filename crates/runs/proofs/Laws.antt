@@ -7,13 +7,14 @@ use mathlib.Core.Bool.{Bool, true, false}
 use mathlib.Core.List.{List, [], _∷_}
 use lib.ListN.{length, drop, getD}
 use lib.Seq.{drop-cons, drop-length}
-use Rattle.machine.specs.Machine.{Monitor, Config, Outcome, moved, refused, allIdle, step, run}
-use Rattle.machine.specs.Machine as machine
-use Rattle.machine.specs.Points.{Checked}
+use Rattle.machine.specs.Monitor.{Monitor, Config, allIdle}
+use Rattle.machine.specs.Decide.Step.{Outcome, moved, refused, step, run}
+use Rattle.machine.specs.Monitor as machine
+use Rattle.machine.specs.Agreement.{Checked}
 use Rattle.machine.specs.Held.{Held, HeldPlaces, HeldEntries}
-use Rattle.machine.specs.RulesDecided.{run-on, run-stop, refused-number, told-decides}
-use Rattle.machine.specs.Reached.{Reached, start-reached, step-reached}
-use Rattle.meaning.specs.Trace.{framesOf, frames}
+use Rattle.machine.proofs.RulesDecided.{run-on, run-stop, refused-number, told-decides}
+use Rattle.machine.proofs.Reached.{Reached, start-reached, step-reached}
+use Rattle.meaning.specs.Decide.Frames.{framesOf, frames}
 use Rattle.stepper.specs.declared.Run as code
 use Rattle.stepper.specs.declared.Frame.{Frame}
 use Rattle.stepper.specs.declared.Outcome as coded

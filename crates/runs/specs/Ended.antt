@@ -1,6 +1,6 @@
 -- What the end of the code's run says of the machine's run of the list.
 use mathlib.Core.Path.{_≡_}
-use Rattle.machine.specs.Machine.{Run, accepted, stopped}
+use Rattle.machine.specs.Monitor.{Run, accepted, stopped}
 use Rattle.stepper.specs.Shown.{Shows}
 use Rattle.runs.specs.declared.Ended.{Ended}
 

@@ -5,11 +5,12 @@ ghost use mathlib.Core.Path.{_≡_};
 ghost use mathlib.Core.Bool.{true};
 ghost use mathlib.Core.List.{List};
 ghost use Prim.Native.Nat.{ℕ};
-ghost use Rattle.machine.specs.Machine as machine;
-ghost use Rattle.machine.specs.Machine.{Monitor, allIdle};
-ghost use Rattle.machine.specs.Points.{Checked};
+ghost use Rattle.machine.specs.Monitor as machine;
+ghost use Rattle.machine.specs.Decide.Step as step;
+ghost use Rattle.machine.specs.Monitor.{Monitor, allIdle};
+ghost use Rattle.machine.specs.Agreement.{Checked};
 ghost use Rattle.machine.specs.Held.{Held, HeldPlaces, HeldEntries};
-ghost use Rattle.meaning.specs.Trace.{framesOf, frames};
+ghost use Rattle.meaning.specs.Decide.Frames.{framesOf, frames};
 ghost use Rattle.stepper.specs.Shown.{toldOn};
 ghost use Rattle.runs.specs.Ended.{EndsAs};
 
@@ -41,7 +42,7 @@ pub fn run_trace(
         → HeldPlaces m (now (begins .entry)) (now («goes_on» .entry))
         → (table ≡ true → HeldEntries m (now (entries .entry)))
         → Checked m → m .kept state ≡ true → framesOf (now (bytes .entry)) ≡ frames fs
-        → EndsAs r (machine.run m (toldOn m table) 0 (allIdle state) fs)) ⌝ }
+        → EndsAs r (step.run m (toldOn m table) 0 (allIdle state) fs)) ⌝ }
 {
     let mut run = stepper::start(state);
     let mut k: usize = 0;

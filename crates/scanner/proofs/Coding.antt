@@ -9,11 +9,12 @@ use lib.ListN.{length, take, drop, getD, length-drop}
 use lib.Dec.{leb}
 use borrow.Author.Tests.{leb-true, leb-false}
 use Rattle.syntax.specs.Bytes.{letter, digit, wordByte, leading, decimal}
-use Rattle.syntax.specs.Token.{Lexeme, Keyword, number, mark, Scan, nothing, found, scan, wordOf, keywords, keywordNumber}
+use Rattle.syntax.specs.Token.{Lexeme, Keyword, number, mark, keywords, keywordNumber}
+use Rattle.syntax.specs.Decide.Scan.{Scan, nothing, found, scan, wordOf}
 use Rattle.syntax.specs.Token as syntax
 use Rattle.scanner.specs.Step.{keyCode, tokenOf, wordAt, numberAt}
 use Rattle.scanner.specs.Coded.{lexemeCode, codeOf, Within}
-use Rattle.syntax.specs.Kind.{kindOf, valueOf}
+use Rattle.syntax.specs.Held.Kind.{kindOf, valueOf}
 use Rattle.scanner.specs.declared.Token.the-variants.{Word}
 use Rattle.scanner.proofs.Laws.{by-cases, leading-le, leading-more-at}
 use Rattle.scanner.proofs.Marks.{MarkOr, none, one, marks-or}

@@ -13,7 +13,8 @@ use lib.Seq.{drop-cons, getD-drop}
 use lib.Dec.{eqb}
 use borrow.Author.Tests.{ne-eqb, not-true}
 use Rattle.syntax.specs.Bytes.{bytes, startsWith}
-use Rattle.syntax.specs.Token.{Mark, Scan, markOf, marks, markNumber, nothing, found, mark}
+use Rattle.syntax.specs.Token.{Mark, marks, markNumber, mark}
+use Rattle.syntax.specs.Decide.Scan.{Scan, markOf, nothing, found}
 use Rattle.scanner.specs.Step.{marked, tokenOf, stepOf, stepTo}
 use Rattle.scanner.specs.declared.Marked.{Marked}
 use Rattle.scanner.specs.declared.Token.the-variants as token

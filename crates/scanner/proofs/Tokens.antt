@@ -9,10 +9,11 @@ use lib.ListN.{length, take, drop, getD, set, length-append, length-drop, drop-o
 use lib.Seq.{drop-drop, take-suc-set}
 use borrow.Author.Tests.{lt-ltb, le-ltb}
 use Rattle.syntax.specs.Bytes.{blank, leading}
-use Rattle.syntax.specs.Token.{Lexeme, Scan, nothing, found, scan, Token, Tokens, tokens, none-at, prepend, tokensFrom, tokenize}
+use Rattle.syntax.specs.Token.{Lexeme, Token}
+use Rattle.syntax.specs.Decide.Scan.{Scan, nothing, found, scan, Tokens, tokens, none-at, prepend, tokensFrom, tokenize}
 use Rattle.scanner.specs.Step.{stepOf, stepAt}
 use Rattle.scanner.specs.Coded.{lexemeCode, codeOf, Within, Coded, scannedAs, scannedOf, Scans}
-use Rattle.syntax.specs.Kind.{kindOf, valueOf}
+use Rattle.syntax.specs.Held.Kind.{kindOf, valueOf}
 use Rattle.scanner.specs.declared.Step.{Step}
 use Rattle.scanner.specs.declared.Scanned.the-variants as scanned
 use Rattle.scanner.proofs.Laws.{by-cases, leading-none, leading-stop, leading-more}

@@ -5,8 +5,9 @@ use mathlib.Core.Bool.{true, false}
 use mathlib.Core.List.{List, map}
 use lib.ListN.{length, take, drop}
 use lib.Dec.{ltb}
-use Rattle.syntax.specs.Kind.{kindOf, valueOf}
-use Rattle.syntax.specs.Token.{Lexeme, number, Token, Tokens, tokens, none-at, tokenize, wordOf, keywords}
+use Rattle.syntax.specs.Held.Kind.{kindOf, valueOf}
+use Rattle.syntax.specs.Token.{Lexeme, number, Token, keywords}
+use Rattle.syntax.specs.Decide.Scan.{Tokens, tokens, none-at, tokenize, wordOf}
 use Rattle.scanner.specs.declared.Token as token
 use Rattle.scanner.specs.declared.Token.the-variants.{Word, Number, Mark, None}
 use Rattle.scanner.specs.declared.Code.{Code}

@@ -5,8 +5,9 @@ use mathlib.Core.List.{List, [], _∷_}
 use lib.ListN.{take, drop}
 use lib.Dec.{eqb}
 use Rattle.syntax.specs.Bytes.{blank, digit, wordByte, leading, decimal, sameBytes}
-use Rattle.syntax.specs.Token.{Lexeme, name, key, number, mark, nothing, found, markNumber, keywordNumber, scan, atMost, wordOf, keywords}
-use Rattle.syntax.specs.Token as syntax
+use Rattle.syntax.specs.Token.{Lexeme, name, key, number, mark, markNumber, keywordNumber, keywords}
+use Rattle.syntax.specs.Decide.Scan.{nothing, found, scan, atMost, wordOf}
+use Rattle.syntax.specs.Decide.Scan as syntax
 use Rattle.scanner.specs.declared.Token.{Token}
 use Rattle.scanner.specs.declared.Token.the-variants.{Word, Number, Mark, None}
 use Rattle.scanner.specs.declared.Marked.{Marked}

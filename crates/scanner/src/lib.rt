@@ -6,7 +6,8 @@ ghost use mathlib.Core.List.{[], _∷_};
 ghost use Prim.Native.Nat.{_+_, _-_, _≤_, _<_};
 ghost use lib.ListN.{take, drop, getD, length};
 ghost use Rattle.syntax.specs.Bytes.{blank, letter, digit, wordByte, leading, decimal, sameBytes};
-ghost use Rattle.syntax.specs.Token.{markOf, marks, wordOf, keywords, nothing, scan as scanned};
+ghost use Rattle.syntax.specs.Decide.Scan.{markOf, wordOf, nothing, scan as scanned};
+ghost use Rattle.syntax.specs.Token.{marks, keywords};
 ghost use Rattle.scanner.specs.Step.{passes, marked, place, keyCode, wordAt, numberAt, stepOf, stepTo, stepAt};
 ghost use Rattle.scanner.specs.Coded.{lexemeCode, Within, codeOf, Scans};
 

@@ -4,8 +4,10 @@ use mathlib.Core.Path.{_≡_, refl, ap, ap₂, _∙_}
 use mathlib.Core.Bool.{Bool, true, false, not, _&&_}
 use mathlib.Core.List.{List}
 use lib.Dec.{eqb, ltb}
-use Rattle.machine.specs.Machine.{Place, idle, waiting, due, Monitor, threads, ahead, onGuard, waitsOn, next, firstNotified, own, plainTold}
-use Rattle.machine.specs.Table.{Entry, acts, entryTold, tableTold}
+use Rattle.machine.specs.Monitor.{Place, idle, waiting, due, Monitor, threads, ahead}
+use Rattle.machine.specs.Decide.Step.{onGuard, waitsOn, next, firstNotified, own, plainTold}
+use Rattle.machine.specs.Algorithm1.{Entry}
+use Rattle.machine.specs.Decide.Table.{acts, entryTold, tableTold}
 use Rattle.stepper.specs.Slices.{entryAt, truths, toldAt}
 use Rattle.stepper.proofs.Laws.{any-same}
 

@@ -10,16 +10,19 @@ use lib.Dec.{eqb, ltb}
 use lib.ListN.{getD}
 use borrow.Author.Tests.{le-ltb}
 use Rattle.sets.specs.Set.{member}
-use Rattle.machine.specs.Machine.{Place, idle, waiting, due, Monitor, Config, Frame, Outcome, threads, put, leave, beginWait, without, isDue, isWaiting, mayBeAt, may, firstNotified, ran, waited, rechecked, step}
-use Rattle.machine.specs.Table.{Entry, none, entry, runs, entryOf}
-use Rattle.machine.specs.Held.{bit, followsBy, codeOf, Held, HeldPlaces, HeldEntries}
+use Rattle.machine.specs.Monitor.{Place, idle, waiting, due, Monitor, Config, Frame, threads}
+use Rattle.machine.specs.Decide.Step.{Outcome, put, leave, beginWait, without, isDue, isWaiting, mayBeAt, may, firstNotified, ran, waited, rechecked, step}
+use Rattle.machine.specs.Algorithm1.{Entry, none, entry}
+use Rattle.machine.specs.Decide.Table.{runs, entryOf}
+use Rattle.logic.specs.Tests.{bit}
+use Rattle.machine.specs.Held.{followsBy, codeOf, Held, HeldPlaces, HeldEntries}
 use Rattle.stepper.specs.declared.Run.{Run}
 use Rattle.stepper.specs.Shown.{Shows, Steps, toldOn}
 use Rattle.stepper.specs.Slices.{guardAt, holdsAt, afterAt, beginsAt, followsAt, entryBy, entryAt, slices, truths, toldAt, placesOf, configOf}
 use Rattle.stepper.specs.Parts.{verdictOf, nextBy, nextOf, outcome, step-parts}
 use Rattle.stepper.proofs.Taken as taken-frame
 use Rattle.stepper.proofs.Taken.{taken-there, taken-runs, there-below}
-use Rattle.machine.specs.Reached.{PlaceWithin, Reached}
+use Rattle.machine.proofs.Reached.{PlaceWithin, Reached}
 use Rattle.stepper.proofs.Laws.{any-same}
 use Rattle.stepper.proofs.Judged.{same-verdict, absent}
 use Rattle.stepper.proofs.Agree.{first-same, plain-same, table-same}

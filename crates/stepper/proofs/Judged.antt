@@ -8,7 +8,9 @@ use native.Mathlib.Omega.{arith}
 use lib.Dec.{eqb, ltb}
 use borrow.Author.Tests.{lt-ltb, le-ltb}
 use Rattle.sets.specs.Set.{member}
-use Rattle.machine.specs.Machine.{Place, idle, waiting, due, Monitor, Config, Frame, any, threads, isDue, isWaiting, mayBeAt, may, firstNotified}
+use Rattle.machine.specs.Monitor.{Place, idle, waiting, due, Monitor, Config, Frame, threads}
+use Rattle.logic.specs.Tests.{any}
+use Rattle.machine.specs.Decide.Step.{isDue, isWaiting, mayBeAt, may, firstNotified}
 use Rattle.stepper.specs.Slices.{slices}
 use Rattle.stepper.specs.Parts.{verdict, verdictOf}
 use Rattle.stepper.proofs.Laws.{any-true, any-false, any-below}

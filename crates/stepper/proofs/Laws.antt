@@ -11,10 +11,12 @@ use lib.ListN.{length, getD, set}
 use lib.Seq.{getD-set-same, getD-set-other}
 use borrow.Author.Tests.{lt-ltb, le-ltb, eq-eqb, ne-eqb, eqb-true, eqb-false}
 use Rattle.sets.specs.Set.{member}
-use Rattle.sets.specs.SetLaws.{member-none, eqb-sym}
-use Rattle.machine.specs.Machine.{any, put, onGuard, waitsOn, next, threads}
-use Rattle.machine.specs.Machine as machine
-use Rattle.machine.specs.Table.{acts as actsOf, entryTold, tableTold}
+use Rattle.sets.proofs.SetLaws.{member-none, eqb-sym}
+use Rattle.logic.specs.Tests.{any}
+use Rattle.machine.specs.Decide.Step.{put, onGuard, waitsOn, next}
+use Rattle.machine.specs.Monitor.{threads}
+use Rattle.machine.specs.Monitor as machine
+use Rattle.machine.specs.Decide.Table.{acts as actsOf, entryTold, tableTold}
 use Rattle.machine.specs.Held.{followsBy}
 use Rattle.stepper.specs.declared.Place.{Place}
 use Rattle.stepper.specs.declared.Thread.{Thread}

@@ -6,12 +6,13 @@ use mathlib.Core.Bool.{Bool, true, false, _&&_}
 use mathlib.Core.List.{List}
 use lib.Dec.{eqb}
 use lib.ListN.{getD}
-use Rattle.machine.specs.Machine.{waiting, Monitor, Config, Frame, put, may}
-use Rattle.machine.specs.Table.{runs}
+use Rattle.machine.specs.Monitor.{waiting, Monitor, Config, Frame}
+use Rattle.machine.specs.Decide.Step.{put, may}
+use Rattle.machine.specs.Decide.Table.{runs}
 use Rattle.machine.specs.Held.{HeldPlaces, followsBy}
-use Rattle.machine.specs.Sets.{beq-equal}
-use Rattle.machine.specs.Tests.{may-iff}
-use Rattle.machine.specs.Reached.{PlaceWithin, Reached, may-below}
+use Rattle.logic.proofs.Bools.{beq-equal}
+use Rattle.machine.proofs.Tests.{may-iff}
+use Rattle.machine.proofs.Reached.{PlaceWithin, Reached, may-below}
 use Rattle.stepper.specs.Parts.{verdict, verdictOf}
 
 there-of : (a b w f n k : Bool) → verdict a b w f n k ≡ 0 → a ≡ true

@@ -3,7 +3,8 @@
 use Prim.Native.Nat.{ℕ, zero, suc}
 use mathlib.Core.Path.{_≡_, refl}
 use mathlib.Core.Bool.{Bool, true, false, _&&_, Bool·beq}
-use Rattle.machine.specs.Machine.{Monitor, Config, Frame, Outcome, moved, refused, Told, may, isWaiting, firstNotified, ran, waited, rechecked, allowed, act, judged, step}
+use Rattle.machine.specs.Monitor.{Monitor, Config, Frame}
+use Rattle.machine.specs.Decide.Step.{Outcome, moved, refused, Told, may, isWaiting, firstNotified, ran, waited, rechecked, allowed, act, judged, step}
 
 -- may the thread be there, is the flag the guard's truth, does the thread wait, the flag, has it a notice, is it the first with one
 unfoldable pub verdict : Bool → Bool → Bool → Bool → Bool → Bool → ℕ

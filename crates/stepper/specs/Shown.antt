@@ -4,9 +4,10 @@ use mathlib.Core.Path.{_≡_}
 use mathlib.Core.Bool.{Bool, true, false}
 use lib.ListN.{getD}
 use Rattle.sets.specs.Set.{member}
-use Rattle.machine.specs.Machine.{Monitor, Config, Outcome, moved, refused, step, plainTold, Told}
-use Rattle.machine.specs.Machine as machine
-use Rattle.machine.specs.Table.{entryOf, tableTold}
+use Rattle.machine.specs.Monitor.{Monitor, Config}
+use Rattle.machine.specs.Decide.Step.{Outcome, moved, refused, step, plainTold, Told}
+use Rattle.machine.specs.Monitor as machine
+use Rattle.machine.specs.Decide.Table.{entryOf, tableTold}
 use Rattle.stepper.specs.declared.Place.{Place}
 use Rattle.stepper.specs.declared.Place.the-variants.{Idle, Waiting, Due}
 use Rattle.stepper.specs.declared.Thread.{Thread}

@@ -5,8 +5,10 @@ use mathlib.Core.List.{List, []}
 use lib.ListN.{getD}
 use lib.Dec.{eqb}
 use Rattle.sets.specs.Set.{member}
-use Rattle.machine.specs.Machine.{Place, idle, waiting, due, Monitor, Config, Told, plainTold}
-use Rattle.machine.specs.Table.{Entry, none, entry, acts, tableTold}
+use Rattle.machine.specs.Monitor.{Place, idle, waiting, due, Monitor, Config}
+use Rattle.machine.specs.Decide.Step.{Told, plainTold}
+use Rattle.machine.specs.Algorithm1.{Entry, none, entry}
+use Rattle.machine.specs.Decide.Table.{acts, tableTold}
 use Rattle.machine.specs.Held.{followsBy}
 use Rattle.stepper.specs.declared.Thread.{Thread}
 use Rattle.stepper.specs.declared.Run.{Run}

@@ -1,9 +1,6 @@
 pub mod Bytes
 pub mod Token
 pub mod Spelling
-pub mod Scanning
-pub mod Kind
 pub mod Tree
-pub mod Reading
-pub mod Phrase
-pub mod Grammar
+pub mod Decide
+pub mod Held

@@ -12,16 +12,16 @@ use lib.IntN.{ℤ}
 use borrow.Author.Tests.{eqb-true, eqb-false, eq-eqb, ne-eqb, lt-ltb}
 use Rattle.sets.specs.Set.{member}
 use Rattle.syntax.specs.Tree.{Var, Cond, Region}
-use Rattle.machine.specs.Held.{bit}
+use Rattle.logic.specs.Tests.{bit}
 use Rattle.meaning.specs.Value.{truth, runBlock}
 use Rattle.meaning.specs.State.{count, stateAt, numberOf}
-use Rattle.meaning.specs.Check.{keptAfter, breaks}
+use Rattle.meaning.specs.Decide.Check.{keptAfter, breaks}
 use Rattle.meaning.specs.Model.{numberAfter}
-use Rattle.meaning.specs.Accepting.{State}
-use Rattle.meaning.specs.Bools.{and, split, clash, true-not, is-false}
-use Rattle.meaning.specs.Biased.{Biased}
-use Rattle.meaning.specs.StateLaws.{state-at, number-below, state-at-number}
-use Rattle.meaning.specs.BodyLaws.{block-runs-of-run, block-runs-state}
+use Rattle.meaning.specs.Accepted.{State}
+use Rattle.logic.proofs.Bools.{and, split, clash, true-not, is-false}
+use Rattle.meaning.specs.Held.{Biased}
+use Rattle.meaning.proofs.StateLaws.{state-at, number-below, state-at-number}
+use Rattle.meaning.proofs.BodyLaws.{block-runs-of-run, block-runs-state}
 use Rattle.evaluator.specs.Coding.{RunAs, lane}
 use Rattle.variables.specs.Bounded.{Bounded}
 use Rattle.variables.specs.declared.Bounds.{Bounds}

@@ -10,16 +10,16 @@ use lib.Seq.{getD-take, getD-append-add, length-take-le}
 use Rattle.sets.specs.Set.{member}
 use Rattle.syntax.specs.Token.{Lexeme}
 use Rattle.syntax.specs.Tree.{Region, Monitor}
-use Rattle.syntax.specs.Grammar.{one-cond}
-use Rattle.machine.specs.Table.{runs}
+use Rattle.syntax.proofs.Grammar.{one-cond}
+use Rattle.machine.specs.Decide.Table.{runs}
 use Rattle.meaning.specs.Value.{truth}
 use Rattle.meaning.specs.State.{count, stateAt}
-use Rattle.meaning.specs.Check.{breaks, broken}
+use Rattle.meaning.specs.Decide.Check.{breaks, broken}
 use Rattle.meaning.specs.Model.{vars, regions, region, guardOf, kept, holds, after, model}
-use Rattle.meaning.specs.ModelLaws.{region-numbered, guard-below, holds-guard}
-use Rattle.meaning.specs.Accepting.{IsRegion}
-use Rattle.meaning.specs.Bools.{both, no-some}
-use Rattle.meaning.specs.Soundness.{broken-none-iff, broken-some-iff}
+use Rattle.meaning.proofs.ModelLaws.{region-numbered, guard-below, holds-guard}
+use Rattle.meaning.specs.Accepted.{IsRegion}
+use Rattle.logic.proofs.Bools.{both, no-some}
+use Rattle.meaning.proofs.Soundness.{broken-none-iff, broken-some-iff}
 use Rattle.evaluator.specs.Coding.{Codes}
 use Rattle.variables.specs.Bounded.{Bounded}
 use Rattle.variables.specs.declared.Bounds.{Bounds}

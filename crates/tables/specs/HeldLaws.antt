@@ -9,16 +9,17 @@ use lib.Dec.{ltb}
 use borrow.Author.Tests.{ltb-true, lt-ltb}
 use lib.IntN.{ℤ}
 use Rattle.syntax.specs.Tree.{Var, Cond, Region, Monitor}
-use Rattle.syntax.specs.Grammar.{one-cond}
-use Rattle.machine.specs.Held.{bit, Held}
-use Rattle.machine.specs.Table.{runs}
+use Rattle.syntax.proofs.Grammar.{one-cond}
+use Rattle.logic.specs.Tests.{bit}
+use Rattle.machine.specs.Held.{Held}
+use Rattle.machine.specs.Decide.Table.{runs}
 use Rattle.meaning.specs.Value.{truth, runBlock}
 use Rattle.meaning.specs.State.{count, stateAt}
 use Rattle.meaning.specs.Model.{vars, regions, guards, guardsOf, placeIn, guardOf, kept, holds, after, model}
-use Rattle.meaning.specs.ModelLaws.{guard-below, kept-below, keeps}
-use Rattle.meaning.specs.Check.{keptAfter, breaks}
-use Rattle.meaning.specs.Accepting.{Sound}
-use Rattle.meaning.specs.Bools.{both, split, not-true}
+use Rattle.meaning.proofs.ModelLaws.{guard-below, kept-below, keeps}
+use Rattle.meaning.specs.Decide.Check.{keptAfter, breaks}
+use Rattle.meaning.specs.Accepted.{Sound}
+use Rattle.logic.proofs.Bools.{both, split, not-true}
 use Rattle.tables.specs.Rows.{TruthRow, GuardNumbers, KeptAll, HoldsAll, AfterAll}
 
 -- a file has at most as many guards as regions

@@ -8,8 +8,8 @@ use lib.ListN.{length, getD, drop}
 use Rattle.sets.specs.Set.{member}
 use Rattle.syntax.specs.Token.{Lexeme, mark, rbrace}
 use Rattle.syntax.specs.Tree.{Var, Cond, Monitor, spellCond, spellBlock}
-use Rattle.machine.specs.Held.{bit}
-use Rattle.machine.specs.Table.{runs}
+use Rattle.logic.specs.Tests.{bit}
+use Rattle.machine.specs.Decide.Table.{runs}
 use Rattle.meaning.specs.Value.{truth}
 use Rattle.meaning.specs.State.{count, stateAt}
 use Rattle.meaning.specs.Model.{vars, regions, guards, region, guardOf, noGuard, kept, holds, after, model}

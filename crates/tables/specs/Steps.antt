@@ -11,9 +11,9 @@ use Rattle.sets.specs.Set.{member}
 use Rattle.syntax.specs.Tree.{Monitor, Var, Cond, Region, spellCond, spellBlock}
 use Rattle.meaning.specs.Value.{truth, runBlock}
 use Rattle.meaning.specs.State.{count, stateAt}
-use Rattle.meaning.specs.Check.{keptAfter, breaks}
+use Rattle.meaning.specs.Decide.Check.{keptAfter, breaks}
 use Rattle.meaning.specs.Model.{vars, guards, noGuard, numberAfter}
-use Rattle.meaning.specs.Biased.{Biased}
+use Rattle.meaning.specs.Held.{Biased}
 use Rattle.evaluator.specs.Coding.{Codes, EndsCond, lane}
 use Rattle.variables.specs.Bounded.{Bounded}
 use Rattle.variables.specs.declared.Bounds.{Bounds}

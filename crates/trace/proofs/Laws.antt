@@ -12,13 +12,13 @@ use lib.ListN.{length, drop, getD, length-reverse, length-drop, drop-of-length-l
 use lib.Seq.{append-snoc, drop-cons, drop-drop, getD-drop}
 use lib.Dec.{eqb}
 use borrow.Author.Tests.{eqb-true, eq-eqb, lt-ltb, ltb-true}
-use Rattle.machine.specs.Machine as machine
-use Rattle.meaning.specs.Trace.{ended, linesFrom, isHex, hexValue, allHex, pairAt, isFrame, frameOf, Frames, frames, none-at, prepend, framesFrom, framesOf}
-use Rattle.meaning.specs.Trace as meaning
-use Rattle.meaning.specs.Digits.{decides-hex, low-value, high-value, pair-digits}
-use Rattle.meaning.specs.TraceLaws.{frameAt, is-frame}
-use Rattle.meaning.specs.Bools.{both, and, split, clash, is-false, is-true}
-use Rattle.meaning.specs.Same.{different}
+use Rattle.machine.specs.Monitor as machine
+use Rattle.meaning.specs.Decide.Frames.{ended, linesFrom, isHex, hexValue, allHex, pairAt, isFrame, frameOf, Frames, frames, none-at, prepend, framesFrom, framesOf}
+use Rattle.meaning.specs.Decide.Frames as meaning
+use Rattle.meaning.proofs.Digits.{decides-hex, low-value, high-value, pair-digits}
+use Rattle.meaning.proofs.Frames.{frameAt, is-frame}
+use Rattle.logic.proofs.Bools.{both, and, split, clash, is-false, is-true}
+use Rattle.logic.proofs.Bools.{different}
 use Rattle.trace.specs.Lined.{lineFor, firstOf, lineAt, countedAs, countedOf}
 use Rattle.trace.specs.Pairs.{digitOf, pairOf}
 use Rattle.trace.specs.declared.Line.the-variants as line

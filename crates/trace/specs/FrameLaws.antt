@@ -9,13 +9,14 @@ use lib.ListN.{length, drop, getD, length-append, length-drop}
 use lib.Dec.{eqb, ltb}
 use borrow.Author.Tests.{ltb-true, ltb-false, le-leb}
 use lib.Seq.{drop-append-add, drop-cons, drop-length, getD-drop}
-use Rattle.machine.specs.Machine as machine
-use Rattle.meaning.specs.Trace.{frameOf, Frames, frames, none-at, prepend, framesFrom, framesOf}
-use Rattle.meaning.specs.Trace as meaning
-use Rattle.meaning.specs.TraceLaws.{frameLine, IsFrameRecord, FrameRecords, no-frame, one-frame, linesOf, line-seven, lines-seven, frames-read}
-use Rattle.meaning.specs.Bools.{split}
-use Rattle.meaning.specs.Model.{hexDigit, hex2, hexBool}
-use Rattle.meaning.specs.Same.{different}
+use Rattle.machine.specs.Monitor as machine
+use Rattle.meaning.specs.Decide.Frames.{frameOf, Frames, frames, none-at, prepend, framesFrom, framesOf}
+use Rattle.meaning.specs.Decide.Frames as meaning
+use Rattle.meaning.specs.Trace.{frameLine, IsFrameRecord, FrameRecords, no-frame, one-frame, linesOf}
+use Rattle.meaning.proofs.Frames.{line-seven, lines-seven, frames-read}
+use Rattle.logic.proofs.Bools.{split}
+use Rattle.meaning.specs.Hex.{hexDigit, hex2, hexBool}
+use Rattle.logic.proofs.Bools.{different}
 use Rattle.trace.specs.Decoded.{valueOf, numbersAt}
 use Rattle.trace.specs.Lined.{lineFor, firstOf, lineAt, countedAs, countedOf}
 use Rattle.trace.specs.declared.Line as code

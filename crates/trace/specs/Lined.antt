@@ -3,9 +3,9 @@ use Prim.Native.Nat.{ℕ}
 use mathlib.Core.List.{List, [], _∷_}
 use mathlib.Core.Option.{Option, none, some}
 use lib.ListN.{length, drop}
-use Rattle.machine.specs.Machine as machine
-use Rattle.meaning.specs.Trace.{linesFrom, frameOf, Frames, frames, none-at, framesOf}
-use Rattle.meaning.specs.Trace as meaning
+use Rattle.machine.specs.Monitor as machine
+use Rattle.meaning.specs.Decide.Frames.{linesFrom, frameOf, Frames, frames, none-at, framesOf}
+use Rattle.meaning.specs.Decide.Frames as meaning
 use Rattle.trace.specs.declared.Line as code
 use Rattle.trace.specs.declared.Line.the-variants as line
 use Rattle.trace.specs.declared.Counted as counted

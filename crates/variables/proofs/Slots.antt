@@ -11,8 +11,8 @@ use lib.IntN.{ℤ}
 use Rattle.syntax.specs.Tree.{Var}
 use Rattle.meaning.specs.Value.{intOf}
 use Rattle.meaning.specs.State.{size, count}
-use Rattle.meaning.specs.Accepting.{AtMost, GoodRange, GoodRanges, no-vars, one-var}
-use Rattle.meaning.specs.Bools.{no-some}
+use Rattle.meaning.specs.Accepted.{AtMost, GoodRange, GoodRanges, no-vars, one-var}
+use Rattle.logic.proofs.Bools.{no-some}
 use Rattle.variables.specs.Offsets.{Shifted, shifted-le, shifted-distance, le-shifted, pos-shifted, neg-shifted, rebased}
 use Rattle.variables.specs.Reading.{TripleOf, Good, Slots, Loaded, WithVar}
 use Rattle.variables.specs.declared.Bounds.{Bounds}

@@ -13,12 +13,12 @@ use lib.IntN.{ℤ, pos, _+ℤ_}
 use Rattle.syntax.specs.Tree.{Var}
 use Rattle.meaning.specs.Value.{intOf, inRange}
 use Rattle.meaning.specs.State.{size, count, stateAt, numberOf}
-use Rattle.meaning.specs.Accepting.{AtMost, GoodRanges, State, no-values, one-value}
-use Rattle.meaning.specs.Bools.{no-some}
-use Rattle.meaning.specs.Integers.{in-range-iff, not-less-iff}
-use Rattle.meaning.specs.StateLaws.{count-pos}
+use Rattle.meaning.specs.Accepted.{AtMost, GoodRanges, State, no-values, one-value}
+use Rattle.logic.proofs.Bools.{no-some}
+use Rattle.meaning.proofs.Integers.{in-range-iff, not-less-iff}
+use Rattle.meaning.proofs.StateLaws.{count-pos}
 use Rattle.variables.specs.Bounded.{Bounded}
-use Rattle.meaning.specs.Biased.{Offset, Biased}
+use Rattle.meaning.specs.Held.{Offset, Biased}
 use Rattle.variables.specs.Offsets.{Shifted, shifted-up, shifted-distance, le-shifted}
 use Rattle.variables.specs.Reading.{Slots, SizeOf, DigitOf, ShareOf}
 use Rattle.variables.specs.declared.Bounds.{Bounds}

@@ -14,15 +14,15 @@ use lib.IntN.{pos}
 use borrow.Author.Tests.{leb-true, leb-false, eq-eqb}
 use Rattle.syntax.specs.Token.{Lexeme, name, key, number, mark, Mark, k-var, markNumber, keywordNumber, isKey}
 use Rattle.syntax.specs.Token as token
-use Rattle.syntax.specs.Kind.{kindOf}
+use Rattle.syntax.specs.Held.Kind.{kindOf}
 use Rattle.syntax.specs.Tree.{Var, each, spellVar}
 use Rattle.meaning.specs.Value.{intOf}
 use Rattle.meaning.specs.State.{size, count, starts}
-use Rattle.meaning.specs.Accepting.{GoodRanges, no-vars}
-use Rattle.meaning.specs.Bools.{split, no-some}
-use Rattle.meaning.specs.Same.{decides-key}
+use Rattle.meaning.specs.Accepted.{GoodRanges, no-vars}
+use Rattle.logic.proofs.Bools.{split, no-some}
+use Rattle.syntax.proofs.Lexemes.{decides-key}
 use Rattle.variables.specs.Bounded.{Numbers, Bounded, EndsVars, Ranged, RangedBy}
-use Rattle.meaning.specs.Biased.{Offset, Biased, Ranges}
+use Rattle.meaning.specs.Held.{Offset, Biased, Ranges}
 use Rattle.variables.specs.Reading.{TripleAt, SpelledVar, Good, Slots, Loaded, WithVar, Weighed}
 use Rattle.variables.specs.declared.Bounds.{Bounds}
 use Rattle.variables.specs.declared.Triple.{Triple}

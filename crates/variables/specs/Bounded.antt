@@ -6,12 +6,12 @@ use mathlib.Core.List.{List, _∷_, map}
 use mathlib.Core.Option.{some}
 use lib.ListN.{length, getD, drop, take, getElem?}
 use Rattle.syntax.specs.Token.{Lexeme, number, key, k-var}
-use Rattle.syntax.specs.Kind.{kindOf}
+use Rattle.syntax.specs.Held.Kind.{kindOf}
 use Rattle.syntax.specs.Tree.{Var, each, spellVar}
-use Rattle.meaning.specs.Biased.{Biased, Ranges}
+use Rattle.meaning.specs.Held.{Biased, Ranges}
 use Rattle.meaning.specs.State.{count, starts}
-use Rattle.meaning.specs.Accepting.{GoodRanges}
-use Rattle.meaning.specs.Refused.{FirstIllRanged}
+use Rattle.meaning.specs.Accepted.{GoodRanges}
+use Rattle.meaning.specs.Refusal.{FirstIllRanged}
 use Rattle.variables.specs.declared.Bounds.{Bounds}
 use Rattle.variables.specs.declared.Declared.{Declared}
 

@@ -7,8 +7,8 @@ use lib.Dec.{ltb}
 use lib.IntN.{ℤ, pos, negℤ, natAbs, _+ℤ_, _-ℤ_, +ℤ-assoc, +ℤ-comm, +ℤ-invr, +ℤ-idl, +ℤ-negℤ-cancel, -ℤ-+ℤ-cancel, negℤ-+ℤ, pos-+ℤ-pos}
 use borrow.Author.Tests.{ltb-true, ltb-false}
 use Rattle.meaning.specs.Value.{less}
-use Rattle.meaning.specs.Bools.{split, clash}
-use Rattle.meaning.specs.Integers.{up-distance, less-iff, not-less-iff}
+use Rattle.logic.proofs.Bools.{split, clash}
+use Rattle.meaning.proofs.Integers.{up-distance, less-iff, not-less-iff}
 
 -- a whole number, held as n with b added
 pub record Shifted (b : ℕ) (a : ℤ) (n : ℕ) : Type 0 where

@@ -10,7 +10,7 @@ use Rattle.syntax.specs.Token.{Lexeme}
 use Rattle.syntax.specs.Tree.{Int, Var, spellInt, spellVar}
 use Rattle.meaning.specs.Value.{intOf}
 use Rattle.meaning.specs.State.{count}
-use Rattle.meaning.specs.Accepting.{GoodRanges}
+use Rattle.meaning.specs.Accepted.{GoodRanges}
 use Rattle.variables.specs.Offsets.{Shifted}
 use Rattle.variables.specs.Bounded.{Numbers}
 use Rattle.variables.specs.declared.Bounds.{Bounds}

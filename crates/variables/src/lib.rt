@@ -8,9 +8,9 @@ ghost use lib.IntN.{ℤ};
 ghost use Rattle.syntax.specs.Token.{Lexeme};
 ghost use Rattle.syntax.specs.Tree.{Var, each, spellVar};
 ghost use Rattle.meaning.specs.State.{stateAt, numberOf, count};
-ghost use Rattle.meaning.specs.Accepting.{State};
+ghost use Rattle.meaning.specs.Accepted.{State};
 ghost use Rattle.variables.specs.Bounded.{Numbers, EndsVars, Ranged, Bounded};
-ghost use Rattle.meaning.specs.Biased.{Biased};
+ghost use Rattle.meaning.specs.Held.{Biased};
 ghost use Rattle.variables.specs.Reading.{IntAt, TripleAt, Good, Fitting, WithVar, Loaded, SizeOf, Weights, Weighed, DigitOf, ShareOf};
 
 // At most six variables: bounds, start values, sizes of ranges, and weights in a state's number.

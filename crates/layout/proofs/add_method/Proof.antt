@@ -6,7 +6,7 @@ use mathlib.Core.List.{List}
 use lib.ListN.{length, drop, getD}
 use Rattle.syntax.specs.Token.{Token, lexemes, Lexeme}
 use Rattle.syntax.specs.Tree.{Region}
-use Rattle.syntax.specs.Kind.{Words}
+use Rattle.syntax.specs.Held.Kind.{Words}
 use Rattle.layout.specs.Steps.{Flagged, Holds, Grown}
 use Rattle.layout.proofs.Methods.{kind-within, regionsAhead, Ahead, ahead-start, ahead-turn, ahead-full, ahead-over}
 use Rattle.layout.proofs.add_method.Statement.{statement}

@@ -9,7 +9,7 @@ use lib.ListN.{length, drop}
 use Rattle.syntax.specs.Token.{lexemes}
 use Rattle.layout.specs.Steps.{flagAt}
 use Rattle.layout.specs.Closing.{closeFrom}
-use Rattle.syntax.specs.Kind.{kindOf}
+use Rattle.syntax.specs.Held.Kind.{kindOf}
 use Rattle.layout.proofs.Closes.{close-within}
 use Rattle.layout.proofs.Same.{lexemes-length}
 use Rattle.layout.proofs.Regions.{Numbered, numbered-same, numbered-room, numbered-holds}

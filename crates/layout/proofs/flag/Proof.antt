@@ -2,7 +2,7 @@
 use borrow.Author.Needs.{needs}
 use borrow.Author.Tests.{eq-eqb, ne-eqb}
 use mathlib.Core.Path.{sym, _∙_}
-use Rattle.machine.specs.Held.{bit}
+use Rattle.logic.specs.Tests.{bit}
 use Rattle.layout.specs.Steps.{flagAt}
 use Rattle.layout.proofs.flag.Statement.{statement}
 use Rattle.layout.proofs.flag.Tie as tie

@@ -7,7 +7,7 @@ use lib.ListN.{length, drop, getD}
 use Rattle.syntax.specs.Token.{Token, lexemes}
 use Rattle.syntax.specs.Tree.{Cond}
 use Rattle.meaning.specs.Model.{placeIn, sameGuard}
-use Rattle.syntax.specs.Kind.{Words}
+use Rattle.syntax.specs.Held.Kind.{Words}
 use Rattle.layout.specs.Steps.{GuardAt, Flagged, noFlagged, found, Holds}
 use Rattle.layout.proofs.Regions.{number-here, number-later, number-over, first-stands, first-small}
 use Rattle.layout.proofs.guard_number.Statement.{statement}

@@ -8,7 +8,7 @@ use Rattle.syntax.specs.Token.{Token, lexemes}
 use Rattle.syntax.specs.Tree.{Monitor, all, spell}
 use Rattle.meaning.specs.Model.{regions}
 use Rattle.layout.specs.Laid.{IsKeep}
-use Rattle.syntax.specs.Kind.{Words}
+use Rattle.syntax.specs.Held.Kind.{Words}
 use Rattle.layout.specs.Steps.{Room}
 use Rattle.layout.proofs.Closes.{close-within}
 use Rattle.layout.proofs.Methods.{kind-within, AheadAll, all-start, all-turn, all-over}

@@ -7,7 +7,7 @@ use lib.ListN.{length, drop, take}
 use Rattle.syntax.specs.Bytes.{sameBytes}
 use Rattle.syntax.specs.Token.{Token}
 use Rattle.meaning.specs.Model.{sameLexeme}
-use Rattle.syntax.specs.Kind.{Words}
+use Rattle.syntax.specs.Held.Kind.{Words}
 use Rattle.layout.specs.Steps.{lexemeAt}
 use Rattle.layout.proofs.Same.{kinds-differ, values-differ, no-names, first-fits, second-fits, names-agree}
 use borrow.Author.Needs.{needs}

@@ -7,7 +7,7 @@ use lib.ListN.{drop, take}
 use borrow.Author.Tests.{not-true, not-false}
 use Rattle.syntax.specs.Token.{Token, lexemes}
 use Rattle.meaning.specs.Model.{sameLexemes}
-use Rattle.syntax.specs.Kind.{Words}
+use Rattle.syntax.specs.Held.Kind.{Words}
 use Rattle.layout.proofs.Same.{left, tokens-start, tokens-turn, tokens-differ, tokens-over, kinds-length}
 use Rattle.layout.proofs.same_tokens.Statement.{statement}
 use Rattle.layout.proofs.same_tokens.Tie as tie

@@ -1,7 +1,7 @@
 -- `lines::hex_digit` gives a digit of a line. Each arm is the digit's own case. Assumes nothing.
 use borrow.Author.Needs.{needs}
 use mathlib.Core.Path.{sym}
-use Rattle.meaning.specs.Digits.{low-digit, high-digit}
+use Rattle.meaning.proofs.Digits.{low-digit, high-digit}
 use Rattle.lines.proofs.hex_digit.Statement.{statement}
 use Rattle.lines.proofs.hex_digit.Tie as tie
 

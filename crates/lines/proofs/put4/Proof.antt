@@ -1,6 +1,6 @@
 -- `lines::put4` meets its contract: two digits are written behind two. Assumes nothing.
 use native.Mathlib.Omega.{arith}
-use Rattle.meaning.specs.Model.{hex2}
+use Rattle.meaning.specs.Hex.{hex2}
 use Rattle.meaning.specs.Lines.{hex4}
 use Rattle.lines.proofs.Laws.{written-more}
 use borrow.Author.Needs.{needs}

@@ -1,7 +1,7 @@
 -- `lines::put_answer` meets its contract: the line is four parts, one written behind the other. Assumes nothing.
 use native.Mathlib.Omega.{arith}
 use native.Mathlib.Nat.{mod-eq-of-lt}
-use Rattle.meaning.specs.Model.{hex2}
+use Rattle.meaning.specs.Hex.{hex2}
 use Rattle.meaning.specs.Lines.{hex4, refusalLine}
 use Rattle.lines.proofs.Laws.{written-four}
 use borrow.Author.Needs.{needs}

@@ -2,7 +2,7 @@
 use Prim.Native.Nat.{_-_, _≤_}
 use native.Mathlib.Omega.{arith}
 use mathlib.Core.Path.{_≡_}
-use Rattle.meaning.specs.Model.{forEach}
+use Rattle.meaning.specs.Decide.Table.{forEach}
 use Rattle.stepper.specs.Shown.{idleThread}
 use Rattle.stepper.specs.Slices.{placesOf}
 use Rattle.lines.specs.Written.{Writes, placeAt, placesAt}

@@ -2,7 +2,7 @@
 use native.Mathlib.Omega.{arith}
 use mathlib.Core.Path.{_≡_}
 use lib.ListN.{length}
-use Rattle.meaning.specs.Model.{hex2}
+use Rattle.meaning.specs.Hex.{hex2}
 use Rattle.meaning.specs.Lines.{recordLine}
 use Rattle.lines.proofs.Laws.{written-four, values-length, places-length, values-are, places-are}
 use borrow.Author.Needs.{needs}

@@ -2,7 +2,7 @@
 use Prim.Native.Nat.{_-_, _≤_}
 use native.Mathlib.Omega.{arith}
 use mathlib.Core.Path.{_≡_}
-use Rattle.meaning.specs.Model.{forEach}
+use Rattle.meaning.specs.Decide.Table.{forEach}
 use Rattle.lines.specs.Written.{Writes, valueAt, valuesAt}
 use Rattle.lines.proofs.Laws.{written-none, value-two, turn-place, turn-length, turn}
 use Rattle.lines.proofs.put_values.Statement.{statement}

@@ -8,10 +8,10 @@ use denote.Ref.{now}
 use borrow.Author.Needs.{needs}
 use Rattle.syntax.specs.Token.{Lexeme}
 use Rattle.syntax.specs.Tree.{Monitor}
-use Rattle.meaning.specs.Bools.{not-true}
+use Rattle.logic.proofs.Bools.{not-true}
 use Rattle.meaning.specs.Value.{truth}
 use Rattle.meaning.specs.State.{starts}
-use Rattle.meaning.specs.Check.{broken}
+use Rattle.meaning.specs.Decide.Check.{broken}
 use Rattle.meaning.specs.Model.{vars, regions}
 use Rattle.tables.specs.Rows.{KeptAll, HoldsAll, AfterAs}
 use Rattle.tables.specs.HeldLaws.{kept-of-row}

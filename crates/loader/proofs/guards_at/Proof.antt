@@ -8,7 +8,7 @@ use lib.Seq.{getD-set-same, getD-set-other}
 use borrow.Author.Needs.{needs}
 use borrow.Author.Tests.{eqb-true, eqb-false}
 use lib.Dec.{eqb}
-use Rattle.meaning.specs.Bools.{split}
+use Rattle.logic.proofs.Bools.{split}
 use Rattle.layout.specs.declared.Layout.{Layout}
 use Rattle.loader.proofs.guards_at.Statement.{statement}
 use Rattle.loader.proofs.guards_at.Tie as tie

@@ -9,17 +9,17 @@ use borrow.Author.Tests.{not-true, not-false}
 use denote.Ref.{now}
 use Rattle.syntax.specs.Token.{number, key, k-keep, Token, lexemes}
 use Rattle.syntax.specs.Tree.{Monitor, all, spell}
-use Rattle.syntax.specs.Reading.{read}
-use Rattle.syntax.specs.Kind.{Words}
-use Rattle.meaning.specs.Check.{crowded, pastLimit, misnamed}
-use Rattle.meaning.specs.Place7.{behindKeep}
+use Rattle.syntax.specs.Decide.Reading.{read}
+use Rattle.syntax.specs.Held.Kind.{Words}
+use Rattle.meaning.specs.Decide.Check.{crowded, pastLimit, misnamed}
+use Rattle.meaning.proofs.KeywordPlaces.{behindKeep}
 use Rattle.reader.specs.declared.Pos.{Pos}
 use Rattle.reader.specs.Reads.{Reads}
 use Rattle.variables.specs.Bounded.{RangedBy, Ranged}
-use Rattle.loading.specs.Held.{numbers}
-use Rattle.loading.specs.Placed.{vars-stand, vars-end}
-use Rattle.loading.specs.Limited.{few-parts}
-use Rattle.loading.specs.Judged.{found-at, found-nothing, kinds-of, says-3, tree-read, says-5, says-6, says-7}
+use Rattle.loader.proofs.TokenSlices.{numbers}
+use Rattle.loader.proofs.TokensStand.{vars-stand, vars-end}
+use Rattle.loader.proofs.Counts.{few-parts}
+use Rattle.loader.proofs.Refusals.{found-at, found-nothing, kinds-of, says-3, tree-read, says-5, says-6, says-7}
 use Rattle.loader.proofs.Judging.{few-lexemes, judged-refused, judged-passed, says-4-at, past-7}
 use Rattle.loader.proofs.judge.Statement.{statement}
 use Rattle.loader.proofs.judge.Tie as tie

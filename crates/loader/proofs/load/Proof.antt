@@ -7,8 +7,8 @@ use lib.ListN.{length, take}
 use denote.Ref.{now}
 use borrow.Author.Needs.{needs}
 use Rattle.syntax.specs.Token.{Token}
-use Rattle.syntax.specs.Kind.{kindOf, valueOf, Words}
-use Rattle.loading.specs.Scanned.{scanned-long, scanned-bad, scanned-tokens}
+use Rattle.syntax.specs.Held.Kind.{kindOf, valueOf, Words}
+use Rattle.loader.proofs.Scanned.{scanned-long, scanned-bad, scanned-tokens}
 use Rattle.loader.proofs.Loads.{taken, room, loads-said}
 use Rattle.loader.proofs.load.Statement.{statement}
 use Rattle.loader.proofs.load.Tie as tie

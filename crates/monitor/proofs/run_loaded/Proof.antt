@@ -1,6 +1,6 @@
 -- `monitor::run_loaded` meets its contract: a number that is not 0 is a refusal, else the file's monitor runs over the slices that hold it.
 use borrow.Author.Needs.{needs}
-use Rattle.meaning.specs.Demands.{checked}
+use Rattle.demands.proofs.Demand2.{checked}
 use Rattle.monitor.specs.Results.{EntriesOf}
 use Rattle.monitor.proofs.Loaded.{not-loaded, ran-loaded}
 use Rattle.monitor.proofs.run_loaded.Statement.{statement}

@@ -7,8 +7,8 @@ use lib.ListN.{length, take}
 use borrow.Author.Needs.{needs}
 use denote.Ref.{now}
 use Rattle.syntax.specs.Token.{Token}
-use Rattle.syntax.specs.Kind.{kindOf, valueOf, Words}
-use Rattle.loading.specs.Scanned.{scanned-tokens}
+use Rattle.syntax.specs.Held.Kind.{kindOf, valueOf, Words}
+use Rattle.loader.proofs.Scanned.{scanned-tokens}
 use Rattle.loader.proofs.Loads.{taken, room}
 use Rattle.panel.proofs.show.Statement.{statement}
 use Rattle.panel.proofs.show.Tie as tie

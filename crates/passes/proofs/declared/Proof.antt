@@ -1,7 +1,7 @@
 -- `passes::declared` adds a name at the end, or none.
 use native.Mathlib.Omega.{arith}
 use borrow.Author.Tests.{not-true, not-false}
-use Rattle.meaning.specs.Bools.{clash}
+use Rattle.logic.proofs.Bools.{clash}
 use borrow.Author.Needs.{needs}
 use Rattle.passes.proofs.Naming.{one-more}
 use Rattle.passes.proofs.declared.Statement.{statement}

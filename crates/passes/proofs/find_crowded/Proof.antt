@@ -6,8 +6,8 @@ use mathlib.Core.List.{List}
 use lib.ListN.{length, drop}
 use borrow.Author.Needs.{needs}
 use Rattle.syntax.specs.Token.{Token}
-use Rattle.meaning.specs.Check.{crowded}
-use Rattle.syntax.specs.Kind.{Words}
+use Rattle.meaning.specs.Decide.Check.{crowded}
+use Rattle.syntax.specs.Held.Kind.{Words}
 use Rattle.passes.specs.Kinds.{kind-opens, kind-closes}
 use Rattle.passes.proofs.Laws.{tokenAt, kind-at, places-long, tally-up, offends, goes-on, ends, crowding}
 use Rattle.passes.proofs.find_crowded.Statement.{statement}

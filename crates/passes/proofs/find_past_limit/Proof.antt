@@ -6,8 +6,8 @@ use mathlib.Core.List.{List}
 use lib.ListN.{length, drop}
 use borrow.Author.Needs.{needs}
 use Rattle.syntax.specs.Token.{Token, k-var, k-method, k-waituntil, keywordNumber}
-use Rattle.meaning.specs.Check.{pastLimit}
-use Rattle.syntax.specs.Kind.{Words}
+use Rattle.meaning.specs.Decide.Check.{pastLimit}
+use Rattle.syntax.specs.Held.Kind.{Words}
 use Rattle.passes.specs.Kinds.{kind-key}
 use Rattle.passes.proofs.Laws.{tokenAt, kind-at, places-long, tally-up, offends, goes-on, ends, limiting}
 use Rattle.passes.proofs.find_past_limit.Statement.{statement}

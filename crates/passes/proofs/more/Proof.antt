@@ -1,6 +1,6 @@
 -- `passes::more` counts as `tally` does.
 use borrow.Author.Needs.{needs}
-use Rattle.meaning.specs.Check.{tally}
+use Rattle.meaning.specs.Decide.Check.{tally}
 use Rattle.passes.proofs.more.Statement.{statement}
 use Rattle.passes.proofs.more.Tie as tie
 

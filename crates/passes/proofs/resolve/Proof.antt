@@ -7,9 +7,9 @@ use mathlib.Core.Option.{none}
 use lib.ListN.{length, take, drop, length-set}
 use borrow.Author.Needs.{needs}
 use Rattle.syntax.specs.Token.{Token}
-use Rattle.meaning.specs.Check.{pastLimit}
+use Rattle.meaning.specs.Decide.Check.{pastLimit}
 use Rattle.passes.specs.Tokens.{titlesOf, slotOrValue}
-use Rattle.syntax.specs.Kind.{Words}
+use Rattle.syntax.specs.Held.Kind.{Words}
 use Rattle.passes.proofs.Laws.{values-long, places-long}
 use Rattle.passes.proofs.Listing.{resolved-next, resolved-last}
 use Rattle.passes.proofs.resolve.Statement.{statement}

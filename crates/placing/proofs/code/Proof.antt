@@ -1,5 +1,6 @@
 -- `placing::code` meets its contract: each arm is a case of `made`. Assumes nothing.
-use Rattle.machine.specs.Held.{bit, codeOf}
+use Rattle.logic.specs.Tests.{bit}
+use Rattle.machine.specs.Held.{codeOf}
 use Rattle.placing.specs.Slices.{made}
 use Rattle.placing.proofs.code.Statement.{statement}
 use Rattle.placing.proofs.code.Tie as tie

@@ -3,7 +3,7 @@ use Prim.Native.Nat.{_*_, _≤_, _-_}
 use mathlib.Core.Path.{_≡_, refl}
 use native.Mathlib.Omega.{arith}
 use lib.ListN.{length}
-use Rattle.meaning.specs.Model.{forEach}
+use Rattle.meaning.specs.Decide.Table.{forEach}
 use Rattle.placing.specs.Slices.{linesAt, tableAt}
 use Rattle.placing.proofs.Laws.{count-more}
 use Rattle.placing.proofs.count.Statement.{statement}

@@ -4,7 +4,7 @@ use mathlib.Core.Path.{_≡_, refl, ap}
 use mathlib.Core.Logic.{⊎-elim}
 use native.Mathlib.Omega.{arith}
 use lib.ListN.{length}
-use Rattle.meaning.specs.Model.{forEach}
+use Rattle.meaning.specs.Decide.Table.{forEach}
 use Rattle.placing.specs.Slices.{lineAt, linesAt}
 use Rattle.placing.proofs.Laws.{line-none, line-some, count-more}
 use Rattle.placing.proofs.count_region.Statement.{statement}

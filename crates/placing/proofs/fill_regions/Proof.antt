@@ -7,8 +7,8 @@ use borrow.Author.Count.{below-more}
 use lib.ListN.{length, getD, length-set}
 use lib.Seq.{getD-set-same, getD-set-other}
 use Rattle.sets.specs.Set.{member}
-use Rattle.sets.specs.SetLaws.{member-none}
-use Rattle.machine.specs.Machine.{any}
+use Rattle.sets.proofs.SetLaws.{member-none}
+use Rattle.logic.specs.Tests.{any}
 use Rattle.placing.specs.Slices.{Swept, wideAt, codeAt}
 use Rattle.placing.specs.declared.Sweep.{Sweep}
 use Rattle.placing.proofs.Sweeps.{wide-more, swept-code}

@@ -3,7 +3,7 @@ use Prim.Native.Nat.{_+_, _≤_, _-_}
 use mathlib.Core.Path.{_≡_, sym}
 use native.Mathlib.Omega.{arith}
 use lib.ListN.{length}
-use Rattle.meaning.specs.Model.{forEach}
+use Rattle.meaning.specs.Decide.Table.{forEach}
 use Rattle.placing.specs.Slices.{linesAt, tableAt, over}
 use Rattle.placing.proofs.Laws.{over-none, turn-length, turn-room, turn-place, turn-over, writes-short, writes-long}
 use Rattle.placing.proofs.Monitors.{table-is}

@@ -3,7 +3,7 @@ use mathlib.Core.Path.{refl}
 use mathlib.Core.Bool.{true}
 use Rattle.reader.proofs.Laws.{then, done, yes, no, passes, fuelled, spent}
 use Rattle.reader.proofs.Tokens.{by-mark, by-key, took-mark, took-key, took-name}
-use Rattle.syntax.specs.Reading.{readBlock, readStmt}
+use Rattle.syntax.specs.Decide.Reading.{readBlock, readStmt}
 use Rattle.syntax.specs.Tree.{only, just, constant, end, if-then}
 use Rattle.syntax.specs.Token.{lbrace, rbrace, lparen, rparen, semicolon, becomes, k-if, k-else, markNumber, keywordNumber}
 use borrow.Author.Needs.{needs}

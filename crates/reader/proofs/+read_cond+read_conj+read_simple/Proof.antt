@@ -3,7 +3,7 @@ use mathlib.Core.Path.{refl}
 use mathlib.Core.Bool.{true}
 use Rattle.reader.proofs.Laws.{then, done, yes, no, fuelled, spent}
 use Rattle.reader.proofs.Tokens.{by-mark, by-key, took-mark, took-key, took-comparison}
-use Rattle.syntax.specs.Reading.{readCond, readConj, readSimple}
+use Rattle.syntax.specs.Decide.Reading.{readCond, readConj, readSimple}
 use Rattle.syntax.specs.Tree.{only, just, constant}
 use Rattle.syntax.specs.Token.{lparen, rparen, bang, and-and, or-or, k-true, k-false, markNumber, keywordNumber}
 use native.Mathlib.Omega.{arith}

@@ -3,7 +3,7 @@ use mathlib.Core.Path.{refl}
 use mathlib.Core.List.{[]}
 use Rattle.reader.proofs.Laws.{then, done, yes, no, fuelled, spent}
 use Rattle.reader.proofs.Tokens.{by-sign, took-sign}
-use Rattle.syntax.specs.Reading.{readMany, readTerm, isSign}
+use Rattle.syntax.specs.Decide.Reading.{readMany, readTerm, isSign}
 use native.Mathlib.Omega.{arith}
 use Prim.Native.Nat.{ℕ, _<_}
 use borrow.Fn.Kinds.{In}

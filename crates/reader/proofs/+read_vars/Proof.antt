@@ -3,7 +3,7 @@ use mathlib.Core.Path.{refl}
 use mathlib.Core.List.{[]}
 use Rattle.reader.proofs.Laws.{then, done, yes, no, fuelled, spent}
 use Rattle.reader.proofs.Tokens.{by-key}
-use Rattle.syntax.specs.Reading.{readMany, readVar}
+use Rattle.syntax.specs.Decide.Reading.{readMany, readVar}
 use Rattle.syntax.specs.Token.{isKey, k-var, keywordNumber}
 use native.Mathlib.Omega.{arith}
 use Prim.Native.Nat.{ℕ, _<_}

@@ -1,7 +1,7 @@
 -- `reader::read` meets its contract: what is left is four times one more than the tokens, as `Reading` says. Assumes nothing.
 use mathlib.Core.Path.{ap}
 use lib.ListN.{length, length-map}
-use Rattle.syntax.specs.Kind.{kindOf}
+use Rattle.syntax.specs.Held.Kind.{kindOf}
 use Rattle.reader.proofs.Laws.{start}
 use borrow.Author.Needs.{needs}
 use native.Mathlib.Omega.{arith}

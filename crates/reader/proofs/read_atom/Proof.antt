@@ -1,7 +1,7 @@
 -- `reader::read_atom` meets its contract. Assumes nothing.
 use Rattle.reader.proofs.Laws.{then, done, yes, no}
 use Rattle.reader.proofs.Tokens.{by-name, took-name}
-use Rattle.syntax.specs.Reading.{readAtom}
+use Rattle.syntax.specs.Decide.Reading.{readAtom}
 use Rattle.reader.proofs.read_atom.Statement.{statement}
 use Rattle.reader.proofs.read_atom.Tie as tie
 

@@ -1,6 +1,6 @@
 -- `reader::read_expr` meets its contract. Assumes nothing.
 use Rattle.reader.proofs.Laws.{then, done}
-use Rattle.syntax.specs.Reading.{readExpr}
+use Rattle.syntax.specs.Decide.Reading.{readExpr}
 use Rattle.reader.proofs.read_expr.Statement.{statement}
 use Rattle.reader.proofs.read_expr.Tie as tie
 

@@ -1,7 +1,7 @@
 -- `reader::read_int` meets its contract. Assumes nothing.
 use Rattle.reader.proofs.Laws.{then, done, yes, no}
 use Rattle.reader.proofs.Tokens.{by-mark, took-mark, took-number}
-use Rattle.syntax.specs.Reading.{readInt}
+use Rattle.syntax.specs.Decide.Reading.{readInt}
 use Rattle.syntax.specs.Token.{minus, markNumber}
 use Rattle.reader.proofs.read_int.Statement.{statement}
 use Rattle.reader.proofs.read_int.Tie as tie

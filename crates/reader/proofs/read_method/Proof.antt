@@ -1,7 +1,7 @@
 -- `reader::read_method` meets its contract. Assumes nothing.
 use Rattle.reader.proofs.Laws.{then, done}
 use Rattle.reader.proofs.Tokens.{took-mark, took-key, took-name}
-use Rattle.syntax.specs.Reading.{readSome, readMethod}
+use Rattle.syntax.specs.Decide.Reading.{readSome, readMethod}
 use Rattle.syntax.specs.Token.{lbrace, rbrace, k-method, markNumber, keywordNumber}
 use Rattle.reader.proofs.read_method.Statement.{statement}
 use Rattle.reader.proofs.read_method.Tie as tie

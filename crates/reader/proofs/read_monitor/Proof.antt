@@ -1,7 +1,7 @@
 -- `reader::read_monitor` meets its contract. Assumes nothing.
 use Rattle.reader.proofs.Laws.{then, done}
 use Rattle.reader.proofs.Tokens.{took-mark, took-key, took-name}
-use Rattle.syntax.specs.Reading.{readSome, readMonitor}
+use Rattle.syntax.specs.Decide.Reading.{readSome, readMonitor}
 use Rattle.syntax.specs.Token.{lbrace, rbrace, semicolon, k-monitor, k-keep, markNumber, keywordNumber}
 use Rattle.reader.proofs.read_monitor.Statement.{statement}
 use Rattle.reader.proofs.read_monitor.Tie as tie

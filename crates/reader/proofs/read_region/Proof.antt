@@ -1,7 +1,7 @@
 -- `reader::read_region` meets its contract. Assumes nothing.
 use Rattle.reader.proofs.Laws.{then, done}
 use Rattle.reader.proofs.Tokens.{took-mark, took-key}
-use Rattle.syntax.specs.Reading.{readRegion}
+use Rattle.syntax.specs.Decide.Reading.{readRegion}
 use Rattle.syntax.specs.Token.{lbrace, rbrace, lparen, rparen, k-waituntil, markNumber, keywordNumber}
 use Rattle.reader.proofs.read_region.Statement.{statement}
 use Rattle.reader.proofs.read_region.Tie as tie

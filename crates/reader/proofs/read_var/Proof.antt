@@ -1,7 +1,7 @@
 -- `reader::read_var` meets its contract. Assumes nothing.
 use Rattle.reader.proofs.Laws.{then, done}
 use Rattle.reader.proofs.Tokens.{took-mark, took-key, took-name}
-use Rattle.syntax.specs.Reading.{readVar}
+use Rattle.syntax.specs.Decide.Reading.{readVar}
 use Rattle.syntax.specs.Token.{k-var, equals, k-in, dots, semicolon, markNumber, keywordNumber}
 use Rattle.reader.proofs.read_var.Statement.{statement}
 use Rattle.reader.proofs.read_var.Tie as tie

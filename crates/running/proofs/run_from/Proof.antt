@@ -10,13 +10,14 @@ use mathlib.Core.List.{List}
 use lib.ListN.{length}
 use denote.Ref.{now}
 use Rattle.syntax.specs.Tree.{Monitor}
-use Rattle.machine.specs.Machine.{Frame, allIdle, run}
-use Rattle.machine.specs.Points.{Checked}
+use Rattle.machine.specs.Monitor.{Frame, allIdle}
+use Rattle.machine.specs.Decide.Step.{run}
+use Rattle.machine.specs.Agreement.{Checked}
 use Rattle.machine.specs.Held.{Held, HeldPlaces, HeldEntries}
 use Rattle.meaning.specs.Model.{vars, regions, kept, model}
 use Rattle.meaning.specs.State.{count}
-use Rattle.meaning.specs.Trace.{framesOf, frames}
-use Rattle.meaning.specs.Calls.{runningOf}
+use Rattle.meaning.specs.Decide.Frames.{framesOf, frames}
+use Rattle.meaning.specs.Decide.Calls.{runningOf}
 use Rattle.stepper.specs.Shown.{toldOn}
 use Rattle.runs.specs.Ended.{EndsAs}
 use Rattle.variables.specs.Bounded.{Bounded}

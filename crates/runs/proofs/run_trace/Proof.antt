@@ -7,7 +7,7 @@ use mathlib.Core.List.{List}
 use lib.ListN.{length}
 use borrow.Author.Needs.{needs}
 use denote.Ref.{now}
-use Rattle.machine.specs.Machine.{Monitor, Frame}
+use Rattle.machine.specs.Monitor.{Monitor, Frame}
 use Rattle.runs.proofs.Laws.{Asked, Point, Stepped, for-asked, point-start, stepped, ends-refused, point-next, ends-accepted}
 use Rattle.runs.proofs.run_trace.Statement.{statement}
 use Rattle.runs.proofs.run_trace.Tie as tie

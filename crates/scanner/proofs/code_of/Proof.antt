@@ -4,7 +4,7 @@ use borrow.Author.Needs.{needs}
 use mathlib.Core.Path.{sym, ap, _∙_}
 use denote.Ref.{now}
 use Rattle.scanner.specs.Coded.{codeOf, Within}
-use Rattle.syntax.specs.Kind.{kindOf, valueOf}
+use Rattle.syntax.specs.Held.Kind.{kindOf, valueOf}
 use Rattle.scanner.proofs.code_of.Statement.{statement}
 use Rattle.scanner.proofs.code_of.Tie as tie
 

@@ -6,7 +6,8 @@ use mathlib.Core.Path.{_≡_, sym, ap, _∙_}
 use native.Mathlib.Omega.{arith}
 use denote.Ref.{now}
 use lib.ListN.{drop}
-use Rattle.syntax.specs.Token.{markOf, marks}
+use Rattle.syntax.specs.Decide.Scan.{markOf}
+use Rattle.syntax.specs.Token.{marks}
 use Rattle.scanner.specs.Step.{marked, stepOf, stepTo}
 use Rattle.scanner.specs.declared.Marked.{Marked}
 use Rattle.scanner.specs.declared.Token.the-variants as token

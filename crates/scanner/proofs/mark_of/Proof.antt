@@ -2,7 +2,8 @@
 -- Assumes nothing.
 use mathlib.Core.Path.{sym}
 use Rattle.syntax.specs.Bytes.{bytes, startsWith}
-use Rattle.syntax.specs.Token.{markOf, marks, markNumber}
+use Rattle.syntax.specs.Decide.Scan.{markOf}
+use Rattle.syntax.specs.Token.{marks, markNumber}
 use Rattle.scanner.specs.Step.{marked}
 use Rattle.scanner.proofs.Marks.{not-61, not-46, not-38, not-124, none-two}
 use Rattle.scanner.proofs.mark_of.Statement.{statement}

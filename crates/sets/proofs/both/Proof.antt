@@ -1,5 +1,5 @@
 -- `sets::both` meets its contract: the members of a meet, digit by digit.
-use Rattle.sets.specs.SetLaws.{member-and}
+use Rattle.sets.proofs.SetLaws.{member-and}
 use Rattle.sets.proofs.both.Statement.{statement}
 use Rattle.sets.proofs.both.Tie as tie
 

@@ -1,6 +1,6 @@
 -- `sets::count` meets its contract: a count of ones is the size.
 use mathlib.Core.Path.{sym}
-use Rattle.sets.specs.SetLaws.{size-ones}
+use Rattle.sets.proofs.SetLaws.{size-ones}
 use Rattle.sets.proofs.count.Statement.{statement}
 use Rattle.sets.proofs.count.Tie as tie
 

@@ -5,7 +5,7 @@ use mathlib.Core.Path.{sym, ap}
 use lib.Dec.{eqb}
 use lib.Bits.{and-mask}
 use Rattle.sets.specs.Set.{member}
-use Rattle.sets.specs.SetLaws.{member-past}
+use Rattle.sets.proofs.SetLaws.{member-past}
 use Rattle.sets.proofs.has.Statement.{statement}
 use Rattle.sets.proofs.has.Tie as tie
 

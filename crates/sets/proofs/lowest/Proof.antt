@@ -2,7 +2,7 @@
 use mathlib.Core.Path.{sym, _∙_}
 use mathlib.Core.Bool.{false≢true}
 use lib.Count.{trailing-le}
-use Rattle.sets.specs.SetLaws.{below-lowest, at-lowest}
+use Rattle.sets.proofs.SetLaws.{below-lowest, at-lowest}
 use Rattle.sets.proofs.lowest.Statement.{statement}
 use Rattle.sets.proofs.lowest.Tie as tie
 

@@ -1,5 +1,5 @@
 -- `sets::union` meets its contract: the members of a join, digit by digit.
-use Rattle.sets.specs.SetLaws.{member-or}
+use Rattle.sets.proofs.SetLaws.{member-or}
 use Rattle.sets.proofs.union.Statement.{statement}
 use Rattle.sets.proofs.union.Tie as tie
 

@@ -2,7 +2,7 @@
 use borrow.Author.Needs.{needs}
 use mathlib.Core.Bool.{and-false}
 use borrow.Author.Tests.{le-ltb}
-use Rattle.sets.specs.SetLaws.{member-with}
+use Rattle.sets.proofs.SetLaws.{member-with}
 use Rattle.sets.proofs.with.Statement.{statement}
 use Rattle.sets.proofs.with.Tie as tie
 

@@ -5,7 +5,7 @@ use mathlib.Core.Bool.{true}
 use native.Mathlib.Omega.{arith}
 use borrow.Author.Needs.{needs}
 use Rattle.sets.specs.Set.{member}
-use Rattle.sets.specs.SetLaws.{member-within, member-without, member-unchanged}
+use Rattle.sets.proofs.SetLaws.{member-within, member-without, member-unchanged}
 use Rattle.sets.proofs.without.Statement.{statement}
 use Rattle.sets.proofs.without.Tie as tie
 

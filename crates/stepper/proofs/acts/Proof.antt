@@ -4,7 +4,7 @@ use mathlib.Core.Path.{_∙_, sym, ap}
 use Prim.Native.Nat.{ℕ, _/_, _%_}
 use mathlib.Core.Bool.{Bool, _&&_, _||_}
 use lib.Dec.{eqb}
-use Rattle.machine.specs.Table.{acts as actsOf}
+use Rattle.machine.specs.Decide.Table.{acts as actsOf}
 use Rattle.stepper.specs.Slices.{entryBy}
 use Rattle.stepper.proofs.Laws.{acts-some}
 use Rattle.stepper.proofs.acts.Statement.{statement}

@@ -2,7 +2,8 @@
 use mathlib.Core.Path.{refl, sym, _∙_, subst}
 use mathlib.Core.Bool.{Bool, false}
 use mathlib.Core.List.{[]}
-use Rattle.machine.specs.Machine.{Monitor, Config, Told, isWaiting, waited, rechecked, beginWait, put, without}
+use Rattle.machine.specs.Monitor.{Monitor, Config}
+use Rattle.machine.specs.Decide.Step.{Told, isWaiting, waited, rechecked, beginWait, put, without}
 use Rattle.stepper.specs.Shown.{Shows, placeOf, idleThread, frameOf}
 use Rattle.stepper.specs.Slices.{slices, placesOf, toldAt, configOf}
 use Rattle.stepper.specs.Parts.{nextBy, nextOf}

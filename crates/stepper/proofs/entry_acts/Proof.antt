@@ -4,7 +4,7 @@ use mathlib.Core.Path.{_∙_, sym, ap, ap₂}
 use Prim.Native.Nat.{ℕ}
 use mathlib.Core.Bool.{Bool, not}
 use Rattle.sets.specs.Set.{member}
-use Rattle.machine.specs.Table.{acts as actsOf}
+use Rattle.machine.specs.Decide.Table.{acts as actsOf}
 use Rattle.stepper.specs.Shown.{placeOf}
 use Rattle.stepper.specs.Slices.{holdsAt, entryAt, toldBehind}
 use Rattle.stepper.specs.declared.Place.{Place}

@@ -1,7 +1,7 @@
 -- `stepper::is_waiting` meets its contract: at each variant the test computes.
 use borrow.Author.Needs.{needs}
 use mathlib.Core.Path.{sym, ap}
-use Rattle.machine.specs.Machine.{isWaiting}
+use Rattle.machine.specs.Decide.Step.{isWaiting}
 use Rattle.stepper.specs.Shown.{placeOf}
 use Rattle.stepper.specs.declared.Place.{Place}
 use Rattle.stepper.proofs.is_waiting.Statement.{statement}

@@ -8,7 +8,8 @@ use lib.Dec.{ltb}
 use borrow.Author.Needs.{needs}
 use borrow.Author.Tests.{not-true, not-false, lt-ltb, le-ltb}
 use Rattle.sets.specs.Set.{member}
-use Rattle.machine.specs.Machine.{Monitor, Config, Frame, threads, isWaiting, onGuard, waitsOn, ahead, mayBeAt, may, firstNotified}
+use Rattle.machine.specs.Monitor.{Monitor, Config, Frame, threads, ahead}
+use Rattle.machine.specs.Decide.Step.{isWaiting, onGuard, waitsOn, mayBeAt, may, firstNotified}
 use Rattle.stepper.specs.Shown.{idleThread, frameOf}
 use Rattle.stepper.specs.Slices.{guardAt, holdsAt, slices, guardsOnly, placesOf, configOf}
 use Rattle.stepper.proofs.Laws.{guards-alone}

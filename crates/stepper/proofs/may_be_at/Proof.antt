@@ -4,7 +4,7 @@ use mathlib.Core.Path.{_∙_, sym, ap}
 use mathlib.Core.Bool.{Bool, _&&_}
 use mathlib.Core.List.{[]}
 use borrow.Author.Tests.{lt-ltb, le-ltb}
-use Rattle.machine.specs.Machine.{mayBeAt}
+use Rattle.machine.specs.Decide.Step.{mayBeAt}
 use Rattle.stepper.specs.Shown.{placeOf}
 use Rattle.stepper.specs.Slices.{beginsAt, slices}
 use Rattle.stepper.specs.declared.Place.{Place}

@@ -3,7 +3,7 @@ use borrow.Author.Needs.{needs}
 use mathlib.Core.Path.{_∙_, sym, ap}
 use mathlib.Core.Bool.{Bool, _||_}
 use Rattle.sets.specs.Set.{member}
-use Rattle.machine.specs.Machine.{onGuard}
+use Rattle.machine.specs.Decide.Step.{onGuard}
 use Rattle.stepper.specs.Shown.{placeOf}
 use Rattle.stepper.specs.Slices.{guardsOnly}
 use Rattle.stepper.specs.declared.Place.{Place}

@@ -7,7 +7,7 @@ use native.Mathlib.Omega.{arith}
 use lib.Dec.{eqb}
 use borrow.Author.Count.{below-more}
 use borrow.Author.Tests.{eq-eqb, ne-eqb}
-use Rattle.machine.specs.Machine.{isDue}
+use Rattle.machine.specs.Decide.Step.{isDue}
 use Rattle.stepper.specs.Slices.{placesOf}
 use Rattle.stepper.specs.Shown.{idleThread}
 use Rattle.stepper.proofs.Laws.{any-true, any-false}

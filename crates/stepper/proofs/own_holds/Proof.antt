@@ -2,7 +2,7 @@
 use borrow.Author.Needs.{needs}
 use mathlib.Core.Path.{_∙_, sym, ap}
 use Prim.Native.Nat.{ℕ}
-use Rattle.machine.specs.Machine.{own}
+use Rattle.machine.specs.Decide.Step.{own}
 use Rattle.stepper.specs.Shown.{placeOf}
 use Rattle.stepper.specs.Slices.{holdsAt, truths}
 use Rattle.stepper.specs.declared.Place.{Place}

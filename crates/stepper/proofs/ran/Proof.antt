@@ -2,7 +2,8 @@
 use Prim.Native.Nat.{ℕ, _<_}
 use mathlib.Core.Path.{_≡_, refl, ap, ap₂, _∙_}
 use mathlib.Core.Bool.{Bool, _||_}
-use Rattle.machine.specs.Machine.{Place, ran, leave, put, without}
+use Rattle.machine.specs.Monitor.{Place}
+use Rattle.machine.specs.Decide.Step.{ran, leave, put, without}
 use Rattle.stepper.specs.Shown.{frameOf}
 use Rattle.stepper.specs.Slices.{placesOf, afterAt, followsAt, configOf}
 use Rattle.stepper.proofs.Agree.{told-places}

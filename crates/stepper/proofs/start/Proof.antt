@@ -2,8 +2,8 @@
 use Prim.Native.Nat.{ℕ, zero, suc}
 use mathlib.Core.Path.{_≡_, refl, ap}
 use lib.ListN.{getD, replicate}
-use Rattle.sets.specs.SetLaws.{member-none}
-use Rattle.machine.specs.Machine.{allIdle}
+use Rattle.sets.proofs.SetLaws.{member-none}
+use Rattle.machine.specs.Monitor.{allIdle}
 use Rattle.stepper.specs.declared.Thread.{Thread}
 use Rattle.stepper.specs.Shown.{placeOf, idleThread}
 use Rattle.stepper.proofs.start.Statement.{statement}

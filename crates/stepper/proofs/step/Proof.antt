@@ -6,7 +6,7 @@ use mathlib.Core.List.{[]}
 use native.Mathlib.Nat.{mod-eq-of-lt}
 use native.Mathlib.Omega.{arith}
 use borrow.Author.Needs.{needs}
-use Rattle.machine.specs.Machine.{Frame}
+use Rattle.machine.specs.Monitor.{Frame}
 use Rattle.stepper.specs.declared.Frame as code
 use Rattle.stepper.specs.Shown.{Shows, stepBy, frameOf}
 use Rattle.stepper.specs.Slices.{slices, toldAt, configOf}

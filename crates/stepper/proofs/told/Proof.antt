@@ -2,7 +2,7 @@
 use borrow.Author.Needs.{needs}
 use mathlib.Core.Path.{_∙_, sym, ap}
 use mathlib.Core.Bool.{Bool}
-use Rattle.machine.specs.Machine.{plainTold}
+use Rattle.machine.specs.Decide.Step.{plainTold}
 use Rattle.stepper.specs.Slices.{toldAt, placesOf}
 use Rattle.stepper.proofs.told.Statement.{statement}
 use Rattle.stepper.proofs.told.Tie as tie

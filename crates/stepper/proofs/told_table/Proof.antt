@@ -7,9 +7,11 @@ use mathlib.Core.Logic.{⊎-elim}
 use native.Mathlib.Numerals.{add-one}
 use native.Mathlib.Omega.{arith}
 use Rattle.sets.specs.Set.{member}
-use Rattle.sets.specs.SetLaws.{member-none}
-use Rattle.machine.specs.Machine.{Place, any, onGuard}
-use Rattle.machine.specs.Table.{tableTold}
+use Rattle.sets.proofs.SetLaws.{member-none}
+use Rattle.machine.specs.Monitor.{Place}
+use Rattle.logic.specs.Tests.{any}
+use Rattle.machine.specs.Decide.Step.{onGuard}
+use Rattle.machine.specs.Decide.Table.{tableTold}
 use Rattle.stepper.specs.Shown.{idleThread}
 use Rattle.stepper.specs.Slices.{placesOf, entryAt, guardsOnly, truths}
 use Rattle.stepper.proofs.Laws.{Gathered, gather-none, gather-in, gather-out, gather-all, told-first}

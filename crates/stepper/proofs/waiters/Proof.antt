@@ -5,7 +5,7 @@ use mathlib.Core.Bool.{Bool}
 use mathlib.Core.Logic.{⊎-elim}
 use native.Mathlib.Omega.{arith}
 use Rattle.sets.specs.Set.{member}
-use Rattle.machine.specs.Machine.{onGuard, waitsOn}
+use Rattle.machine.specs.Decide.Step.{onGuard, waitsOn}
 use Rattle.stepper.specs.Slices.{placesOf, guardsOnly}
 use Rattle.stepper.specs.Shown.{idleThread}
 use Rattle.stepper.proofs.Laws.{Gathered, gather-none, gather-in, gather-out, gather-all}

@@ -7,7 +7,7 @@ use mathlib.Core.Logic.{⊎-elim}
 use denote.Ref.{now}
 use lib.ListN.{getD}
 use Rattle.sets.specs.Set.{member}
-use Rattle.sets.specs.SetLaws.{member-none}
+use Rattle.sets.proofs.SetLaws.{member-none}
 use Rattle.tables.proofs.Laws.{passed, with-here, with-other}
 use Rattle.tables.proofs.guards_in.Statement.{statement}
 use Rattle.tables.proofs.guards_in.Tie as tie

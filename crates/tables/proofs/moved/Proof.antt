@@ -2,7 +2,7 @@
 use mathlib.Core.Path.{sym, _∙_}
 use borrow.Author.Needs.{needs}
 use borrow.Author.Tests.{not-false}
-use Rattle.meaning.specs.Bools.{clash, not-true}
+use Rattle.logic.proofs.Bools.{clash, not-true}
 use Rattle.tables.specs.Rows.{TruthRow}
 use Rattle.tables.proofs.Laws.{bit-true, bit-one, stays, runs-on}
 use Rattle.tables.proofs.moved.Statement.{statement}

@@ -10,8 +10,8 @@ use Rattle.sets.specs.Set.{member}
 use Rattle.syntax.specs.Tree.{Var, Cond, Region}
 use Rattle.meaning.specs.Value.{runBlock}
 use Rattle.meaning.specs.State.{count, stateAt}
-use Rattle.meaning.specs.Check.{keptAfter}
-use Rattle.meaning.specs.Bools.{not-true}
+use Rattle.meaning.specs.Decide.Check.{keptAfter}
+use Rattle.logic.proofs.Bools.{not-true}
 use Rattle.evaluator.specs.Coding.{RunAs, lane}
 use Rattle.tables.specs.Steps.{Body}
 use Rattle.tables.proofs.Laws.{fault, Reached, reached, ended-fault, ended-kept, bit-other}

@@ -10,9 +10,9 @@ use lib.IntN.{ℤ}
 use borrow.Author.Needs.{needs}
 use Rattle.syntax.specs.Tree.{Var}
 use Rattle.meaning.specs.State.{numberOf}
-use Rattle.meaning.specs.Accepting.{State}
+use Rattle.meaning.specs.Accepted.{State}
 use Rattle.variables.specs.Bounded.{Bounded}
-use Rattle.meaning.specs.Biased.{Biased}
+use Rattle.meaning.specs.Held.{Biased}
 use Rattle.variables.proofs.States.{number-more, number-end}
 use Rattle.variables.proofs.number_of.Statement.{statement}
 use Rattle.variables.proofs.number_of.Tie as tie

@@ -9,7 +9,7 @@ use borrow.Author.Needs.{needs}
 use Rattle.syntax.specs.Tree.{Var}
 use Rattle.meaning.specs.Value.{intOf}
 use Rattle.meaning.specs.State.{count}
-use Rattle.meaning.specs.Accepting.{GoodRanges}
+use Rattle.meaning.specs.Accepted.{GoodRanges}
 use Rattle.variables.specs.Reading.{Slots}
 use Rattle.variables.proofs.Laws.{mul-at-most}
 use Rattle.variables.proofs.States.{Weighing, weighing-start, weighing-more}

@@ -1,0 +1,230 @@
+-- Demand 2 holds. The table: from the entries' words and the lines' laws, and over values by the numbering of states. The machines: from
+-- the step that decides the rules.
+use Rattle.machine.specs.Monitor as machine
+use Prim.Native.Nat.{ℕ, _≤_, _<_}
+use native.Mathlib.Omega.{arith}
+use mathlib.Core.Path.{_≡_, refl, sym, _∙_}
+use mathlib.Core.Bool.{Bool, true, false}
+use mathlib.Core.Logic.{_↔_, Iff·trans}
+use mathlib.Core.List.{List, _∷_, List·Memᴰ}
+use lib.ListN.{length, length-append}
+use lib.Dec.{ltb}
+use borrow.Author.Tests.{ltb-true, ltb-false}
+use Rattle.syntax.specs.Tree.{Monitor}
+use Rattle.syntax.proofs.Grammar.{one-cond}
+use Rattle.machine.specs.Monitor.{Frame, Config, stopped, allIdle}
+use Rattle.machine.specs.Algorithm1.{entry, Holds, Fails, Triple, Stands, Signals, Runs}
+use Rattle.machine.specs.Decide.Table.{entryOf}
+use Rattle.machine.specs.Rules.{Notices, Stops}
+use Rattle.machine.proofs.RulesDecided.{refuses-number, Decides, plain-decides, table-decides}
+use Rattle.machine.proofs.Entries.{entry-stands, entry-unconditional, entry-signal}
+use Rattle.logic.proofs.Bools.{tests-equal, split, clash}
+use Rattle.machine.specs.Agreement.{Checked}
+use Rattle.machine.proofs.Reached.{Reached, start-reached, rules-reached}
+use Rattle.meaning.specs.State.{stateAt, numberOf}
+use Rattle.meaning.specs.Answer.{accepted}
+use Rattle.meaning.specs.Decide.Check.{check}
+use Rattle.meaning.specs.Model.{vars, kept, model, numberAfter, regions, guards, region, holds, after}
+use Rattle.meaning.specs.Calls.{Machine, plain-machine, table-machine, Startable, noticesOf}
+use Rattle.meaning.specs.Decide.Calls.{place, toldBy, runList}
+use Rattle.meaning.specs.Accepted.{State, Keeps, Meets, Sound}
+use Rattle.meaning.proofs.StateLaws.{state-at, number-below, state-at-number}
+use Rattle.meaning.proofs.ModelLaws.{kept-below, keeps, outside, leaves, follows-below, region-numbered, holds-guard, startable-iff}
+use Rattle.meaning.specs.Table.{Row, Small}
+use Rattle.meaning.proofs.TableLines.{rowsOf, table-lines, row-stands, rows-increasing, rows-decoded}
+use Rattle.meaning.proofs.Verdicts.{accepted-iff, refused-iff}
+use Rattle.meaning.proofs.Sizes.{sizes}
+use lib.IntN.{ℤ}
+use Rattle.meaning.proofs.BodyLaws.{run-of-block-runs, block-runs-state}
+use Rattle.demands.specs.Demand2.{IsEntry, IsTable, FollowsRules, Demand2, Moves, truthOf, Makes, ByValues}
+
+-- What an accepted file's monitor, freed from its syntax, is known for
+pub checked : (file : List ℕ) (m : Monitor) → check file ≡ accepted m → Checked (model m)
+unfolding model
+checked file m e =
+    record {
+      below = kept-below m;
+      keeps = keeps m one-cond (accepted-iff file m .0 e .sound);
+      outside = outside m one-cond;
+      leaves = leaves m;
+      onward = follows-below m;
+    }
+
+-- Booleans that are false together
+same-false : (a b : Bool) → (a ≡ false → b ≡ false) → (b ≡ false → a ≡ false) → a ≡ b
+same-false true true f g = refl
+same-false true false f g = g refl
+same-false false b f g = sym (f refl)
+
+row-algorithm : (m : machine.Monitor) → Checked m → (w : Row)
+    → ((w .region < m .regions) × (w .guard < m .guards) × (entryOf m (w .region) (w .guard) ≡ entry (w .unconditional) (w .broadcast)))
+    ↔ IsEntry m w
+row-algorithm m ok w = (
+  λ h. record {
+    region = h .0;
+    guard = h .1;
+    stands = entry-stands m (ok .below) (w .region) (w .guard) .0 (w .unconditional, w .broadcast, h .2);
+    unconditional = entry-unconditional m (ok .below) (w .region) (w .guard) (w .unconditional) (w .broadcast) (h .2);
+    signal = entry-signal m (ok .below) (w .region) (w .guard) (w .unconditional) (w .broadcast) (h .2);
+  },
+  λ h.
+      let r = w .region in
+      let g = w .guard in
+      let (a, b, e) = entry-stands m (ok .below) r g .1 (h .stands) in
+      let u = entry-unconditional m (ok .below) r g a b e in
+      let s = entry-signal m (ok .below) r g a b e in
+      let p : a ≡ w .unconditional = tests-equal a (w .unconditional) (λ x. h .unconditional .1 (u .0 x)) (λ x. u .1 (h .unconditional .0 x)) in
+      let q : b ≡ w .broadcast = same-false b (w .broadcast) (λ x. h .signal .1 (s .0 x)) (λ x. s .1 (h .signal .0 x)) in
+      (h .region, h .guard, cc),
+)
+
+rows-small : (file : List ℕ) (m : Monitor) → check file ≡ accepted m → (w : Row) → List·Memᴰ w (rowsOf (model m)) → Small w
+unfolding Small model
+rows-small file m e w h =
+    let n = sizes (accepted-iff file m .0 e) in
+    let s = row-stands (model m) w .0 h in
+    (omega arith, omega arith)
+
+pub is-table : (file : List ℕ) (m : Monitor) → check file ≡ accepted m → IsTable (model m) (rowsOf (model m))
+is-table file m e =
+    record {
+      lines = table-lines (model m);
+      exactly = λ w.
+          let s = row-stands (model m) w in
+          let a = row-algorithm (model m) (checked file m e) w in
+          (λ h. a .0 (s .0 h), λ h. s .1 (a .1 h));
+      order = rows-increasing (model m);
+      only = λ ws h t. rows-decoded ws (rowsOf (model m)) h (rows-small file m e) (sym t ∙ table-lines (model m));
+    }
+
+decided : (m : Monitor) (w : Machine) → Decides (model m) (toldBy (model m) w) (noticesOf m w)
+unfolding toldBy noticesOf
+decided m plain-machine = plain-decides (model m)
+decided m table-machine = table-decides (model m) (entryOf (model m))
+
+-- for every tree, also one that is not accepted
+pub follows-rules : (m : Monitor) (w : Machine) → FollowsRules m w
+unfolding runList
+follows-rules m w =
+    record { accepts = λ s. decided m w .accepts 0 (allIdle s); stops = λ s. decided m w .stops 0 (allIdle s) }
+
+-- a frame of the list is refused, with 13 or 14
+pub record StopsWithin (fs : List Frame) (a k : ℕ) : Type 0 where
+  pub low : 13 ≤ a
+  pub high : a ≤ 14
+  pub frame : k < length fs
+
+pub stops-within : {m : machine.Monitor} {n : Notices} {c : Config} {fs : List Frame} {a k : ℕ} → Stops m n 0 c fs a k → StopsWithin fs a k
+stops-within t =
+    let n = refuses-number (t .refuse) in
+    let l = length-append (t .front) (t .frame ∷ t .more) in
+    let p = t .place in
+    record { low = n .0; high = n .1; frame = rw (t .splits) (omega arith) }
+
+pub run-stops : (m : Monitor) (w : Machine) (s : ℕ) (fs : List Frame) (a k : ℕ) → runList m w s fs ≡ stopped a k → StopsWithin fs a k
+run-stops m w s fs a k h = stops-within (follows-rules m w .stops s fs a k .0 h)
+
+-- a run from a kept state ends in one, with each waiting or due thread at a region of the file
+pub run-reached : (m : Monitor) → Checked (model m) → (s : ℕ) → kept m s ≡ true → (fs : List Frame) (w : Machine) (c : Config)
+    → runList m w s fs ≡ machine.accepted c → Reached (model m) c
+unfolding model
+run-reached m ok s k fs w c h =
+    rules-reached (model m) ok (noticesOf m w) (follows-rules m w .accepts s fs c .0 h) (start-reached (model m) s k)
+
+-- a run from a state that counts ends in one, in which each value is in its range
+pub runs-keep : (file : List ℕ) (m : Monitor) → check file ≡ accepted m → (s : ℕ) → Startable m s → (fs : List Frame) (w : Machine) (c : Config)
+    → runList m w s fs ≡ machine.accepted c → Startable m (c .state) × State (vars m) (stateAt (vars m) (c .state))
+unfolding model
+runs-keep file m e s k fs w c h =
+    let t = startable-iff m (c .state) .0 (run-reached m (checked file m e) s (startable-iff m s .1 k) fs w c h .is-kept) in
+    (t, state-at (accepted-iff file m .0 e .sound .ranges) (c .state) (t .below))
+
+-- The table by values
+
+module _ (m : Monitor) where
+  module _ (ok : Sound m) where
+    -- a body that may run from a state's number, by values
+    to-values : (r s : ℕ) → Runs (model m) r s
+        → (bs : List ℤ) × Moves m (region m r) (stateAt (vars m) s) bs × (stateAt (vars m) (after m r s) ≡ bs)
+    unfolding model Holds Keeps after numberAfter
+    to-values r s h =
+        let k = startable-iff m s .0 (h .is-kept) in
+        let low : r < length (regions m) =
+        split (ltb r (length (regions m))) (ltb-true r (length (regions m)))
+        (λ high. clash (h .guard) (outside m one-cond r s (ltb-false r (length (regions m)) high))) in
+        let meets : Meets m (region m r) (stateAt (vars m) s) =
+        record {
+          state = state-at (ok .ranges) s (k .below);
+          kept = k .keeps;
+          guard = sym (holds-guard m one-cond r s) ∙ h .guard;
+        } in
+        let t = ok .keeps r (region m r) (stateAt (vars m) s) (region-numbered m r low) meets in (
+          t .0,
+          record { meets = meets; runs = t .1 },
+          rw (run-of-block-runs (t .1)) (state-at-number (ok .ranges) (block-runs-state (t .1) (meets .state))),
+        )
+
+    -- and back
+    from-values : (r : ℕ) (as′ bs : List ℤ) → Moves m (region m r) as′ bs
+        → (s : ℕ) × Runs (model m) r s × (stateAt (vars m) s ≡ as′) × (stateAt (vars m) (after m r s) ≡ bs)
+    unfolding model Holds after numberAfter
+    from-values r as′ bs h =
+        let q = h .meets in
+        let s = numberOf (vars m) as′ in
+        let e : stateAt (vars m) s ≡ as′ = state-at-number (ok .ranges) (q .state) in (
+          s,
+          record {
+            is-kept = startable-iff m s .1 (record { below = number-below (ok .ranges) (q .state); keeps = rw e (q .kept) });
+            guard = holds-guard m one-cond r s ∙ rw e (q .guard);
+          },
+          e,
+          rw (e, run-of-block-runs (h .runs)) (state-at-number (ok .ranges) (block-runs-state (h .runs) (q .state))),
+        )
+
+    stands-iff : (r g : ℕ)
+        → Stands (model m) r g
+        ↔ ((as′ bs : List ℤ) × Moves m (region m r) as′ bs × (truthOf m g as′ ≡ false) × (truthOf m g bs ≡ true))
+    unfolding Holds Fails model holds truthOf
+    stands-iff r g = (
+      λ h. let t = to-values r (h .from) (h .may-run) in (stateAt (vars m) (h .from), t .0, t .1, h .before, rw (t .2) at (h .after)),
+      λ h. let t = from-values r (h .0) (h .1) (h .2) in
+          record { from = t .0; may-run = t .1; before = rw (t .2) (h .3); after = rw (t .3) (h .4) },
+    )
+
+    makes-iff : (r g : ℕ) (p q : Bool) → Triple (model m) r (λ s. holds m g s ≡ p) (λ s. holds m g s ≡ q) ↔ Makes m r g p q
+    unfolding Triple model holds truthOf Makes
+    makes-iff r g p q = (
+      λ h as′ bs v a. let t = from-values r as′ bs v in rw (t .3) at (h (t .0) (t .1) (rw (t .2) a)),
+      λ h s v a. let t = to-values r s v in rw (t .2) (h (stateAt (vars m) s) (t .0) (t .1) a),
+    )
+
+    by-values : (w : Row) → IsEntry (model m) w ↔ ByValues m w
+    unfolding Signals Holds Fails model
+    by-values w =
+        let r = w .region in
+        let g = w .guard in
+        let u = makes-iff r g false true in (
+          λ h. record {
+            has-region = h .region;
+            has-guard = h .guard;
+            stands = stands-iff r g .0 (h .stands);
+            unconditional = Iff·trans (h .unconditional) u;
+            signal = Iff·trans (h .signal) (λ x k l e. makes-iff k g true false .0 (x k l e), λ x k l e. makes-iff k g true false .1 (x k l e));
+          },
+          λ h. record {
+            region = h .has-region;
+            guard = h .has-guard;
+            stands = stands-iff r g .1 (h .stands);
+            unconditional = Iff·trans (h .unconditional) (u .1, u .0);
+            signal = Iff·trans (h .signal) (λ x k l e. makes-iff k g true false .1 (x k l e), λ x k l e. makes-iff k g true false .0 (x k l e));
+          },
+        )
+
+pub demand-2 : Demand2
+demand-2 = record {
+  accepts = accepted-iff;
+  refuses = refused-iff;
+  table = λ file m e. (rowsOf (model m), is-table file m e);
+  entries = λ file m e. by-values m (accepted-iff file m .0 e .sound);
+  machines = follows-rules;
+}

@@ -1,0 +1,91 @@
+-- Demand 2: a file is accepted exactly when it is within the grammar and limits, its kept condition holds at the start, and every
+-- region keeps it and every range; the table has the entries of Algorithm 1, no more, no fewer; each machine accepts exactly the
+-- traces that its step rules allow. The claim is `Demand2`.
+use Rattle.machine.specs.Monitor as machine
+use Prim.Native.Nat.{ℕ, _<_}
+use mathlib.Core.Path.{_≡_}
+use mathlib.Core.Bool.{Bool, true, false}
+use mathlib.Core.Logic.{_↔_}
+use mathlib.Core.List.{List, List·Memᴰ}
+use lib.ListN.{length, getD}
+use Rattle.syntax.specs.Tree.{Monitor, Region}
+use Rattle.machine.specs.Monitor.{Frame, Config, stopped, allIdle}
+use Rattle.machine.specs.Algorithm1.{Holds, Fails, Triple, Stands, Signals}
+use Rattle.machine.specs.Rules.{Rules, Stops}
+use Rattle.meaning.specs.Value.{truth}
+use Rattle.meaning.specs.Answer.{Answer, accepted, refused}
+use Rattle.meaning.specs.Decide.Check.{check}
+use Rattle.meaning.specs.Model.{vars, model, noGuard, regions, guards, region, guardOf}
+use Rattle.meaning.specs.Decide.Table.{tableOf}
+use Rattle.meaning.specs.Calls.{noticesOf, Machine}
+use Rattle.meaning.specs.Decide.Calls.{runList}
+use Rattle.meaning.specs.Accepted.{Accepted, BlockRuns, Meets}
+use Rattle.meaning.specs.Table.{Row, rowLines, Increasing, Small}
+use Rattle.meaning.specs.Refusal.{Refusal}
+use lib.IntN.{ℤ}
+
+-- The table
+
+-- a line as Algorithm 1 has it, over the states that meet the kept condition
+pub record IsEntry (m : machine.Monitor) (w : Row) : Type 0 where
+  pub region : w .region < m .regions
+  pub guard : w .guard < m .guards
+  -- "from some state with the region's guard true and the other guard false, the body makes the other guard true"
+  pub stands : Stands m (w .region) (w .guard)
+  -- "unconditional when the body makes it true from every such state"
+  pub unconditional : (w .unconditional ≡ true) ↔ Triple m (w .region) (Fails m (w .guard)) (Holds m (w .guard))
+  -- "a signal when every region having that guard leaves it false from every state where it was true"
+  pub signal : (w .broadcast ≡ false) ↔ Signals m (w .guard)
+
+pub record IsTable (m : machine.Monitor) (rows : List Row) : Type 0 where
+  pub lines : tableOf m ≡ rowLines rows
+  pub exactly : (w : Row) → List·Memᴰ w rows ↔ IsEntry m w
+  -- "For each region and each guard, in that order"
+  pub order : Increasing rows
+  -- the bytes tell the rows
+  pub only : (ws : List Row) → ((w : Row) → List·Memᴰ w ws → Small w) → tableOf m ≡ rowLines ws → ws ≡ rows
+
+-- The machines
+
+pub record FollowsRules (m : Monitor) (w : Machine) : Type 0 where
+  pub accepts :
+      (s : ℕ) (fs : List Frame) (c : Config) → (runList m w s fs ≡ machine.accepted c) ↔ Rules (model m) (noticesOf m w) (allIdle s) fs c
+  pub stops :
+      (s : ℕ) (fs : List Frame) (a k : ℕ) → (runList m w s fs ≡ stopped a k) ↔ Stops (model m) (noticesOf m w) 0 (allIdle s) fs a k
+
+-- The table in the file's own words: over each variable's values and over runs of bodies, freed from the numbers of states
+
+-- the body of a region leads from values to values; the first are a state and meet kept condition and guard
+pub record Moves (m : Monitor) (r : Region) (as′ bs : List ℤ) : Type 0 where
+  pub meets : Meets m r as′
+  pub runs : BlockRuns (vars m) (r .body) as′ bs
+
+module _ (m : Monitor) where
+  -- the truth of the guard with a number
+  unfoldable pub truthOf : ℕ → List ℤ → Bool
+  truthOf g as′ = truth (getD (guards m) g noGuard) (vars m) as′
+
+  -- from every such state where guard g is p, the body of region r makes it q
+  unfoldable pub Makes : ℕ → ℕ → Bool → Bool → Type 0
+  Makes r g p q = (as′ bs : List ℤ) → Moves m (region m r) as′ bs → truthOf g as′ ≡ p → truthOf g bs ≡ q
+
+  -- a line of the table ("The table")
+  pub record ByValues (w : Row) : Type 0 where
+    pub has-region : w .region < length (regions m)
+    pub has-guard : w .guard < length (guards m)
+    -- "from some state with the region's guard true and the other guard false, the body makes the other guard true"
+    pub stands :
+        (as′ bs : List ℤ) × Moves m (region m (w .region)) as′ bs × (truthOf (w .guard) as′ ≡ false) × (truthOf (w .guard) bs ≡ true)
+    -- "unconditional when the body makes it true from every such state"
+    pub unconditional : (w .unconditional ≡ true) ↔ Makes (w .region) (w .guard) false true
+    -- "a signal when every region having that guard leaves it false from every state where it was true"
+    pub signal :
+        (w .broadcast ≡ false) ↔ ((r : ℕ) → r < length (regions m) → guardOf m r ≡ w .guard → Makes r (w .guard) true false)
+
+pub record Demand2 : Type 0 where
+  pub accepts : (file : List ℕ) (m : Monitor) → (check file ≡ accepted m) ↔ Accepted file m
+  pub refuses : (file : List ℕ) (a : Answer) → (check file ≡ refused a) ↔ Refusal file a
+  pub table : (file : List ℕ) (m : Monitor) → check file ≡ accepted m → (rows : List Row) × IsTable (model m) rows
+  pub entries : (file : List ℕ) (m : Monitor) → check file ≡ accepted m → (w : Row) → IsEntry (model m) w ↔ ByValues m w
+  -- for every tree, also one that is not accepted
+  pub machines : (m : Monitor) (w : Machine) → FollowsRules m w

@@ -1,0 +1,57 @@
+-- Demand 3: for every accepted monitor, every state that meets the kept condition and every list of frames, run from there with
+-- all threads idle, both machines agree: the same answer, unless the table's answers 14 at a recheck, and at every point up to which the
+-- table's machine accepts the same values and places, and under the table the first waiter on any guard that holds is notified. The
+-- claim is `Demand3`; `AgreeOn` says what agreeing is.
+use Prim.Native.Nat.{ℕ, _<_}
+use mathlib.Core.Path.{_≡_}
+use mathlib.Core.Bool.{true}
+use mathlib.Core.Logic.{_⊎_}
+use mathlib.Core.List.{List}
+use lib.ListN.{getElem?}
+use Rattle.syntax.specs.Tree.{Monitor}
+use Rattle.machine.specs.Monitor.{Frame, waiting}
+use Rattle.machine.specs.Agreement.{AgreeOn}
+use Rattle.sets.specs.Set.{member}
+use Rattle.machine.specs.Recheck.{Recheck}
+use Rattle.meaning.specs.Value.{truth}
+use Rattle.meaning.specs.Answer.{Answer, answer, accepted}
+use Rattle.meaning.specs.Decide.Check.{check}
+use Rattle.meaning.specs.Model.{vars, kept, model, region, guardOf}
+use Rattle.meaning.specs.Calls.{plain-machine, table-machine, Record, Running, ran, not-run}
+use Rattle.meaning.specs.Decide.Calls.{runList, running}
+use Rattle.meaning.specs.Trace.{linesOf}
+use mathlib.Core.Option.{some}
+
+pub record Demand3 : Type 0 where
+  pub agree :
+      (file : List ℕ) (m : Monitor) → check file ≡ accepted m → (s : ℕ) → kept m s ≡ true → (fs : List Frame)
+      → AgreeOn (model m) (runList m plain-machine s) (runList m table-machine s) Recheck fs
+
+-- What it says of the calls' results, for every file, trace and state number. A point of a list is a trace itself, so what is said of a
+-- trace is said of each of its points.
+
+-- "An answer is the number (0 for accepted) and two places"
+unfoldable pub runAnswer : Running → Answer
+runAnswer (ran r) = answer 0 0 0
+runAnswer (not-run a) = a
+
+pub record SameRunning (file bytes : List ℕ) (s : ℕ) : Type 0 where
+  pub same-answer :
+      (runAnswer (running file bytes s plain-machine) ≡ runAnswer (running file bytes s table-machine))
+      ⊎ ((fs : List Frame) × (k : ℕ) × (bytes ≡ linesOf fs) × (running file bytes s table-machine ≡ not-run (answer 14 k 0)) × Recheck fs k)
+  -- each variable's value and the place of each of the sixteen threads
+  pub same-record :
+      (b : Record) → running file bytes s table-machine ≡ ran b
+      → (a : Record) × (running file bytes s plain-machine ≡ ran a) × (a .values ≡ b .values) × (a .places ≡ b .places)
+
+-- in the record, thread u is the first of those waiting on the guard of region r, and that guard holds
+pub record FirstWaiter (m : Monitor) (b : Record) (u r : ℕ) : Type 0 where
+  pub waits : getElem? (b .places) u ≡ some (waiting r)
+  pub guard : truth (region m r .guard) (vars m) (b .values) ≡ true
+  pub none-lower : (v q : ℕ) → v < u → getElem? (b .places) v ≡ some (waiting q) → guardOf m q ≡ guardOf m r → ⊥
+
+-- under the table, at the end of every trace that it accepts
+unfoldable pub FirstNotified : List ℕ → List ℕ → ℕ → Type 0
+FirstNotified file bytes s =
+    (m : Monitor) → check file ≡ accepted m → (b : Record) → running file bytes s table-machine ≡ ran b
+    → (u r : ℕ) → FirstWaiter m b u r → member (b .notified) u ≡ true

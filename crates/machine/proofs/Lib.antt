@@ -1,0 +1,10 @@
+pub mod Places
+pub mod Order
+pub mod Tests
+pub mod RulesDecided
+pub mod Entries
+pub mod Rechecks
+pub mod Points
+pub mod Reached
+pub mod Simulation
+pub mod Agreement

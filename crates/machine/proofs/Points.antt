@@ -1,0 +1,285 @@
+-- What holds at a point of a run: of the plain machine alone, and between it and the table's. For each kind of frame one lemma
+-- says why it is kept: a body that ran, a thread that begins to wait, a recheck; and who may resume.
+use Prim.Native.Nat.{ℕ}
+use mathlib.Core.Path.{_≡_, refl, sym, ap, _∙_}
+use mathlib.Core.Bool.{Bool, true, false, _&&_, _||_}
+use mathlib.Core.Logic.{_⊎_, inl, inr, ⊎-elim, _↔_, Iff·rfl}
+use lib.Dec.{ltb}
+use borrow.Author.Tests.{ltb-true, ltb-false}
+use Rattle.machine.specs.Monitor.{Place, idle, waiting, Monitor}
+use Rattle.machine.specs.Decide.Step.{without, isWaiting, beginWait, leave, next, firstNotified, plainTold}
+use Rattle.machine.specs.Algorithm1.{Entry, entry}
+use Rattle.machine.specs.Decide.Table.{tableTold, unconditional, broadcast, entryOf}
+use Rattle.machine.specs.Rules.{Waits, First, PlainNotices, TableNotices}
+use Rattle.logic.proofs.Bools.{split, clash, split-eq, either, or-left, or-right, tests-equal, decides-and}
+use Rattle.machine.proofs.Places.{without-iff}
+use Rattle.machine.proofs.Order.{ahead-began, ahead-left, began-own, began-other, left-own, left-other, first-waiter, next-iff, first-notified-iff}
+use Rattle.machine.proofs.Tests.{plain-notices, table-notices}
+use Rattle.machine.specs.Algorithm1.{Holds, Fails, Triple, Signals}
+use Rattle.machine.proofs.Entries.{entry-where, entry-unconditional, signal-iff}
+use Rattle.machine.specs.Agreement.{Checked}
+
+-- What placing guarantees of a table whose entries on guard g are broadcasts where `bc g`
+pub record Placed (m : Monitor) (e : ℕ → ℕ → Entry) (bc : ℕ → Bool) : Type 0 where
+  pub stands :
+      (r g s : ℕ) → m .kept s ≡ true → m .holds (m .guardOf r) s ≡ true → m .holds g s ≡ false
+      → m .holds g (m .after r s) ≡ true → (a : Bool) × (e r g ≡ entry a (bc g))
+  pub sure :
+      (r g : ℕ) (b : Bool) (s : ℕ) → e r g ≡ entry true b → m .kept s ≡ true → m .holds (m .guardOf r) s ≡ true
+      → m .holds g s ≡ false → m .holds g (m .after r s) ≡ true
+  pub once :
+      (w s : ℕ) → bc (m .guardOf w) ≡ false → m .kept s ≡ true → m .holds (m .guardOf w) s ≡ true
+      → m .holds (m .guardOf w) (m .after w s) ≡ false
+
+-- the table of Algorithm 1 is so placed
+pub entries-placed : (m : Monitor) → Checked m → Placed m (entryOf m) (broadcast m)
+unfolding Holds Fails Triple Signals
+entries-placed m ok = record {
+  stands = λ r g s k h f a. (
+    unconditional m r g,
+    entry-where m (ok .below) r g (record { from = s; may-run = record { is-kept = k; guard = h }; before = f; after = a }),
+  );
+  sure = λ r g b s e k h f. entry-unconditional m (ok .below) r g true b e .0 refl s (record { is-kept = k; guard = h }) f;
+  once = λ w s b k h. split (ltb w (m .regions))
+      (λ q. signal-iff m (ok .below) (m .guardOf w) .0 b w (ltb-true w (m .regions) q) refl s (record { is-kept = k; guard = h }) h)
+      (λ q. clash h (ok .outside w s (ltb-false w (m .regions) q)));
+}
+
+-- Points
+
+-- what holds at each point of the plain machine: notices are for waiters, and a waiter whose guard holds has one
+pub record PlainPoint (m : Monitor) (s : ℕ) (p : ℕ → Place) (n : ℕ → Bool) : Type 0 where
+  pub is-kept : m .kept s ≡ true
+  pub waits : (u : ℕ) → n u ≡ true → isWaiting (p u) ≡ true
+  pub all : (g u : ℕ) → Waits m p g u → m .holds g s ≡ true → n u ≡ true
+
+-- what holds between the two machines' notices at a common state and common places
+pub record Agree (m : Monitor) (bc : ℕ → Bool) (s : ℕ) (p : ℕ → Place) (nP nT : ℕ → Bool) : Type 0 where
+  pub plain : PlainPoint m s p nP
+  pub within : (u : ℕ) → nT u ≡ true → nP u ≡ true
+  pub first : (g u : ℕ) → Waits m p g u → m .holds g s ≡ true → First m p (Waits m p g) u → nT u ≡ true
+  pub every : (g u : ℕ) → Waits m p g u → m .holds g s ≡ true → bc g ≡ true → nT u ≡ true
+
+pub idle-plain : (m : Monitor) (s : ℕ) → m .kept s ≡ true → PlainPoint m s (λ _. idle) (λ _. false)
+unfolding Waits isWaiting
+idle-plain m s k = record {
+  is-kept = k;
+  waits = λ u h. h;
+  all = λ g u w h. ap isWaiting (w .1);
+}
+
+-- all idle and none notified
+pub idle-agree : (m : Monitor) (bc : ℕ → Bool) (s : ℕ) → m .kept s ≡ true → Agree m bc s (λ _. idle) (λ _. false) (λ _. false)
+unfolding Waits isWaiting
+idle-agree m bc s k = record {
+  plain = idle-plain m s k;
+  within = λ u h. h;
+  first = λ g u w h f. ap isWaiting (w .1);
+  every = λ g u w h b. ap isWaiting (w .1);
+}
+
+-- Waiting, before and after
+
+waits-at : (m : Monitor) (p q : ℕ → Place) (g u : ℕ) → q u ≡ p u → Waits m p g u → Waits m q g u
+unfolding Waits
+waits-at m p q g u e w = (w .0, e ∙ w .1, w .2)
+
+waits-waiting : (m : Monitor) (p : ℕ → Place) (g u : ℕ) → Waits m p g u → isWaiting (p u) ≡ true
+unfolding Waits isWaiting
+waits-waiting m p g u w = ap isWaiting (w .1)
+
+-- a waiter that is notified if it is next in line may resume exactly if it is next in line
+pub resumes :
+    (m : Monitor) (p : ℕ → Place) (n : ℕ → Bool) (g t : ℕ) → Waits m p g t
+    → ((u : ℕ) → Waits m p g u → First m p (Waits m p g) u → n u ≡ true)
+    → n t && firstNotified m p n g t ≡ next m p g t
+unfolding First
+resumes m p n g t here told = tests-equal (n t && firstNotified m p n g t) (next m p g t) to from
+  where
+    resumes-iff : (n t && firstNotified m p n g t ≡ true) ↔ ((n t ≡ true) × First m p (λ u. Waits m p g u × (n u ≡ true)) t)
+    resumes-iff = decides-and (n t) (firstNotified m p n g t) Iff·rfl (first-notified-iff m p n g t)
+
+    none-ahead : First m p (λ u. Waits m p g u × (n u ≡ true)) t → First m p (Waits m p g) t
+    none-ahead h v l w a =
+        let x = first-waiter m p g t v l w a in
+        h (x .0) (x .1) (x .2, told (x .0) (x .2) (x .3)) (x .4)
+
+    to : n t && firstNotified m p n g t ≡ true → next m p g t ≡ true
+    to h = next-iff m p g t .1 (here, none-ahead (resumes-iff .0 h .1))
+
+    from : next m p g t ≡ true → n t && firstNotified m p n g t ≡ true
+    from h =
+        let b = next-iff m p g t .0 h in
+        resumes-iff .1 (told t here (b .1), λ v l w a. b .1 v l (w .0) a)
+
+-- A body of region r ran, by thread t: it is no waiter any more, and the others keep their places
+
+module _ (m : Monitor) (ok : Checked m) (s : ℕ) (p : ℕ → Place) (t r : ℕ) (guard : m .holds (m .guardOf r) s ≡ true) where
+  abbrev s′ : ℕ
+  s′ = m .after r s
+
+  abbrev p′ : ℕ → Place
+  p′ = leave p t (m .follows r)
+
+  left-waits : (g u : ℕ) → Waits m p′ g u → (u ≡ t → ⊥) × Waits m p g u
+  left-waits g u w =
+      split-eq u t (λ q. clash (waits-waiting m p′ g u w) (ap (λ (v : ℕ). isWaiting (p′ v)) q ∙ no-waiter))
+      (λ q. (q, waits-at m p′ p g u (sym (left-other p t (m .follows r) u q)) w))
+    where
+      no-waiter : isWaiting (p′ t) ≡ false
+      no-waiter = ap isWaiting (left-own p t (m .follows r)) ∙ ok .leaves r
+
+  -- the notices of the others stay
+  stays : (n : ℕ → Bool) (u : ℕ) (b : Bool) → (u ≡ t → ⊥) → n u ≡ true → without n t u || b ≡ true
+  stays n u b d h = or-left (without n t u) b (without-iff n t u .1 (d, h))
+
+  ran-all : (n : ℕ → Bool) (g u : ℕ) → Waits m p′ g u → m .holds g s′ ≡ true → without n t u || plainTold m s′ p′ r u ≡ true
+  unfolding PlainNotices
+  ran-all n g u w h = or-right (without n t u) (plainTold m s′ p′ r u) (plain-notices m s′ p′ r u .1 (g, w, h))
+
+  pub ran-plain : (n : ℕ → Bool) → PlainPoint m s p n → PlainPoint m s′ p′ (λ u. without n t u || plainTold m s′ p′ r u)
+  unfolding PlainNotices
+  ran-plain n pt = record {
+    is-kept = ok .keeps r s (pt .is-kept) guard;
+    waits = λ u h. ⊎-elim
+        (λ a. let b = without-iff n t u .0 a in ap isWaiting (left-other p t (m .follows r) u (b .0)) ∙ pt .waits u (b .1))
+        (λ a. let b = plain-notices m s′ p′ r u .0 a in waits-waiting m p′ (b .0) u (b .1))
+        (either (without n t u) (plainTold m s′ p′ r u) h);
+    all = ran-all n;
+  }
+
+  module _ (e : ℕ → ℕ → Entry) (bc : ℕ → Bool) (placed : Placed m e bc) (nP nT : ℕ → Bool) (ag : Agree m bc s p nP nT)
+      (own : (w : ℕ) → p t ≡ waiting w → w ≡ r) where
+    abbrev nP′ : ℕ → Bool
+    nP′ u = without nP t u || plainTold m s′ p′ r u
+
+    abbrev nT′ : ℕ → Bool
+    nT′ u = without nT t u || tableTold m e s′ p′ r u
+
+    -- an entry that acts though its guard is false is unconditional: then the guard held before the body
+    held-before :
+        (g : ℕ) (a b : Bool) → e r g ≡ entry a b → (a ≡ true) ⊎ (m .holds g s′ ≡ true) → m .holds g s′ ≡ false → m .holds g s ≡ true
+    held-before g a b z (inl y) q =
+        let z′ : e r g ≡ entry true b = z ∙ ap (λ (x : Bool). entry x b) y in
+        split (m .holds g s) (λ k. k) (λ k. clash (placed .sure r g b s z′ (ag .plain .is-kept) guard k) q)
+    held-before g a b z (inr y) q = clash y q
+
+    -- and where the guard held the plain machine had notified all
+    told-within :
+        (g u : ℕ) (a b : Bool) → Waits m p′ g u → e r g ≡ entry a b → (a ≡ true) ⊎ (m .holds g s′ ≡ true) → nP′ u ≡ true
+    told-within g u a b w z x =
+        let o = left-waits g u w in
+        split (m .holds g s′) (ran-all nP g u w)
+        (λ q. stays nP u (plainTold m s′ p′ r u) (o .0) (ag .plain .all g u (o .1) (held-before g a b z x q)))
+
+    ran-within : (u : ℕ) → nT′ u ≡ true → nP′ u ≡ true
+    unfolding TableNotices
+    ran-within u h =
+        ⊎-elim
+        (λ y. let b = without-iff nT t u .0 y in stays nP u (plainTold m s′ p′ r u) (b .0) (ag .within u (b .1)))
+        (λ y. let x = table-notices m e s′ p′ r u .0 y in told-within (x .0) u (x .2) (x .3) (x .1) (x .4) (x .5))
+        (either (without nT t u) (tableTold m e s′ p′ r u) h)
+
+    -- a guard that has become true: its entry stands, and acts
+    woken : (g u : ℕ) → Waits m p′ g u → m .holds g s′ ≡ true → m .holds g s ≡ false
+        → (bc g ≡ true) ⊎ First m p′ (Waits m p′ g) u → nT′ u ≡ true
+    unfolding TableNotices
+    woken g u w h k a =
+        let x = placed .stands r g s (ag .plain .is-kept) guard k h in
+        or-right (without nT t u) (tableTold m e s′ p′ r u) (table-notices m e s′ p′ r u .1 (g, w, x .0, bc g, x .1, inr h, a))
+
+    ran-every : (g u : ℕ) → Waits m p′ g u → m .holds g s′ ≡ true → bc g ≡ true → nT′ u ≡ true
+    ran-every g u w h b =
+        let o = left-waits g u w in
+        split (m .holds g s)
+        (λ k. stays nT u (tableTold m e s′ p′ r u) (o .0) (ag .every g u (o .1) k b))
+        (λ k. woken g u w h k (inl b))
+
+    -- the first in line on a guard other than the region's was first before
+    was-first : (g u : ℕ) → (m .guardOf r ≡ g → ⊥) → (u ≡ t → ⊥) → First m p′ (Waits m p′ g) u → First m p (Waits m p g) u
+    unfolding First Waits
+    was-first g u other d h v l w a =
+        let k : (v ≡ t → ⊥) = λ q. other (ap (m .guardOf) (sym (own (w .0) (ap p (sym q) ∙ w .1))) ∙ w .2) in
+        h v l (waits-at m p p′ g v (left-other p t (m .follows r) v k) w) (ahead-left p t (m .follows r) v u k d ∙ a)
+
+    -- a guard with signals that held before and after the body is not the region's
+    not-own : (g : ℕ) → m .holds g s′ ≡ true → bc g ≡ false → m .guardOf r ≡ g → ⊥
+    not-own g h b q =
+        clash h (ap (λ (y : ℕ). m .holds y s′) (sym q) ∙ placed .once r s (ap bc q ∙ b) (ag .plain .is-kept) guard)
+
+    ran-first : (g u : ℕ) → Waits m p′ g u → m .holds g s′ ≡ true → First m p′ (Waits m p′ g) u → nT′ u ≡ true
+    ran-first g u w h f =
+        split (m .holds g s) (λ k. split (bc g) (ran-every g u w h) (was-told k)) (λ k. woken g u w h k (inr f))
+      where
+        was-told : m .holds g s ≡ true → bc g ≡ false → nT′ u ≡ true
+        was-told k b =
+            let o = left-waits g u w in
+            stays nT u (tableTold m e s′ p′ r u) (o .0) (ag .first g u (o .1) k (was-first g u (not-own g h b) (o .0) f))
+
+    pub ran-agree : Agree m bc s′ p′ nP′ nT′
+    ran-agree = record { plain = ran-plain nP (ag .plain); within = ran-within; first = ran-first; every = ran-every }
+
+-- Thread t begins to wait at region r: the guard is false, so nothing is asked of it
+
+module _ (m : Monitor) (s : ℕ) (p : ℕ → Place) (t r : ℕ) (guard : m .holds (m .guardOf r) s ≡ false)
+    (idle-or-due : isWaiting (p t) ≡ false) where
+  abbrev q′ : ℕ → Place
+  q′ = beginWait p t r
+
+  -- a waiter whose guard holds waited before
+  waited-before : (g u : ℕ) → Waits m q′ g u → m .holds g s ≡ true → (u ≡ t → ⊥) × Waits m p g u
+  unfolding Waits
+  waited-before g u w h = split-eq u t
+      (λ q. let z : waiting r ≡ waiting (w .0) = sym (began-own p t r) ∙ ap q′ (sym q) ∙ w .1 in
+      let k : r ≡ w .0 = cc in
+      clash h (ap (λ (x : ℕ). m .holds x s) (sym (w .2) ∙ ap (m .guardOf) (sym k)) ∙ guard))
+      (λ q. (q, waits-at m q′ p g u (sym (began-other p t r u q)) w))
+
+  first-before : (g u : ℕ) → (u ≡ t → ⊥) → First m q′ (Waits m q′ g) u → First m p (Waits m p g) u
+  unfolding First
+  first-before g u d h v l w a =
+      let k : (v ≡ t → ⊥) = λ q. clash (waits-waiting m p g v w) (ap (λ (x : ℕ). isWaiting (p x)) q ∙ idle-or-due) in
+      h v l (waits-at m p q′ g v (began-other p t r v k) w) (ahead-began p t r v u k d ∙ a)
+
+  pub waited-plain : (n : ℕ → Bool) → PlainPoint m s p n → PlainPoint m s q′ n
+  unfolding isWaiting
+  waited-plain n pt = record {
+    is-kept = pt .is-kept;
+    waits = λ u h. split-eq u t
+        (λ q. ap (λ (v : ℕ). isWaiting (q′ v)) q ∙ ap isWaiting (began-own p t r))
+        (λ q. ap isWaiting (began-other p t r u q) ∙ pt .waits u h);
+    all = λ g u w h. pt .all g u (waited-before g u w h .1) h;
+  }
+
+  pub waited-agree : (bc : ℕ → Bool) (nP nT : ℕ → Bool) → Agree m bc s p nP nT → Agree m bc s q′ nP nT
+  waited-agree bc nP nT ag = record {
+    plain = waited-plain nP (ag .plain);
+    within = ag .within;
+    first = λ g u w h f. let o = waited-before g u w h in ag .first g u (o .1) h (first-before g u (o .0) f);
+    every = λ g u w h b. ag .every g u (waited-before g u w h .1) h b;
+  }
+
+-- A recheck of thread t, which waits at region r: the guard is false, and the notice is used up
+
+module _ (m : Monitor) (s : ℕ) (p : ℕ → Place) (t r : ℕ) (guard : m .holds (m .guardOf r) s ≡ false) (here : p t ≡ waiting r) where
+  other-waiter : (g u : ℕ) → Waits m p g u → m .holds g s ≡ true → u ≡ t → ⊥
+  unfolding Waits
+  other-waiter g u w h q =
+      let z : waiting r ≡ waiting (w .0) = sym here ∙ ap p (sym q) ∙ w .1 in
+      let k : r ≡ w .0 = cc in
+      clash h (ap (λ (x : ℕ). m .holds x s) (sym (w .2) ∙ ap (m .guardOf) (sym k)) ∙ guard)
+
+  pub rechecked-plain : (n : ℕ → Bool) → PlainPoint m s p n → PlainPoint m s p (without n t)
+  rechecked-plain n pt = record {
+    is-kept = pt .is-kept;
+    waits = λ u h. pt .waits u (without-iff n t u .0 h .1);
+    all = λ g u w h. without-iff n t u .1 (other-waiter g u w h, pt .all g u w h);
+  }
+
+  pub rechecked-agree : (bc : ℕ → Bool) (nP nT : ℕ → Bool) → Agree m bc s p nP nT → Agree m bc s p (without nP t) (without nT t)
+  rechecked-agree bc nP nT ag = record {
+    plain = rechecked-plain nP (ag .plain);
+    within = λ u h. let b = without-iff nT t u .0 h in without-iff nP t u .1 (b .0, ag .within u (b .1));
+    first = λ g u w h f. without-iff nT t u .1 (other-waiter g u w h, ag .first g u w h f);
+    every = λ g u w h b. without-iff nT t u .1 (other-waiter g u w h, ag .every g u w h b);
+  }

@@ -1,0 +1,151 @@
+-- What it is for a file to be accepted: "within the grammar and limits", "its kept condition holds at the start, and every region
+-- keeps it and every range".
+use Prim.Native.Nat.{ℕ, suc, _+_, _≤_, _<_}
+use mathlib.Core.Path.{_≡_}
+use mathlib.Core.Bool.{Bool, true, false, _||_}
+use mathlib.Core.Logic.{_⊎_}
+use mathlib.Core.List.{List, [], _∷_, _++_}
+use mathlib.Core.Option.{some}
+use lib.ListN.{length, getElem?}
+use lib.IntN.{ℤ, pos, negℤ}
+use Rattle.syntax.specs.Token.{Lexeme, name, key, Keyword, k-monitor, k-var, k-method, k-waituntil, Token, isKey, lbrace, rbrace, lparen, rparen, lexemes, isMark}
+use Rattle.syntax.specs.Tree.{Expr, Cond, Block, end, then, Stmt, assign, if-then, if-else, Region, Var, Monitor, all, Method, spell}
+use Rattle.meaning.specs.Value.{intOf, less, inRange, truth, exprValue}
+use Rattle.meaning.specs.State.{count, starts}
+use Rattle.syntax.specs.Spelling.{Cover}
+
+-- 3, 5 and 6 name the first token that offends, by what stands before it
+
+-- no token of a list offends
+unfoldable pub NoneOffends : (List Token → Token → Type 0) → List Token → Type 0
+NoneOffends Offends ts = (before after : List Token) (t : Token) → ts ≡ before ++ (t ∷ after) → Offends before t → ⊥
+
+-- the first token that offends stands at byte k
+unfoldable pub FirstOffends : (List Token → Token → Type 0) → List Token → ℕ → Type 0
+FirstOffends Offends ts k =
+    (before after : List Token) × (t : Token) × (ts ≡ before ++ (t ∷ after)) × Offends before t × (t .at ≡ k)
+    × NoneOffends Offends before
+
+-- how many tokens pass a test
+unfoldable pub howMany : (Lexeme → Bool) → List Token → ℕ
+howMany p [] = 0
+howMany p (t ∷ ts) = elim (p (t .lexeme)) [ true ↦ suc (howMany p ts) | false ↦ howMany p ts ]
+
+-- 3: "past the 1,024th, or is a ( or { that makes opened less closed (both kinds together) exceed 12"
+unfoldable pub opens : Lexeme → Bool
+opens l = isMark lbrace l || isMark lparen l
+
+unfoldable pub closes : Lexeme → Bool
+closes l = isMark rbrace l || isMark rparen l
+
+unfoldable pub Crowded : List Token → Token → Type 0
+Crowded before t =
+    (1024 ≤ length before) ⊎ ((opens (t .lexeme) ≡ true) × (howMany closes before + 12 < howMany opens before + 1))
+
+-- 5
+unfoldable pub PastLimit : List Token → Token → Type 0
+PastLimit before t =
+    ((t .lexeme ≡ key k-var) × (6 ≤ howMany (isKey k-var) before))
+    ⊎ ((t .lexeme ≡ key k-method) × (8 ≤ howMany (isKey k-method) before))
+    ⊎ ((t .lexeme ≡ key k-waituntil) × (16 ≤ howMany (isKey k-waituntil) before))
+
+-- 6: a keyword stands last, and a keyword with a name behind it stands among some tokens
+unfoldable pub Behind : Keyword → List Token → Type 0
+Behind k before = (front : List Token) × (t : Token) × (before ≡ front ++ (t ∷ [])) × (t .lexeme ≡ key k)
+
+unfoldable pub Declared : Keyword → List ℕ → List Token → Type 0
+Declared k x ts =
+    (front back : List Token) × (t u : Token) × (ts ≡ front ++ (t ∷ u ∷ back)) × (t .lexeme ≡ key k) × (u .lexeme ≡ name x)
+
+unfoldable pub Misnamed : List Token → Token → Type 0
+Misnamed before t =
+    (x : List ℕ) × (t .lexeme ≡ name x)
+    × ((Behind k-var before × Declared k-var x before)
+    ⊎ (Behind k-method before × Declared k-method x before)
+    ⊎ ((Behind k-var before → ⊥) × (Behind k-method before → ⊥) × (Behind k-monitor before → ⊥)
+    × (Declared k-var x before → ⊥)))
+
+-- 7
+unfoldable pub AtMost : ℤ → ℤ → Type 0
+AtMost a b = less b a ≡ false
+
+pub record GoodRange (v : Var) : Type 0 where
+  pub ordered : AtMost (intOf (v .low)) (intOf (v .high))
+  pub low-bound : AtMost (negℤ (pos 128)) (intOf (v .low))
+  pub high-bound : AtMost (intOf (v .high)) (pos 127)
+  pub start-above : AtMost (intOf (v .low)) (intOf (v .start))
+  pub start-below : AtMost (intOf (v .start)) (intOf (v .high))
+
+pub data GoodRanges : List Var → Type 0 where
+  no-vars : GoodRanges []
+  one-var : {v : Var} {vs : List Var} → GoodRange v → GoodRanges vs → GoodRanges (v ∷ vs)
+
+-- States: one value in its range for each variable
+pub data State : List Var → List ℤ → Type 0 where
+  no-values : State [] []
+  one-value : {v : Var} {vs : List Var} {a : ℤ} {as′ : List ℤ} → inRange v a ≡ true → State vs as′ → State (v ∷ vs) (a ∷ as′)
+
+-- the values after an assignment to the variable named x: the first of that name takes the value, within its range
+pub data Assigns : List Var → List ℤ → List ℕ → ℤ → List ℤ → Type 0 where
+  here :
+      {v : Var} {vs : List Var} {a b : ℤ} {as′ : List ℤ} {x : List ℕ} → v .title ≡ x → inRange v b ≡ true
+      → Assigns (v ∷ vs) (a ∷ as′) x b (b ∷ as′)
+  later :
+      {v : Var} {vs : List Var} {a b : ℤ} {as′ bs : List ℤ} {x : List ℕ} → (v .title ≡ x → ⊥) → Assigns vs as′ x b bs
+      → Assigns (v ∷ vs) (a ∷ as′) x b (a ∷ bs)
+
+-- a body's run, in which each assignment stays in range as it is made
+mutual
+  pub data BlockRuns (vs : List Var) : Block → List ℤ → List ℤ → Type 0 where
+    ends : {as′ : List ℤ} → BlockRuns vs end as′ as′
+    goes-on :
+        {s : Stmt} {b : Block} {as′ bs cs : List ℤ} → StmtRuns vs s as′ bs → BlockRuns vs b bs cs → BlockRuns vs (then s b) as′ cs
+
+  pub data StmtRuns (vs : List Var) : Stmt → List ℤ → List ℤ → Type 0 where
+    assigns : {x : List ℕ} {e : Expr} {as′ bs : List ℤ} → Assigns vs as′ x (exprValue vs as′ e) bs → StmtRuns vs (assign x e) as′ bs
+    if-true : {c : Cond} {b : Block} {as′ bs : List ℤ} → truth c vs as′ ≡ true → BlockRuns vs b as′ bs → StmtRuns vs (if-then c b) as′ bs
+    if-false : {c : Cond} {b : Block} {as′ : List ℤ} → truth c vs as′ ≡ false → StmtRuns vs (if-then c b) as′ as′
+    else-true :
+        {c : Cond} {a b : Block} {as′ bs : List ℤ} → truth c vs as′ ≡ true → BlockRuns vs a as′ bs → StmtRuns vs (if-else c a b) as′ bs
+    else-false :
+        {c : Cond} {a b : Block} {as′ bs : List ℤ} → truth c vs as′ ≡ false → BlockRuns vs b as′ bs → StmtRuns vs (if-else c a b) as′ bs
+
+-- 9: the body keeps the kept condition and every range from these values
+unfoldable pub Keeps : Monitor → Region → List ℤ → Type 0
+Keeps m r as′ = (bs : List ℤ) × BlockRuns (all (m .vars)) (r .body) as′ bs × (truth (m .keep) (all (m .vars)) bs ≡ true)
+
+-- these values count: they are a state and meet kept condition and guard
+pub record Meets (m : Monitor) (r : Region) (as′ : List ℤ) : Type 0 where
+  pub state : State (all (m .vars)) as′
+  pub kept : truth (m .keep) (all (m .vars)) as′ ≡ true
+  pub guard : truth (r .guard) (all (m .vars)) as′ ≡ true
+
+-- the regions of all methods, in file order
+unfoldable pub regionsOf : List Method → List Region
+regionsOf [] = []
+regionsOf (m ∷ ms) = all (m .regions) ++ regionsOf ms
+
+-- the region with a number
+unfoldable pub IsRegion : Monitor → ℕ → Region → Type 0
+IsRegion m k r = getElem? (regionsOf (all (m .methods))) k ≡ some r
+
+-- 7 to 9 do not arise
+pub record Sound (m : Monitor) : Type 0 where
+  pub ranges : GoodRanges (all (m .vars))
+  pub few : count (all (m .vars)) ≤ 4096
+  pub start : truth (m .keep) (all (m .vars)) (starts (all (m .vars))) ≡ true
+  pub keeps : (k : ℕ) (r : Region) (as′ : List ℤ) → IsRegion m k r → Meets m r as′ → Keeps m r as′
+
+-- Accepted: "within document 01's grammar and limits, its kept condition holds at the start, and every region keeps it and every range"
+pub record Accepted (file : List ℕ) (m : Monitor) : Type 0 where
+  pub ts : List Token
+  -- not 1, 2, 3
+  pub short : length file ≤ 8192
+  pub cut : Cover 0 file ts
+  pub limits : NoneOffends Crowded ts
+  -- not 4, 5, 6
+  pub grammar : spell m ≡ lexemes ts
+  pub counts : NoneOffends PastLimit ts
+  pub names : NoneOffends Misnamed ts
+  -- not 7, 8, 9
+  pub sound : Sound m

@@ -1,0 +1,18 @@
+-- Answers, and the verdict of a file ("The refusals").
+use Prim.Native.Nat.{ℕ}
+use mathlib.Core.Bool.{_||_}
+use Rattle.syntax.specs.Token.{number}
+use Rattle.syntax.specs.Tree.{Monitor}
+
+-- "An answer is the number (0 for accepted) and two places, 0 where unused"
+pub record Answer : Type 0 where
+  pub number : ℕ
+  pub first : ℕ
+  pub second : ℕ
+
+abbrev pub answer : ℕ → ℕ → ℕ → Answer
+answer n a b = record { number = n; first = a; second = b }
+
+pub data Verdict : Type 0 where
+  accepted : Monitor → Verdict
+  refused : Answer → Verdict

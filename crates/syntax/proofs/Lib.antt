@@ -1,0 +1,4 @@
+pub mod Scanning
+pub mod Lexemes
+pub mod Phrase
+pub mod Grammar

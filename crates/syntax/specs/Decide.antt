@@ -1,0 +1,3 @@
+-- Readings that compute, each tied by a theorem of `proofs/` to the words beside this folder.
+pub mod Scan
+pub mod Reading

@@ -1,0 +1,2 @@
+-- How the code holds what is defined beside this folder.
+pub mod Kind

@@ -1,0 +1,29 @@
+-- How tokens are held as numbers, for the code: of each its kind, a value and its place.
+use Prim.Native.Nat.{ℕ, _+_, _≤_}
+use mathlib.Core.Path.{_≡_}
+use mathlib.Core.List.{List, map}
+use lib.ListN.{length}
+use Rattle.syntax.specs.Token.{Lexeme, name, key, number, mark, markNumber, keywordNumber, Token}
+use Rattle.syntax.specs.Decide.Scan.{tokens, tokenize}
+
+-- a mark's number, 19 and a keyword's, 29 for a number, 30 for a name
+unfoldable pub kindOf : Lexeme → ℕ
+kindOf (name x) = 30
+kindOf (key k) = 19 + keywordNumber k
+kindOf (number n) = 29
+kindOf (mark m) = markNumber m
+
+-- a number's value, a name's length, and 0 of any other
+unfoldable pub valueOf : Lexeme → ℕ
+valueOf (name x) = length x
+valueOf (key k) = 0
+valueOf (number n) = n
+valueOf (mark m) = 0
+
+-- the tokens of a file of at most 8,192 bytes
+pub record Words (file : List ℕ) (ts : List Token) (kinds values places : List ℕ) : Type 0 where
+  pub short : length file ≤ 8192
+  pub cut : tokenize file ≡ tokens ts
+  pub by-kind : kinds ≡ map (λ t. kindOf (t .lexeme)) ts
+  pub by-value : values ≡ map (λ t. valueOf (t .lexeme)) ts
+  pub by-place : places ≡ map (λ t. t .at) ts
