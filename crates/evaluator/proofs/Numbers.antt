@@ -10,7 +10,7 @@ use borrow.Author.Tests.{ltb-true, ltb-false, lt-ltb, le-ltb}
 use Rattle.syntax.specs.Token.{markNumber}
 use Rattle.syntax.specs.Tree.{Comparison, eq, ne, lt, le, gt, ge, comparisonMark}
 use Rattle.meaning.specs.Value.{negative, less, compares, joined}
-use Rattle.evaluator.specs.Steps.{worth, signOf, testOf}
+use Rattle.evaluator.specs.Promises.{worth, signOf, testOf}
 
 shuffle : (a b c d : ℤ) → (a +ℤ b) +ℤ (c +ℤ d) ≡ (a +ℤ c) +ℤ (b +ℤ d)
 shuffle a b c d =

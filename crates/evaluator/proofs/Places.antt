@@ -13,7 +13,7 @@ use Rattle.syntax.specs.Token.{Lexeme, name, number}
 use Rattle.syntax.specs.Held.Kind.{kindOf}
 use Rattle.syntax.specs.Tree.{Var}
 use Rattle.evaluator.specs.Coding.{Kinds, Codes, slotOf}
-use Rattle.evaluator.specs.Steps.{Next, frontKind}
+use Rattle.evaluator.specs.Promises.{Next, frontKind}
 
 front-map : (ls : List Lexeme) (at : ℕ) → getD (map kindOf ls) at 255 ≡ frontKind (drop at ls)
 unfolding frontKind

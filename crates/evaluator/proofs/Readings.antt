@@ -17,7 +17,7 @@ use Rattle.syntax.specs.Tree.{Var, plain, negated, Atom, literal, variable, Sig
 use Rattle.meaning.specs.Value.{intOf, atomValue, joined, termsValue, exprValue, compares, truth, conjTruth, simpleTruth}
 use Rattle.evaluator.specs.Coding.{Codes, EndsCond, lane}
 use Rattle.meaning.specs.Held.{Biased}
-use Rattle.evaluator.specs.Steps.{Next, frontKind, EndsAtom, EndsExpr, EndsConj, EndsWhole, operand, AtomRead, worth, signOf, Near, Sums, TermRead, ExprRead, testOf, Truths, spellCompared, comparedTruth, CompareRead, SimpleRead, ConjRead, CondRead}
+use Rattle.evaluator.specs.Promises.{Next, frontKind, EndsAtom, EndsExpr, EndsConj, EndsWhole, operand, AtomRead, worth, signOf, Near, Sums, TermRead, ExprRead, testOf, Truths, spellCompared, comparedTruth, CompareRead, SimpleRead, ConjRead, CondRead}
 use Rattle.evaluator.proofs.Numbers.{compares-worth, joined-zero, joined-parts}
 use Rattle.evaluator.proofs.Places.{front-is, behind, number-at, name-at, apart, kind-within}
 use Rattle.evaluator.proofs.Slots.{slot-value, slot-held}

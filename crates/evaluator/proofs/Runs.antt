@@ -13,7 +13,7 @@ use Rattle.syntax.specs.Tree.{Var, Cond, Block, end, then, Stmt, assign, if-the
 use Rattle.meaning.specs.Value.{truth, assigned, andThen, runBlock, runStmt}
 use Rattle.evaluator.specs.Coding.{Codes, RunAs, lane}
 use Rattle.meaning.specs.Held.{Biased, Ranges}
-use Rattle.evaluator.specs.Steps.{Next, Closes, frontKind, ExprRead, CondRead, Stored, BlockRun, StmtRun, BranchRun, RunIn, oneBlock}
+use Rattle.evaluator.specs.Promises.{Next, Closes, frontKind, ExprRead, CondRead, Stored, BlockRun, StmtRun, BranchRun, RunIn, oneBlock}
 use Rattle.evaluator.proofs.Places.{front-is, behind, name-at, apart, same-length}
 use Rattle.evaluator.proofs.Readings.{semicolon-ends, rparen-ends}
 

@@ -16,7 +16,7 @@ use Rattle.syntax.specs.Tree.{Var}
 use Rattle.meaning.specs.Value.{intOf, valueOf, inRange, assigned}
 use Rattle.evaluator.specs.Coding.{slotOf, RunAs, lane}
 use Rattle.meaning.specs.Held.{Offset, Biased, Ranges}
-use Rattle.evaluator.specs.Steps.{operand, worth, Stored}
+use Rattle.evaluator.specs.Promises.{operand, worth, Stored}
 use Rattle.evaluator.proofs.Numbers.{less-parts, same-difference}
 
 found : (b : Bool) (a v : ℤ) (as′ : List ℤ) (k : ℕ) → v ≡ getD as′ k (pos 0)

@@ -1,2 +1,2 @@
 pub mod Coding
-pub mod Steps
+pub mod Promises

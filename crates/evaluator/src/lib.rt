@@ -15,7 +15,7 @@ ghost use Rattle.syntax.specs.Tree.{Var, Cond, Block, spellCond, spellBlock};
 ghost use Rattle.meaning.specs.Value.{truth, runBlock};
 ghost use Rattle.meaning.specs.Held.{Biased, Ranges};
 ghost use Rattle.evaluator.specs.Coding.{Codes, EndsCond, RunAs, lane};
-ghost use Rattle.evaluator.specs.Steps.{Placed, Next, Closes, operand, AtomRead, Near, TermRead, ExprRead, testOf, CompareRead, CondRead, ConjRead, SimpleRead, Stored, BlockRun, StmtRun, BranchRun};
+ghost use Rattle.evaluator.specs.Promises.{Placed, Next, Closes, operand, AtomRead, Near, TermRead, ExprRead, testOf, CompareRead, CondRead, ConjRead, SimpleRead, Stored, BlockRun, StmtRun, BranchRun};
 
 const RBRACE: u8 = 1;
 

@@ -13,7 +13,7 @@ use Rattle.meaning.specs.Model.{sameLexemes, sameGuard}
 use Rattle.logic.proofs.Bools.{is-false}
 use Rattle.meaning.proofs.SameGuards.{decides-lexemes}
 use Rattle.layout.specs.Closing.{closeFrom}
-use Rattle.layout.specs.Steps.{GuardAt}
+use Rattle.layout.specs.Promises.{GuardAt}
 use Rattle.layout.proofs.Closes.{close-length, stands-below}
 use Rattle.layout.proofs.Same.{kinds-are, kinds-length}
 use Rattle.layout.proofs.Trees.{brackets-balanced}

@@ -8,7 +8,7 @@ use Rattle.syntax.specs.Token.{Token, lexemes, Lexeme, mark, rbrace, markNumber
 use Rattle.syntax.specs.Held.Kind.{kindOf, Words}
 use Rattle.syntax.specs.Tree.{Region, Method, all, each, spellRegion, spellMethod}
 use Rattle.logic.specs.Tests.{bit}
-use Rattle.layout.specs.Steps.{Flagged, more, flagRegions, flagged, flagAt, Holds, Reached, AddsRegion, AddsMethod}
+use Rattle.layout.specs.Promises.{Flagged, more, flagRegions, flagged, flagAt, Holds, Reached, AddsRegion, AddsMethod}
 use Rattle.layout.specs.declared.Layout.{Layout}
 use Rattle.layout.specs.declared.Spot.{Spot}
 use Rattle.layout.proofs.Spelled.{later, kind-behind}

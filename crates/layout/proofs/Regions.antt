@@ -16,7 +16,7 @@ use Rattle.meaning.specs.Model.{sameLexemes, sameGuard, placeIn, guardsOf, noGu
 use Rattle.meaning.proofs.ModelLaws.{Found, place-here, place-later, found-spells, place-append, found-append, place-last, found-last, known, new, known-or-new}
 use Rattle.logic.proofs.Bools.{split}
 use Rattle.layout.specs.Laid.{RegionAt}
-use Rattle.layout.specs.Steps.{GuardAt, Flagged, noFlagged, parts, found, Arrays, Room, Holds, withGuard, withRegion}
+use Rattle.layout.specs.Promises.{GuardAt, Flagged, noFlagged, parts, found, Arrays, Room, Holds, withGuard, withRegion}
 use Rattle.layout.specs.declared.Layout.{Layout}
 
 -- The number of a guard

@@ -19,7 +19,7 @@ use Rattle.logic.proofs.Bools.{is-false}
 use Rattle.logic.proofs.Bools.{different}
 use Rattle.syntax.proofs.Lexemes.{decides-key, decides-mark}
 use Rattle.meaning.proofs.SameGuards.{decides-lexeme}
-use Rattle.layout.specs.Steps.{noToken, lexemeAt}
+use Rattle.layout.specs.Promises.{noToken, lexemeAt}
 
 -- the first of what is left of a run, and the rest of it
 pub run-turn : {A : Type 0} (l : List A) (d : A) (a n i : ℕ) → i < n → a + i < length l

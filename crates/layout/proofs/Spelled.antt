@@ -13,7 +13,7 @@ use Rattle.syntax.specs.Tree.{Region, spellCond, spellBlock, spellRegion}
 use Rattle.logic.specs.Tests.{bit}
 use Rattle.layout.specs.Closing.{closeFrom}
 use Rattle.layout.specs.Laid.{RegionAt}
-use Rattle.layout.specs.Steps.{flagAt}
+use Rattle.layout.specs.Promises.{flagAt}
 use Rattle.layout.proofs.Closes.{kinds-from, close-stands, stands-below}
 use Rattle.layout.proofs.Same.{kinds-are}
 use Rattle.layout.proofs.Trees.{brackets-balanced, braces-balanced}

@@ -20,7 +20,7 @@ use Rattle.meaning.proofs.MethodLaws.{InMethod, in-method, begins-in-method, go
 use Rattle.logic.proofs.Bools.{split}
 use Rattle.layout.specs.Laid.{IsKeep, Laid}
 use Rattle.layout.specs.Closing.{closeFrom}
-use Rattle.layout.specs.Steps.{Flagged, noFlagged, more, flagRegions, flagged, parts, found, Holds}
+use Rattle.layout.specs.Promises.{Flagged, noFlagged, more, flagRegions, flagged, parts, found, Holds}
 use Rattle.layout.specs.declared.Layout.{Layout}
 use Rattle.layout.proofs.Methods.{flag-count, methodsAhead}
 use Rattle.layout.proofs.Closes.{close-stands, stands-below}

@@ -1,3 +1,3 @@
 pub mod Closing
 pub mod Laid
-pub mod Steps
+pub mod Promises

@@ -11,7 +11,7 @@ ghost use Rattle.meaning.specs.Model.{regions};
 ghost use Rattle.layout.specs.Laid.{Kinds, IsKeep, Laid, Linked};
 ghost use Rattle.syntax.specs.Held.Kind.{Words};
 ghost use Rattle.layout.specs.Closing.{closeFrom};
-ghost use Rattle.layout.specs.Steps.{Sized, SameToken, SameTokens, SameGuard, flagAt, withGuard, withRegion, Numbers, Room, AddsRegion, AddsMethod, Grown};
+ghost use Rattle.layout.specs.Promises.{Sized, SameToken, SameTokens, SameGuard, flagAt, withGuard, withRegion, Numbers, Room, AddsRegion, AddsMethod, Grown};
 
 // At most sixteen regions and guards.
 pub struct Layout {

@@ -1,4 +1,4 @@
--- What filling the slices says, by its answer; and where guards and bodies stand, as the tables ask it. Assumes nothing.
+-- What filling the slices says, by its answer; and where guards and bodies stand, as the tables ask it.
 use Prim.Native.Nat.{ℕ, _%_, _≤_, _<_}
 use native.Mathlib.Omega.{arith}
 use mathlib.Core.Path.{_≡_, refl, sym, ap, _∙_}
@@ -16,11 +16,11 @@ use Rattle.meaning.specs.Decide.Check.{broken}
 use Rattle.meaning.specs.Model.{vars, regions, guards}
 use Rattle.variables.specs.declared.Bounds.{Bounds}
 use Rattle.layout.specs.declared.Layout.{Layout}
-use Rattle.tables.specs.Rows.{GuardsAt, BodiesAt, GuardNumbers, KeptAll, HoldsAll, AfterAll, AfterAs}
-use Rattle.tables.specs.HeldLaws.{guards-few}
-use Rattle.tables.specs.Steps.{Condition, Guards}
-use Rattle.tables.specs.declared.Broken.{Broken}
-use Rattle.tables.specs.declared.Broken.the-variants.{Never, At}
+use Rattle.states.specs.Rows.{GuardsAt, BodiesAt, GuardNumbers, KeptAll, HoldsAll, AfterAll, AfterAs}
+use Rattle.states.proofs.Holding.{guards-few}
+use Rattle.states.specs.Promises.{Condition, Guards}
+use Rattle.states.specs.declared.Broken.{Broken}
+use Rattle.states.specs.declared.Broken.the-variants.{Never, At}
 use Rattle.answers.specs.declared.Answer.{Answer}
 use Rattle.loader.proofs.GuardsAt.{guards-stand}
 use Rattle.loader.proofs.Counts.{ends-kept}

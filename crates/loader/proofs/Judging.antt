@@ -16,8 +16,8 @@ use Rattle.logic.proofs.Bools.{split}
 use Rattle.meaning.specs.Answer.{answer, refused}
 use Rattle.meaning.specs.Decide.Check.{crowded, pastLimit, misnamed, check}
 use Rattle.meaning.proofs.KeywordPlaces.{behindKeep}
-use Rattle.reader.specs.Reads.{Reads}
-use Rattle.reader.specs.declared.Pos.the-variants.{Stuck}
+use Rattle.grammar.specs.Reads.{Reads}
+use Rattle.grammar.specs.declared.Pos.the-variants.{Stuck}
 use Rattle.variables.specs.Bounded.{RangedBy}
 use Rattle.variables.specs.declared.Declared.{Declared}
 use Rattle.answers.specs.Says.{Is, answerOf}

@@ -1,4 +1,4 @@
--- What a loaded file says of its check: of a refused one nothing more, of an accepted one all that the slices hold. Assumes nothing.
+-- What a loaded file says of its check: of a refused one nothing more, of an accepted one all that the slices hold.
 use Prim.Native.Nat.{ℕ, zero, suc, _≤_}
 use native.Mathlib.Omega.{arith}
 use mathlib.Core.Path.{_≡_, refl, sym, subst, ap, _∙_}
@@ -21,7 +21,7 @@ use Rattle.meaning.proofs.Verdicts.{accepted-iff}
 use Rattle.passes.specs.Tokens.{Resolved}
 use Rattle.layout.specs.Laid.{Kinds, IsKeep, Laid, Linked}
 use Rattle.layout.specs.declared.Layout.{Layout}
-use Rattle.tables.specs.HeldLaws.{held}
+use Rattle.states.proofs.Holding.{held}
 use Rattle.answers.specs.Says.{Says, Is, answerOf}
 use Rattle.answers.specs.declared.Answer as code
 use Rattle.loader.proofs.TokenSlices.{lexemes-length}

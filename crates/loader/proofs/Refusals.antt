@@ -20,8 +20,8 @@ use Rattle.meaning.proofs.RangeLaws.{ill-ranged-good}
 use Rattle.meaning.proofs.KeywordPlaces.{behindKeep}
 use Rattle.logic.proofs.Bools.{different}
 use Rattle.meaning.proofs.Stages.{check-3, check-4, check-5, check-6, check-7, check-8, check-9, check-0}
-use Rattle.reader.specs.Reads.{Reads}
-use Rattle.reader.specs.declared.Pos.the-variants.{Next, Stuck}
+use Rattle.grammar.specs.Reads.{Reads}
+use Rattle.grammar.specs.declared.Pos.the-variants.{Next, Stuck}
 use Rattle.passes.specs.Tokens.{foundOf}
 use Rattle.passes.specs.declared.Found.the-variants.{At, Nothing}
 use Rattle.variables.specs.Bounded.{RangedBy}

@@ -17,7 +17,7 @@ use Rattle.variables.specs.Bounded.{Bounded}
 use Rattle.variables.specs.declared.Bounds.{Bounds}
 use Rattle.layout.specs.Laid.{Laid}
 use Rattle.layout.specs.declared.Layout.{Layout}
-use Rattle.tables.specs.Rows.{KeptAll, HoldsAll, AfterAll}
+use Rattle.states.specs.Rows.{KeptAll, HoldsAll, AfterAll}
 use Rattle.answers.specs.Says.{Says}
 use Rattle.answers.specs.declared.Answer.{Answer}
 

@@ -1,10 +1,10 @@
 // Loads a file: the refusals 1 to 9 in order, and of an accepted file all that the table and the machines look up.
 use answers::Answer;
+use grammar::Pos;
 use layout::Layout;
 use passes::Found;
-use reader::Pos;
 use scanner::Scanned;
-use tables::Broken;
+use states::Broken;
 use variables::Bounds;
 ghost use mathlib.Core.Path.{_≡_};
 ghost use mathlib.Core.List.{List};
@@ -92,7 +92,7 @@ fn judge(file: &[u8], kinds: &[u8], values: &[u16], places: &[u16]) -> Judged
     if let Found::At(k) = passes::find_crowded(kinds, places) {
         return not_judged(3, wide(k));
     }
-    if let Pos::Stuck(i) = reader::read(kinds) {
+    if let Pos::Stuck(i) = grammar::read(kinds) {
         return not_judged(4, place_of(places, i, file.len()));
     }
     if let Found::At(k) = passes::find_past_limit(kinds, places) {
@@ -144,11 +144,11 @@ fn fill(
 {
     let starts = bounds.starts;
     let keep = layout.keep;
-    if !tables::holds_at(kinds, values, starts, keep) {
+    if !states::holds_at(kinds, values, starts, keep) {
         return answers::say(8, place, 0);
     }
-    tables::fill_row(kinds, values, bounds, keep, kept);
-    tables::fill_holds(
+    states::fill_row(kinds, values, bounds, keep, kept);
+    states::fill_holds(
         kinds,
         values,
         bounds,
@@ -158,7 +158,7 @@ fn fill(
     );
     let bodies = layout.bodies_at;
     let numbers = layout.guard_of;
-    match tables::fill_after(
+    match states::fill_after(
         kinds,
         values,
         bounds,

@@ -1,5 +1,5 @@
 -- What was loaded of a file, by its verdict: a number other than 0 is its refusal, and with 0 there is its monitor. Runs over it, and
--- its start state. Assumes nothing.
+-- its start state.
 use Prim.Native.Nat.{ℕ, _≤_}
 use native.Mathlib.Omega.{arith}
 use mathlib.Core.Path.{_≡_, refl}
@@ -20,8 +20,8 @@ use Rattle.meaning.specs.Decide.Calls.{runFrom, running}
 use Rattle.variables.specs.Bounded.{Bounded}
 use Rattle.answers.specs.Says.{Is, answerOf}
 use Rattle.answers.specs.declared.Answer as code
-use Rattle.running.specs.Results.{NoRecord, Runs}
-use Rattle.running.specs.declared.Running.{Running}
+use Rattle.run.specs.Results.{NoRecord, Runs}
+use Rattle.run.specs.declared.Running.{Running}
 use Rattle.loader.specs.Loading.{Loads}
 use Rattle.loader.specs.declared.Loaded.{Loaded}
 use Rattle.monitor.specs.Results.{startOf}

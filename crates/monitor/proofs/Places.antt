@@ -1,4 +1,4 @@
--- What a loaded file says of placing its table. Assumes nothing.
+-- What a loaded file says of placing its table.
 use Prim.Native.Nat.{ℕ, _≤_}
 use native.Mathlib.Omega.{arith}
 use mathlib.Core.Path.{_≡_, refl, sym}
@@ -17,9 +17,9 @@ use Rattle.meaning.specs.Decide.Table.{tableOf}
 use Rattle.logic.proofs.Bools.{different}
 use Rattle.answers.specs.Says.{Says, Is, answerOf}
 use Rattle.answers.specs.declared.Answer as code
-use Rattle.placing.specs.Written.{placedOf, bufferOf, Writes}
-use Rattle.placing.specs.declared.Placed.{Placed}
-use Rattle.placing.specs.declared.Placed.the-variants.{Length, Short}
+use Rattle.table.specs.Written.{placedOf, bufferOf, Writes}
+use Rattle.table.specs.declared.Placed.{Placed}
+use Rattle.table.specs.declared.Placed.the-variants.{Length, Short}
 use Rattle.loader.specs.Loading.{Loads}
 use Rattle.loader.specs.declared.Loaded.{Loaded}
 use Rattle.monitor.specs.Results.{Places, EntriesOf}

@@ -13,8 +13,8 @@ use Rattle.meaning.specs.Decide.Check.{check}
 use Rattle.meaning.specs.State.{numberOf, starts}
 use Rattle.meaning.specs.Model.{vars, model}
 use Rattle.demands.specs.Demand3.{SameRunning}
-use Rattle.running.specs.Results.{Runs}
-use Rattle.running.specs.declared.Running.{Running}
+use Rattle.run.specs.Results.{Runs}
+use Rattle.run.specs.declared.Running.{Running}
 use Rattle.monitor.specs.declared.Placing.{Placing}
 
 -- placing: the answer, the length and every byte of the buffer afterwards

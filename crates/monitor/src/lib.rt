@@ -2,13 +2,13 @@
 // from a start state or from the start values. No call asks anything of its caller; each states its complete result for every input.
 use answers::Answer;
 use loader::Loaded;
-use placing::Placed;
-use running::Running;
+use run::Running;
+use table::Placed;
 ghost use mathlib.Core.Path.{_≡_};
 ghost use Rattle.meaning.specs.Decide.Check as meaning;
 ghost use Rattle.meaning.specs.Decide.Calls as calls;
 ghost use Rattle.answers.specs.Says.{Is};
-ghost use Rattle.running.specs.Results.{Runs, machineOf};
+ghost use Rattle.run.specs.Results.{Runs, machineOf};
 ghost use mathlib.Core.List.{List};
 ghost use Prim.Native.Nat.{ℕ};
 ghost use Rattle.loader.specs.Loading.{Loads};
@@ -51,7 +51,7 @@ fn entries_of(
     let layout = loaded.layout;
     let guard_of = layout.guard_of;
     let mut entries = [0u8; 256];
-    placing::fill_entries(
+    table::fill_entries(
         kept,
         holds,
         after,
@@ -81,7 +81,7 @@ pub fn place(file: &[u8], table: &mut [u8]) -> Placing
     }
     let layout = loaded.layout;
     let entries = entries_of(loaded, &kept, &holds, &after);
-    match placing::write_table(&entries, layout.regions, layout.guards, table) {
+    match table::write_table(&entries, layout.regions, layout.guards, table) {
         Placed::Short => Placing {
             answer: answers::say(10, 0, 0),
             length: 0,
@@ -125,12 +125,12 @@ fn run_loaded(
     if verdict.number != 0 {
         return Running {
             answer: verdict,
-            record: running::no_record(),
+            record: run::no_record(),
         };
     }
     let bounds = loaded.bounds;
     let layout = loaded.layout;
-    running::run_from(
+    run::run_from(
         bounds,
         layout,
         bytes,

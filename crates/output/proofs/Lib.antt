@@ -1,2 +1,1 @@
--- The laws that the proofs cite.
-pub mod Laws
+pub mod Printing

@@ -1,5 +1,5 @@
 // What the programs print, from byte 0 of a lent buffer; the bytes behind are kept. Each call states every byte, for every input.
-use running::Running;
+use run::Running;
 ghost use mathlib.Core.Path.{_≡_};
 ghost use mathlib.Core.Bool.{_&&_};
 ghost use Prim.Native.Nat.{_+_, _≤_};
@@ -8,7 +8,7 @@ ghost use lib.Dec.{ltb};
 ghost use Rattle.meaning.specs.Calls as calls;
 ghost use Rattle.meaning.specs.Lines.{runLine, placer, runner};
 ghost use Rattle.demands.specs.Widths.{RunFits};
-ghost use Rattle.running.specs.Results.{Runs};
+ghost use Rattle.run.specs.Results.{Runs};
 ghost use Rattle.lines.specs.Written.{Writes};
 ghost use Rattle.output.specs.Printed.{Prints};
 

@@ -49,7 +49,7 @@ fn show(file: &[u8], bytes: &[u8]) {
     let bounds = loaded.bounds;
     let layout = loaded.layout;
     let guard_of = layout.guard_of;
-    placing::fill_entries(
+    table::fill_entries(
         &kept,
         &holds,
         &after,

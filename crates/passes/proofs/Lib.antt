@@ -1,4 +1,4 @@
-pub mod Laws
+pub mod ByIndex
 pub mod Naming
 pub mod Listing
 pub mod Misnaming

@@ -16,7 +16,7 @@ use Rattle.meaning.specs.Decide.Check.{pastLimit, member, misnamed}
 use Rattle.passes.specs.declared.Names.{Names}
 use Rattle.passes.specs.declared.Found.the-variants.{At, Nothing}
 use Rattle.passes.specs.Tokens.{foundOf, Titles, Grows, Judges, wrongBy, wrongly}
-use Rattle.passes.proofs.Laws.{tokenAt, kind-at, Few, few-first, few-next, room, Pass, offends, goes-on, ends}
+use Rattle.passes.proofs.ByIndex.{tokenAt, kind-at, Few, few-first, few-next, room, Pass, offends, goes-on, ends}
 use Rattle.passes.proofs.Naming.{name-stands}
 use Rattle.passes.proofs.Listing.{added, added-few, grown-at}
 

@@ -20,7 +20,7 @@ use Rattle.meaning.specs.Decide.Check.{member}
 use Rattle.passes.specs.declared.Names.{Names}
 use Rattle.passes.specs.Tokens.{slotIn, slotOrValue, Stands, Titles, wrongBy, wrongly}
 use Rattle.passes.specs.Kinds.{kind-name, kind-key}
-use Rattle.passes.proofs.Laws.{rest-at, tokenAt, token-member, value-at, place-at, room}
+use Rattle.passes.proofs.ByIndex.{rest-at, tokenAt, token-member, value-at, place-at, room}
 
 -- Equal bytes
 

@@ -1,4 +1,4 @@
--- How a lexeme is held, and what is found at a place of a file: its length, that it lies in the file, and how it is held. Assumes nothing.
+-- How a lexeme is held, and what is found at a place of a file: its length, that it lies in the file, and how it is held.
 use Prim.Native.Nat.{ℕ, _+_, _≤_, _<_}
 use mathlib.Core.Path.{_≡_, refl}
 use mathlib.Core.Bool.{true}
@@ -16,7 +16,7 @@ use Rattle.scanner.specs.Step.{keyCode, tokenOf, wordAt, numberAt}
 use Rattle.scanner.specs.Coded.{lexemeCode, codeOf, Within}
 use Rattle.syntax.specs.Held.Kind.{kindOf, valueOf}
 use Rattle.scanner.specs.declared.Token.the-variants.{Word}
-use Rattle.scanner.proofs.Laws.{by-cases, leading-le, leading-more-at}
+use Rattle.scanner.proofs.FirstElement.{by-cases, leading-le, leading-more-at}
 use Rattle.scanner.proofs.Marks.{MarkOr, none, one, marks-or}
 use Rattle.scanner.proofs.Scanning.{WordOr, a-name, a-key, word-or, over, within, scan-end, scan-word, scan-number, scan-mark}
 

@@ -1,4 +1,4 @@
-pub mod Laws
+pub mod FirstElement
 pub mod Marks
 pub mod Scanning
 pub mod Coding

@@ -1,5 +1,5 @@
 -- Marks: what two bytes begin with, where the first is known and the second is not the one that makes a longer mark, and where the
--- first begins no mark. A mark has no more than two bytes, and none has the byte 0. Assumes nothing.
+-- first begins no mark. A mark has no more than two bytes, and none has the byte 0.
 use Prim.Native.Nat.{ℕ, suc, _+_, _≤_, _<_}
 use Prim.Native.String.{String}
 use mathlib.Core.Path.{_≡_, refl, sym, _∙_}
@@ -18,7 +18,7 @@ use Rattle.syntax.specs.Decide.Scan.{Scan, markOf, nothing, found}
 use Rattle.scanner.specs.Step.{marked, tokenOf, stepOf, stepTo}
 use Rattle.scanner.specs.declared.Marked.{Marked}
 use Rattle.scanner.specs.declared.Token.the-variants as token
-use Rattle.scanner.proofs.Laws.{by-cases, and-true}
+use Rattle.scanner.proofs.FirstElement.{by-cases, and-true}
 
 -- the mark at a byte and another
 abbrev pub two : ℕ → ℕ → Marked

@@ -1,5 +1,5 @@
 -- The token at a place of a file: what `scan` finds there, by the class of the byte that stands there; and the number of a reserved word by its
--- place among words. Assumes nothing.
+-- place among words.
 use Prim.Native.Nat.{ℕ, suc, _+_, _≤_, _<_}
 use Prim.Native.String.{String}
 use mathlib.Core.Path.{_≡_, refl, sym, ap, _∙_}
@@ -15,7 +15,7 @@ use Rattle.syntax.specs.Token.{Lexeme, Keyword, name, key, keywords, keywordNum
 use Rattle.syntax.specs.Decide.Scan.{nothing, found, scan, atMost, wordOf, markOf}
 use Rattle.scanner.specs.Step.{place, keyCode, tokenOf, stepOf, stepTo, wordAt, numberAt}
 use Rattle.scanner.specs.declared.Token.the-variants as token
-use Rattle.scanner.proofs.Laws.{by-cases, and-true, leading-take, leading-le}
+use Rattle.scanner.proofs.FirstElement.{by-cases, and-true, leading-take, leading-le}
 
 module _ (limit n : ℕ) (l : Lexeme) where
   pub over : limit < n → atMost limit n l ≡ nothing

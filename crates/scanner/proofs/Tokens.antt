@@ -1,4 +1,4 @@
--- The tokens of a file from a place on, by the cursor's step there. Assumes nothing.
+-- The tokens of a file from a place on, by the cursor's step there.
 use Prim.Native.Nat.{ℕ, zero, suc, _+_, _-_, _≤_, _<_}
 use mathlib.Core.Path.{_≡_, refl, sym, ap, _∙_}
 use mathlib.Core.Bool.{false}
@@ -16,7 +16,7 @@ use Rattle.scanner.specs.Coded.{lexemeCode, codeOf, Within, Coded, scann
 use Rattle.syntax.specs.Held.Kind.{kindOf, valueOf}
 use Rattle.scanner.specs.declared.Step.{Step}
 use Rattle.scanner.specs.declared.Scanned.the-variants as scanned
-use Rattle.scanner.proofs.Laws.{by-cases, leading-none, leading-stop, leading-more}
+use Rattle.scanner.proofs.FirstElement.{by-cases, leading-none, leading-stop, leading-more}
 use Rattle.scanner.proofs.Coding.{Found, missing, there, found-at}
 
 -- bytes that are passed over

@@ -9,7 +9,7 @@ use Rattle.machine.specs.Decide.Step.{onGuard, waitsOn, next, firstNotified, ow
 use Rattle.machine.specs.Algorithm1.{Entry}
 use Rattle.machine.specs.Decide.Table.{acts, entryTold, tableTold}
 use Rattle.stepper.specs.Slices.{entryAt, truths, toldAt}
-use Rattle.stepper.proofs.Laws.{any-same}
+use Rattle.stepper.proofs.Loops.{any-same}
 
 module _ (m′ m : Monitor) where
   on-same : (g : ℕ) (q : Place) → ((w : ℕ) → q ≡ waiting w → m′ .guardOf w ≡ m .guardOf w) → onGuard m′ g q ≡ onGuard m g q

@@ -13,7 +13,7 @@ use Rattle.logic.specs.Tests.{any}
 use Rattle.machine.specs.Decide.Step.{isDue, isWaiting, mayBeAt, may, firstNotified}
 use Rattle.stepper.specs.Slices.{slices}
 use Rattle.stepper.specs.Parts.{verdict, verdictOf}
-use Rattle.stepper.proofs.Laws.{any-true, any-false, any-below}
+use Rattle.stepper.proofs.Loops.{any-true, any-false, any-below}
 
 -- a look-up asks nothing of the other slices
 pub begins-alone : (hs as′ gs bs os : List ℕ) (n : ℕ) (q : Place) (r : ℕ)

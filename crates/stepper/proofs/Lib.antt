@@ -1,5 +1,4 @@
--- The laws that several functions' proofs cite.
-pub mod Laws
+pub mod Loops
 pub mod Judged
 pub mod Agree
 pub mod Taken

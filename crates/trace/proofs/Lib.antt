@@ -1,2 +1,3 @@
-pub mod Laws
+pub mod FramesAt
+pub mod FirstLine
 pub mod Decoding

@@ -1,4 +1,3 @@
 pub mod Lined
 pub mod Pairs
-pub mod FrameLaws
 pub mod Decoded

@@ -1,4 +1,5 @@
-pub mod Laws
+pub mod Offsets
+pub mod Indices
 pub mod Spelled
 pub mod Slots
 pub mod States

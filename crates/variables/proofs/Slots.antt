@@ -1,4 +1,4 @@
--- Variables in slots: none, one more, and what a good range says of the numbers that hold it. Assumes nothing.
+-- Variables in slots: none, one more, and what a good range says of the numbers that hold it.
 use Prim.Native.Nat.{ℕ, zero, suc, _+_, _-_, _*_, _<_, _≤_}
 use native.Mathlib.Omega.{arith}
 use native.Mathlib.Nat.{mul-assoc, mul-one, one-mul, mul-comm, le-mul-of-pos-right}
@@ -13,11 +13,12 @@ use Rattle.meaning.specs.Value.{intOf}
 use Rattle.meaning.specs.State.{size, count}
 use Rattle.meaning.specs.Accepted.{AtMost, GoodRange, GoodRanges, no-vars, one-var}
 use Rattle.logic.proofs.Bools.{no-some}
-use Rattle.variables.specs.Offsets.{Shifted, shifted-le, shifted-distance, le-shifted, pos-shifted, neg-shifted, rebased}
-use Rattle.variables.specs.Reading.{TripleOf, Good, Slots, Loaded, WithVar}
+use Rattle.variables.specs.Bounded.{Shifted}
+use Rattle.variables.proofs.Offsets.{shifted-le, shifted-distance, le-shifted, pos-shifted, neg-shifted, rebased}
+use Rattle.variables.specs.Promises.{TripleOf, Good, Slots, Loaded, WithVar}
 use Rattle.variables.specs.declared.Bounds.{Bounds}
 use Rattle.variables.specs.declared.Triple.{Triple}
-use Rattle.variables.proofs.Laws.{elem-inside, elem-snoc, set-each, six-at, six-at-most}
+use Rattle.variables.proofs.Indices.{elem-inside, elem-snoc, set-each, six-at, six-at-most}
 
 module _ (f : Var → ℤ) (e : ℕ) where
   pub slots-none : e ≤ 255 → Slots f e [] (replicate 6 e)

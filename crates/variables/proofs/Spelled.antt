@@ -1,4 +1,4 @@
--- What stands at the tokens of an integer and of a variable, and where reading goes on behind them. Assumes nothing.
+-- What stands at the tokens of an integer and of a variable, and where reading goes on behind them.
 use Prim.Native.Nat.{ℕ, _+_, _-_, _<_}
 use native.Mathlib.Omega.{arith}
 use mathlib.Core.Path.{_≡_, refl, sym, ap, _∙_}
@@ -9,10 +9,10 @@ use Rattle.syntax.specs.Held.Kind.{kindOf}
 use Rattle.syntax.specs.Tree.{Int, plain, negated, Var, spellInt, spellVar}
 use Rattle.meaning.specs.Value.{intOf}
 use Rattle.variables.specs.Bounded.{Numbers}
-use Rattle.variables.specs.Offsets.{pos-shifted, neg-shifted}
-use Rattle.variables.specs.Reading.{SpelledInt, IntAt, SpelledVar}
+use Rattle.variables.proofs.Offsets.{pos-shifted, neg-shifted}
+use Rattle.variables.specs.Promises.{SpelledInt, IntAt, SpelledVar}
 use Rattle.variables.specs.declared.Integer.{Integer}
-use Rattle.variables.proofs.Laws.{elem-left, drop-next, elem-map}
+use Rattle.variables.proofs.Indices.{elem-left, drop-next, elem-map}
 
 length-var : (v : Var) → length (spellVar v) ≡ 6 + length (spellInt (v .start)) + length (spellInt (v .low)) + length (spellInt (v .high))
 unfolding spellVar

@@ -1,5 +1,5 @@
 -- Weights, values and numbers of states, a variable at a time: what is done so far, with the definition on what is left, is the
--- definition on the whole. Assumes nothing.
+-- definition on the whole.
 use Prim.Native.Nat.{ℕ, zero, suc, _+_, _-_, _*_, _/_, _%_, _<_, _≤_}
 use native.Mathlib.Omega.{arith}
 use native.Mathlib.Nat.{mul-comm, mod-lt, mod-eq-of-lt, div-lt-iff-lt-mul}
@@ -19,11 +19,12 @@ use Rattle.meaning.proofs.Integers.{in-range-iff, not-less-iff}
 use Rattle.meaning.proofs.StateLaws.{count-pos}
 use Rattle.variables.specs.Bounded.{Bounded}
 use Rattle.meaning.specs.Held.{Offset, Biased}
-use Rattle.variables.specs.Offsets.{Shifted, shifted-up, shifted-distance, le-shifted}
-use Rattle.variables.specs.Reading.{Slots, SizeOf, DigitOf, ShareOf}
+use Rattle.variables.specs.Bounded.{Shifted}
+use Rattle.variables.proofs.Offsets.{shifted-up, shifted-distance, le-shifted}
+use Rattle.variables.specs.Promises.{Slots, SizeOf, DigitOf, ShareOf}
 use Rattle.variables.specs.declared.Bounds.{Bounds}
 use Rattle.variables.specs.declared.Digit.{Digit}
-use Rattle.variables.proofs.Laws.{at-index, elem-left, drop-next, getD-elem, set-each, six-at, six-at-most}
+use Rattle.variables.proofs.Indices.{at-index, elem-left, drop-next, getD-elem, set-each, six-at, six-at-most}
 use Rattle.variables.proofs.Slots.{size-is, good-at, count-drop}
 
 -- bounds in slots, each with 128 added

@@ -1,4 +1,4 @@
--- The walk over a file's variables: those passed are good and held, and the tokens of the others are left. Assumes nothing.
+-- The walk over a file's variables: those passed are good and held, and the tokens of the others are left.
 use Prim.Native.Nat.{ℕ, zero, suc, _+_, _*_, _<_, _≤_}
 use native.Mathlib.Omega.{arith}
 use native.Mathlib.Nat.{add-zero}
@@ -23,10 +23,10 @@ use Rattle.logic.proofs.Bools.{split, no-some}
 use Rattle.syntax.proofs.Lexemes.{decides-key}
 use Rattle.variables.specs.Bounded.{Numbers, Bounded, EndsVars, Ranged, RangedBy}
 use Rattle.meaning.specs.Held.{Offset, Biased, Ranges}
-use Rattle.variables.specs.Reading.{TripleAt, SpelledVar, Good, Slots, Loaded, WithVar, Weighed}
+use Rattle.variables.specs.Promises.{TripleAt, SpelledVar, Good, Slots, Loaded, WithVar, Weighed}
 use Rattle.variables.specs.declared.Bounds.{Bounds}
 use Rattle.variables.specs.declared.Triple.{Triple}
-use Rattle.variables.proofs.Laws.{at-index}
+use Rattle.variables.proofs.Indices.{at-index}
 use Rattle.variables.proofs.Spelled.{kind-is}
 use Rattle.variables.proofs.Slots.{size-is, good-range, range-good, good-snoc, count-snoc, loaded-one}
 

@@ -5,6 +5,7 @@ use mathlib.Core.Bool.{Bool, true, false}
 use mathlib.Core.List.{List, _∷_, map}
 use mathlib.Core.Option.{some}
 use lib.ListN.{length, getD, drop, take, getElem?}
+use lib.IntN.{ℤ, pos, _-ℤ_}
 use Rattle.syntax.specs.Token.{Lexeme, number, key, k-var}
 use Rattle.syntax.specs.Held.Kind.{kindOf}
 use Rattle.syntax.specs.Tree.{Var, each, spellVar}
@@ -43,3 +44,7 @@ RangedBy false vs ls us at r = (i : ℕ) × FirstIllRanged vs i × (r .token ≡
 
 unfoldable pub Ranged : List Var → List Lexeme → List Lexeme → ℕ → Declared → Type 0
 Ranged vs ls us at r = RangedBy (r .ok) vs ls us at r
+
+-- a whole number, held as n with b added
+pub record Shifted (b : ℕ) (a : ℤ) (n : ℕ) : Type 0 where
+  pub is : a ≡ pos n -ℤ pos b

@@ -1,3 +1,2 @@
 pub mod Bounded
-pub mod Offsets
-pub mod Reading
+pub mod Promises

@@ -11,7 +11,7 @@ ghost use Rattle.meaning.specs.State.{stateAt, numberOf, count};
 ghost use Rattle.meaning.specs.Accepted.{State};
 ghost use Rattle.variables.specs.Bounded.{Numbers, EndsVars, Ranged, Bounded};
 ghost use Rattle.meaning.specs.Held.{Biased};
-ghost use Rattle.variables.specs.Reading.{IntAt, TripleAt, Good, Fitting, WithVar, Loaded, SizeOf, Weights, Weighed, DigitOf, ShareOf};
+ghost use Rattle.variables.specs.Promises.{IntAt, TripleAt, Good, Fitting, WithVar, Loaded, SizeOf, Weights, Weighed, DigitOf, ShareOf};
 
 // At most six variables: bounds, start values, sizes of ranges, and weights in a state's number.
 pub struct Bounds {

@@ -1,6 +1,6 @@
 -- `evaluator::compare` meets its contract: at each return the tests that led there choose the case of `testOf`.
 use borrow.Author.Tests.{eq-eqb, ne-eqb}
-use Rattle.evaluator.specs.Steps.{testOf}
+use Rattle.evaluator.specs.Promises.{testOf}
 use Rattle.evaluator.proofs.compare.Statement.{statement}
 use Rattle.evaluator.proofs.compare.Tie as tie
 

@@ -8,7 +8,7 @@ use lib.ListN.{length, getD}
 use borrow.Author.Needs.{needs}
 use Rattle.syntax.specs.Token.{markNumber}
 use Rattle.syntax.specs.Tree.{signMark}
-use Rattle.evaluator.specs.Steps.{signOf}
+use Rattle.evaluator.specs.Promises.{signOf}
 use Rattle.evaluator.proofs.Readings.{past-sign, Open, open-first, open-last, open-more}
 use Rattle.evaluator.proofs.eval_expr.Statement.{statement}
 use Rattle.evaluator.proofs.eval_expr.Tie as tie

@@ -3,7 +3,7 @@ use Prim.Native.Nat.{_+_}
 use lib.ListN.{getD-replicate}
 use borrow.Author.Needs.{needs}
 use borrow.Author.Tests.{lt-ltb}
-use Rattle.evaluator.specs.Steps.{operand}
+use Rattle.evaluator.specs.Promises.{operand}
 use Rattle.evaluator.proofs.Slots.{in-slot, past-slots}
 use Rattle.evaluator.proofs.store.Statement.{statement}
 use Rattle.evaluator.proofs.store.Tie as tie

@@ -1,4 +1,4 @@
--- `layout::add_method` meets its contract. The loop's invariant: the regions held and those ahead make up the method's. Assumes nothing.
+-- `layout::add_method` meets its contract. The loop's invariant: the regions held and those ahead make up the method's.
 use Prim.Native.Nat.{_+_, _-_, _≤_}
 use native.Mathlib.Omega.{arith}
 use mathlib.Core.Path.{_≡_, refl, sym, _∙_}
@@ -7,7 +7,7 @@ use lib.ListN.{length, drop, getD}
 use Rattle.syntax.specs.Token.{Token, lexemes, Lexeme}
 use Rattle.syntax.specs.Tree.{Region}
 use Rattle.syntax.specs.Held.Kind.{Words}
-use Rattle.layout.specs.Steps.{Flagged, Holds, Grown}
+use Rattle.layout.specs.Promises.{Flagged, Holds, Grown}
 use Rattle.layout.proofs.Methods.{kind-within, regionsAhead, Ahead, ahead-start, ahead-turn, ahead-full, ahead-over}
 use Rattle.layout.proofs.add_method.Statement.{statement}
 use Rattle.layout.proofs.add_method.Tie as tie

@@ -1,5 +1,5 @@
 -- `layout::add_region` meets its contract: the guard and the body stand behind `waituntil (` and `) {`, and the layout holds one
--- region more, with a new guard or one that it has. Assumes nothing.
+-- region more, with a new guard or one that it has.
 use Prim.Native.Nat.{_+_, _%_, _≤_}
 use native.Mathlib.Omega.{arith}
 use mathlib.Core.Path.{_≡_, ap, _∙_}
@@ -7,7 +7,7 @@ use mathlib.Core.Logic.{inl, inr, ⊎-elim}
 use mathlib.Core.List.{map}
 use lib.ListN.{length, drop}
 use Rattle.syntax.specs.Token.{lexemes}
-use Rattle.layout.specs.Steps.{flagAt}
+use Rattle.layout.specs.Promises.{flagAt}
 use Rattle.layout.specs.Closing.{closeFrom}
 use Rattle.syntax.specs.Held.Kind.{kindOf}
 use Rattle.layout.proofs.Closes.{close-within}

@@ -1,4 +1,4 @@
--- `layout::closing` meets its contract. The loop's invariant: what is left to pass from here, at this depth, is what is left of the whole. Assumes nothing.
+-- `layout::closing` meets its contract. The loop's invariant: what is left to pass from here, at this depth, is what is left of the whole.
 use Prim.Native.Nat.{_+_, _-_, _≤_}
 use native.Mathlib.Omega.{arith}
 use mathlib.Core.Path.{_≡_, refl, sym, ap, _∙_}

@@ -1,9 +1,9 @@
--- `layout::flag` meets its contract: 1 where the kind is that of `waituntil`, else 0. Assumes nothing.
+-- `layout::flag` meets its contract: 1 where the kind is that of `waituntil`, else 0.
 use borrow.Author.Needs.{needs}
 use borrow.Author.Tests.{eq-eqb, ne-eqb}
 use mathlib.Core.Path.{sym, _∙_}
 use Rattle.logic.specs.Tests.{bit}
-use Rattle.layout.specs.Steps.{flagAt}
+use Rattle.layout.specs.Promises.{flagAt}
 use Rattle.layout.proofs.flag.Statement.{statement}
 use Rattle.layout.proofs.flag.Tie as tie
 

@@ -1,4 +1,4 @@
--- `layout::guard_number` meets its contract. The loop's invariant: the guard's place is past those that were compared. Assumes nothing.
+-- `layout::guard_number` meets its contract. The loop's invariant: the guard's place is past those that were compared.
 use Prim.Native.Nat.{_+_, _-_, _%_, _≤_, _<_}
 use native.Mathlib.Omega.{arith}
 use mathlib.Core.Path.{_≡_, sym, ap, _∙_}
@@ -8,7 +8,7 @@ use Rattle.syntax.specs.Token.{Token, lexemes}
 use Rattle.syntax.specs.Tree.{Cond}
 use Rattle.meaning.specs.Model.{placeIn, sameGuard}
 use Rattle.syntax.specs.Held.Kind.{Words}
-use Rattle.layout.specs.Steps.{GuardAt, Flagged, noFlagged, found, Holds}
+use Rattle.layout.specs.Promises.{GuardAt, Flagged, noFlagged, found, Holds}
 use Rattle.layout.proofs.Regions.{number-here, number-later, number-over, first-stands, first-small}
 use Rattle.layout.proofs.guard_number.Statement.{statement}
 use Rattle.layout.proofs.guard_number.Tie as tie

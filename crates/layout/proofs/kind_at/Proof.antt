@@ -1,4 +1,4 @@
--- `layout::kind_at` meets its contract: a kind of the list, and 255 past its end. Assumes nothing.
+-- `layout::kind_at` meets its contract: a kind of the list, and 255 past its end.
 use borrow.Author.Needs.{needs}
 use mathlib.Core.Path.{sym}
 use lib.ListN.{List·getD-eq-default}

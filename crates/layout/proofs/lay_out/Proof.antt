@@ -1,4 +1,4 @@
--- `layout::lay_out` meets its contract. The loop's invariant: the regions held and those of the methods ahead make up the file's. Assumes nothing.
+-- `layout::lay_out` meets its contract. The loop's invariant: the regions held and those of the methods ahead make up the file's.
 use Prim.Native.Nat.{_+_, _-_, _≤_, _<_}
 use native.Mathlib.Omega.{arith}
 use mathlib.Core.Path.{_≡_, sym, ap, _∙_}
@@ -9,7 +9,7 @@ use Rattle.syntax.specs.Tree.{Monitor, all, spell}
 use Rattle.meaning.specs.Model.{regions}
 use Rattle.layout.specs.Laid.{IsKeep}
 use Rattle.syntax.specs.Held.Kind.{Words}
-use Rattle.layout.specs.Steps.{Room}
+use Rattle.layout.specs.Promises.{Room}
 use Rattle.layout.proofs.Closes.{close-within}
 use Rattle.layout.proofs.Methods.{kind-within, AheadAll, all-start, all-turn, all-over}
 use Rattle.layout.proofs.Whole.{laid, holds-none, keep-below, keep-at, methods-at, words-sized, few-flagged}

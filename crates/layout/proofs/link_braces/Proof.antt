@@ -1,4 +1,4 @@
--- `layout::link_braces` meets its contract. The loop's invariant: the braces passed are linked, and all else is as it was. Assumes nothing.
+-- `layout::link_braces` meets its contract. The loop's invariant: the braces passed are linked, and all else is as it was.
 use Prim.Native.Nat.{_-_, _%_, _≤_, _<_}
 use native.Mathlib.Omega.{arith}
 use mathlib.Core.Path.{_≡_, sym, ap, _∙_}

@@ -1,4 +1,4 @@
--- `layout::same_guard` meets its contract: two guards are one where they are equally long and their tokens agree. Assumes nothing.
+-- `layout::same_guard` meets its contract: two guards are one where they are equally long and their tokens agree.
 use Prim.Native.Nat.{_-_}
 use native.Mathlib.Omega.{arith}
 use mathlib.Core.Path.{_≡_, sym, _∙_}

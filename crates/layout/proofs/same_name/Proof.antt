@@ -1,4 +1,4 @@
--- `layout::same_name` meets its contract. The loop's invariant: what is left compares as the whole does. Assumes nothing.
+-- `layout::same_name` meets its contract. The loop's invariant: what is left compares as the whole does.
 use Prim.Native.Nat.{_+_, _-_, _≤_}
 use native.Mathlib.Omega.{arith}
 use mathlib.Core.Path.{_≡_, _∙_, sym}

@@ -1,4 +1,4 @@
--- `layout::same_token` meets its contract: each return is a law on the kinds, values and bytes of two lexemes. Assumes nothing.
+-- `layout::same_token` meets its contract: each return is a law on the kinds, values and bytes of two lexemes.
 use native.Mathlib.Omega.{arith}
 use Prim.Native.Nat.{_+_, _≤_}
 use mathlib.Core.Path.{_≡_, _∙_}
@@ -8,7 +8,7 @@ use Rattle.syntax.specs.Bytes.{sameBytes}
 use Rattle.syntax.specs.Token.{Token}
 use Rattle.meaning.specs.Model.{sameLexeme}
 use Rattle.syntax.specs.Held.Kind.{Words}
-use Rattle.layout.specs.Steps.{lexemeAt}
+use Rattle.layout.specs.Promises.{lexemeAt}
 use Rattle.layout.proofs.Same.{kinds-differ, values-differ, no-names, first-fits, second-fits, names-agree}
 use borrow.Author.Needs.{needs}
 use Rattle.layout.proofs.same_token.Statement.{statement}

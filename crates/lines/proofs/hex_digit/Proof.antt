@@ -1,4 +1,4 @@
--- `lines::hex_digit` gives a digit of a line. Each arm is the digit's own case. Assumes nothing.
+-- `lines::hex_digit` gives a digit of a line. Each arm is the digit's own case.
 use borrow.Author.Needs.{needs}
 use mathlib.Core.Path.{sym}
 use Rattle.meaning.proofs.Digits.{low-digit, high-digit}

@@ -1,4 +1,4 @@
--- `lines::place_byte` meets its contract: each arm is the case of its place. Assumes nothing.
+-- `lines::place_byte` meets its contract: each arm is the case of its place.
 use mathlib.Core.Path.{sym, ap}
 use Rattle.stepper.specs.Shown.{placeOf}
 use Rattle.stepper.specs.declared.Place.{Place}

@@ -1,7 +1,7 @@
--- `lines::put2` meets its contract: its two stores are the two digits. Assumes nothing.
+-- `lines::put2` meets its contract: its two stores are the two digits.
 use native.Mathlib.Omega.{arith}
 use lib.ListN.{length-set}
-use Rattle.lines.proofs.Laws.{two-stores}
+use Rattle.lines.proofs.Writing.{two-stores}
 use borrow.Author.Needs.{needs}
 use Rattle.lines.proofs.put2.Statement.{statement}
 use Rattle.lines.proofs.put2.Tie as tie

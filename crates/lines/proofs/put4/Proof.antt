@@ -1,8 +1,8 @@
--- `lines::put4` meets its contract: two digits are written behind two. Assumes nothing.
+-- `lines::put4` meets its contract: two digits are written behind two.
 use native.Mathlib.Omega.{arith}
 use Rattle.meaning.specs.Hex.{hex2}
 use Rattle.meaning.specs.Lines.{hex4}
-use Rattle.lines.proofs.Laws.{written-more}
+use Rattle.lines.proofs.Writing.{written-more}
 use borrow.Author.Needs.{needs}
 use Rattle.lines.proofs.put4.Statement.{statement}
 use Rattle.lines.proofs.put4.Tie as tie

@@ -1,4 +1,4 @@
--- `lines::put_places` meets its contract. The invariant: the digits of the threads passed are written. Assumes nothing.
+-- `lines::put_places` meets its contract. The invariant: the digits of the threads passed are written.
 use Prim.Native.Nat.{_-_, _≤_}
 use native.Mathlib.Omega.{arith}
 use mathlib.Core.Path.{_≡_}
@@ -6,7 +6,7 @@ use Rattle.meaning.specs.Decide.Table.{forEach}
 use Rattle.stepper.specs.Shown.{idleThread}
 use Rattle.stepper.specs.Slices.{placesOf}
 use Rattle.lines.specs.Written.{Writes, placeAt, placesAt}
-use Rattle.lines.proofs.Laws.{written-none, place-two, turn-place, turn-length, turn}
+use Rattle.lines.proofs.Writing.{written-none, place-two, turn-place, turn-length, turn}
 use Rattle.lines.proofs.put_places.Statement.{statement}
 use Rattle.lines.proofs.put_places.Tie as tie
 

@@ -1,10 +1,10 @@
--- `lines::put_record` meets its contract: the line is four parts, one written behind the other. Assumes nothing.
+-- `lines::put_record` meets its contract: the line is four parts, one written behind the other.
 use native.Mathlib.Omega.{arith}
 use mathlib.Core.Path.{_≡_}
 use lib.ListN.{length}
 use Rattle.meaning.specs.Hex.{hex2}
 use Rattle.meaning.specs.Lines.{recordLine}
-use Rattle.lines.proofs.Laws.{written-four, values-length, places-length, values-are, places-are}
+use Rattle.lines.proofs.Writing.{written-four, values-length, places-length, values-are, places-are}
 use borrow.Author.Needs.{needs}
 use Rattle.lines.proofs.put_record.Statement.{statement}
 use Rattle.lines.proofs.put_record.Tie as tie

@@ -1,10 +1,10 @@
--- `lines::put_values` meets its contract. The invariant: the digits of the values passed are written. Assumes nothing.
+-- `lines::put_values` meets its contract. The invariant: the digits of the values passed are written.
 use Prim.Native.Nat.{_-_, _≤_}
 use native.Mathlib.Omega.{arith}
 use mathlib.Core.Path.{_≡_}
 use Rattle.meaning.specs.Decide.Table.{forEach}
 use Rattle.lines.specs.Written.{Writes, valueAt, valuesAt}
-use Rattle.lines.proofs.Laws.{written-none, value-two, turn-place, turn-length, turn}
+use Rattle.lines.proofs.Writing.{written-none, value-two, turn-place, turn-length, turn}
 use Rattle.lines.proofs.put_values.Statement.{statement}
 use Rattle.lines.proofs.put_values.Tie as tie
 

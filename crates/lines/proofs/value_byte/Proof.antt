@@ -1,4 +1,4 @@
--- `lines::value_byte` meets its contract: the remainder fits a byte. Assumes nothing.
+-- `lines::value_byte` meets its contract: the remainder fits a byte.
 use native.Mathlib.Omega.{arith}
 use Rattle.lines.proofs.value_byte.Statement.{statement}
 use Rattle.lines.proofs.value_byte.Tie as tie

@@ -1,4 +1,4 @@
--- `loader::fill` meets its contract: 8 by the kept condition's truth at the start, 9 by what `fill_after` answers, and the slices as the tables leave them. Assumes nothing.
+-- `loader::fill` meets its contract: 8 by the kept condition's truth at the start, 9 by what `fill_after` answers, and the slices as the tables leave them.
 use Prim.Native.Nat.{_≤_}
 use native.Mathlib.Omega.{arith}
 use mathlib.Core.Path.{_≡_}
@@ -13,8 +13,8 @@ use Rattle.meaning.specs.Value.{truth}
 use Rattle.meaning.specs.State.{starts}
 use Rattle.meaning.specs.Decide.Check.{broken}
 use Rattle.meaning.specs.Model.{vars, regions}
-use Rattle.tables.specs.Rows.{KeptAll, HoldsAll, AfterAs}
-use Rattle.tables.specs.HeldLaws.{kept-of-row}
+use Rattle.states.specs.Rows.{KeptAll, HoldsAll, AfterAs}
+use Rattle.states.proofs.Holding.{kept-of-row}
 use Rattle.loader.specs.Filling.{Filling}
 use Rattle.loader.proofs.Fills.{keeping, guarding, bodies-of, numbers-of, failed, filled-8, filled-9, filled-0}
 use Rattle.loader.proofs.fill.Statement.{statement}

@@ -1,4 +1,4 @@
--- `loader::guards_at` meets its contract. The loop's invariant: the guards below g stand. Assumes nothing.
+-- `loader::guards_at` meets its contract. The loop's invariant: the guards below g stand.
 use Prim.Native.Nat.{ℕ, _+_, _-_, _%_, _≤_, _<_}
 use native.Mathlib.Omega.{arith}
 use mathlib.Core.Path.{_≡_, refl}

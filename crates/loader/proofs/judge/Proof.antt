@@ -13,8 +13,8 @@ use Rattle.syntax.specs.Decide.Reading.{read}
 use Rattle.syntax.specs.Held.Kind.{Words}
 use Rattle.meaning.specs.Decide.Check.{crowded, pastLimit, misnamed}
 use Rattle.meaning.proofs.KeywordPlaces.{behindKeep}
-use Rattle.reader.specs.declared.Pos.{Pos}
-use Rattle.reader.specs.Reads.{Reads}
+use Rattle.grammar.specs.declared.Pos.{Pos}
+use Rattle.grammar.specs.Reads.{Reads}
 use Rattle.variables.specs.Bounded.{RangedBy, Ranged}
 use Rattle.loader.proofs.TokenSlices.{numbers}
 use Rattle.loader.proofs.TokensStand.{vars-stand, vars-end}

@@ -1,4 +1,4 @@
--- `loader::load` meets its contract: 1 and 2 are the scanner's; else the arrays hold the file's tokens as far as they were filled, and `load_tokens` goes on. Assumes nothing.
+-- `loader::load` meets its contract: 1 and 2 are the scanner's; else the arrays hold the file's tokens as far as they were filled, and `load_tokens` goes on.
 use Prim.Native.Nat.{ℕ, _≤_}
 use native.Mathlib.Omega.{arith}
 use mathlib.Core.Path.{_≡_}

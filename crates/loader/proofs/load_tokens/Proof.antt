@@ -1,4 +1,4 @@
--- `loader::load_tokens` meets its contract: an answer of 3 to 7 is `judge`'s; else the file has a tree, and what is laid out, resolved and linked is what `fill` asks. Assumes nothing.
+-- `loader::load_tokens` meets its contract: an answer of 3 to 7 is `judge`'s; else the file has a tree, and what is laid out, resolved and linked is what `fill` asks.
 use borrow.Author.Needs.{needs}
 use Rattle.syntax.specs.Token.{lexemes}
 use Rattle.loader.proofs.Loads.{loads-judged, judged-tree, sizes, few, is-keep, few-lexemes, kinds-held, resolved-long, filling, loads}

@@ -1,7 +1,7 @@
 -- `monitor::both_loaded` meets its contract: the two runs over what was loaded, with the same entries, and demand 3 of them.
 use borrow.Author.Needs.{needs}
 use Rattle.demands.proofs.Demand3.{same-running}
-use Rattle.running.specs.Results.{machineOf}
+use Rattle.run.specs.Results.{machineOf}
 use Rattle.monitor.proofs.both_loaded.Statement.{statement}
 use Rattle.monitor.proofs.both_loaded.Tie as tie
 

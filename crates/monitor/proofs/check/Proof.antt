@@ -1,4 +1,4 @@
--- `monitor::check` meets its contract: the answer of `load`, whose arrays are as long as it asks. Assumes nothing.
+-- `monitor::check` meets its contract: the answer of `load`, whose arrays are as long as it asks.
 use borrow.Author.Needs.{needs}
 use Rattle.monitor.proofs.Loaded.{long}
 use Rattle.monitor.proofs.check.Statement.{statement}

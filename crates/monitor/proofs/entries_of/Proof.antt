@@ -1,5 +1,4 @@
 -- `monitor::entries_of` meets its contract: the slices hold the monitor of an accepted file, and so do the entries filled from them.
--- Assumes nothing.
 use mathlib.Core.Path.{sym}
 use borrow.Author.Needs.{needs}
 use Rattle.meaning.specs.Model.{model}

@@ -1,4 +1,4 @@
--- `monitor::place` meets its contract: a refused file is answered as it was loaded, an accepted one by what writing its table says. Assumes nothing.
+-- `monitor::place` meets its contract: a refused file is answered as it was loaded, an accepted one by what writing its table says.
 use borrow.Author.Needs.{needs}
 use Rattle.monitor.proofs.Loaded.{long}
 use Rattle.monitor.proofs.Places.{not-placed, too-short, placed}

@@ -1,4 +1,4 @@
--- `monitor::run` meets its contract: what `run_loaded` says of what was loaded. Assumes nothing.
+-- `monitor::run` meets its contract: what `run_loaded` says of what was loaded.
 use borrow.Author.Needs.{needs}
 use Rattle.monitor.proofs.Loaded.{long}
 use Rattle.monitor.proofs.run.Statement.{statement}

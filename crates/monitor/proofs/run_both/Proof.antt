@@ -1,4 +1,4 @@
--- `monitor::run_both` meets its contract: what `both_loaded` says of what was loaded. Assumes nothing.
+-- `monitor::run_both` meets its contract: what `both_loaded` says of what was loaded.
 use borrow.Author.Needs.{needs}
 use Rattle.monitor.proofs.Loaded.{long}
 use Rattle.monitor.proofs.run_both.Statement.{statement}

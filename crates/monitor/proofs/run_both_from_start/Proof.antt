@@ -1,4 +1,4 @@
--- `monitor::run_both_from_start` meets its contract: what `both_loaded` says of what was loaded, at the start state. Assumes nothing.
+-- `monitor::run_both_from_start` meets its contract: what `both_loaded` says of what was loaded, at the start state.
 use borrow.Author.Needs.{needs}
 use Rattle.monitor.proofs.Loaded.{long}
 use Rattle.monitor.proofs.run_both_from_start.Statement.{statement}

@@ -1,4 +1,4 @@
--- `monitor::start_of` meets its contract: a refused file has no start, an accepted one that of the variables that were loaded. Assumes nothing.
+-- `monitor::start_of` meets its contract: a refused file has no start, an accepted one that of the variables that were loaded.
 use borrow.Author.Needs.{needs}
 use Rattle.monitor.proofs.Loaded.{no-start, start-at}
 use Rattle.monitor.proofs.start_of.Statement.{statement}

@@ -1,4 +1,4 @@
--- `monitor::start_state` meets its contract: what `start_of` says of what was loaded. Assumes nothing.
+-- `monitor::start_state` meets its contract: what `start_of` says of what was loaded.
 use borrow.Author.Needs.{needs}
 use Rattle.monitor.proofs.Loaded.{long}
 use Rattle.monitor.proofs.start_state.Statement.{statement}

@@ -1,6 +1,6 @@
--- `output::put_running` meets its contract: a number that is not 0 is a refusal, else there is a record. Assumes nothing.
+-- `output::put_running` meets its contract: a number that is not 0 is a refusal, else there is a record.
 use borrow.Author.Needs.{needs}
-use Rattle.output.proofs.Laws.{refusal-written, record-written}
+use Rattle.output.proofs.Printing.{refusal-written, record-written}
 use Rattle.output.proofs.put_running.Statement.{statement}
 use Rattle.output.proofs.put_running.Tie as tie
 

@@ -1,9 +1,9 @@
--- `output::put_runs` meets its contract: the plain machine's line, which is the file's refusal or has the table's behind it. Assumes nothing.
+-- `output::put_runs` meets its contract: the plain machine's line, which is the file's refusal or has the table's behind it.
 use native.Mathlib.Omega.{arith}
 use mathlib.Core.Path.{sym, _∙_}
 use borrow.Author.Needs.{needs}
 use Rattle.meaning.specs.Calls.{plain-machine, table-machine}
-use Rattle.output.proofs.Laws.{end-fits, one-printed, next-room, two-printed}
+use Rattle.output.proofs.Printing.{end-fits, one-printed, next-room, two-printed}
 use Rattle.output.proofs.put_runs.Statement.{statement}
 use Rattle.output.proofs.put_runs.Tie as tie
 

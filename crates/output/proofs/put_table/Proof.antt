@@ -1,6 +1,6 @@
--- `output::put_table` meets its contract: 0 comes with the table, and any other number with the buffer as it was. Assumes nothing.
+-- `output::put_table` meets its contract: 0 comes with the table, and any other number with the buffer as it was.
 use borrow.Author.Needs.{needs}
-use Rattle.output.proofs.Laws.{table-printed, refusal-printed}
+use Rattle.output.proofs.Printing.{table-printed, refusal-printed}
 use Rattle.output.proofs.put_table.Statement.{statement}
 use Rattle.output.proofs.put_table.Tie as tie
 

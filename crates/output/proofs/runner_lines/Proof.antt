@@ -1,8 +1,8 @@
--- `output::runner_lines` meets its contract: a trace is judged by its first 65,536 bytes. Assumes nothing.
+-- `output::runner_lines` meets its contract: a trace is judged by its first 65,536 bytes.
 use native.Mathlib.Omega.{arith}
 use lib.ListN.{length-take}
 use borrow.Author.Needs.{needs}
-use Rattle.output.proofs.Laws.{runner-cut}
+use Rattle.output.proofs.Printing.{runner-cut}
 use Rattle.output.proofs.runner_lines.Statement.{statement}
 use Rattle.output.proofs.runner_lines.Tie as tie
 

@@ -1,4 +1,4 @@
--- `panel::show` is safe: where the scanner answers with tokens, the arrays have as many. Assumes nothing.
+-- `panel::show` is safe: where the scanner answers with tokens, the arrays have as many.
 use Prim.Native.Nat.{ℕ, zero, suc, _≤_}
 use native.Mathlib.Omega.{arith}
 use mathlib.Core.Path.{_≡_}

@@ -9,7 +9,7 @@ use Rattle.syntax.specs.Token.{Token}
 use Rattle.meaning.specs.Decide.Check.{crowded}
 use Rattle.syntax.specs.Held.Kind.{Words}
 use Rattle.passes.specs.Kinds.{kind-opens, kind-closes}
-use Rattle.passes.proofs.Laws.{tokenAt, kind-at, places-long, tally-up, offends, goes-on, ends, crowding}
+use Rattle.passes.proofs.ByIndex.{tokenAt, kind-at, places-long, tally-up, offends, goes-on, ends, crowding}
 use Rattle.passes.proofs.find_crowded.Statement.{statement}
 use Rattle.passes.proofs.find_crowded.Tie as tie
 

@@ -10,7 +10,7 @@ use borrow.Author.Needs.{needs}
 use Rattle.syntax.specs.Token.{Token}
 use Rattle.meaning.specs.Decide.Check.{pastLimit}
 use Rattle.syntax.specs.Held.Kind.{Words}
-use Rattle.passes.proofs.Laws.{values-long, places-long}
+use Rattle.passes.proofs.ByIndex.{values-long, places-long}
 use Rattle.passes.proofs.Misnaming.{Naming, naming-first, naming-offends, naming-next, naming-ends}
 use Rattle.passes.proofs.find_misnamed.Statement.{statement}
 use Rattle.passes.proofs.find_misnamed.Tie as tie

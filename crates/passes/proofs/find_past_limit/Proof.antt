@@ -9,7 +9,7 @@ use Rattle.syntax.specs.Token.{Token, k-var, k-method, k-waituntil, keywordNumb
 use Rattle.meaning.specs.Decide.Check.{pastLimit}
 use Rattle.syntax.specs.Held.Kind.{Words}
 use Rattle.passes.specs.Kinds.{kind-key}
-use Rattle.passes.proofs.Laws.{tokenAt, kind-at, places-long, tally-up, offends, goes-on, ends, limiting}
+use Rattle.passes.proofs.ByIndex.{tokenAt, kind-at, places-long, tally-up, offends, goes-on, ends, limiting}
 use Rattle.passes.proofs.find_past_limit.Statement.{statement}
 use Rattle.passes.proofs.find_past_limit.Tie as tie
 

@@ -10,7 +10,7 @@ use Rattle.syntax.specs.Token.{Token}
 use Rattle.meaning.specs.Decide.Check.{pastLimit}
 use Rattle.passes.specs.Tokens.{titlesOf, slotOrValue}
 use Rattle.syntax.specs.Held.Kind.{Words}
-use Rattle.passes.proofs.Laws.{values-long, places-long}
+use Rattle.passes.proofs.ByIndex.{values-long, places-long}
 use Rattle.passes.proofs.Listing.{resolved-next, resolved-last}
 use Rattle.passes.proofs.resolve.Statement.{statement}
 use Rattle.passes.proofs.resolve.Tie as tie

@@ -9,7 +9,7 @@ use borrow.Author.Needs.{needs}
 use Rattle.syntax.specs.Token.{Token}
 use Rattle.meaning.specs.Decide.Check.{pastLimit}
 use Rattle.syntax.specs.Held.Kind.{Words}
-use Rattle.passes.proofs.Laws.{values-long, places-long}
+use Rattle.passes.proofs.ByIndex.{values-long, places-long}
 use Rattle.passes.proofs.Listing.{Listing, listing-first, listing-next, listing-last}
 use Rattle.passes.proofs.variables.Statement.{statement}
 use Rattle.passes.proofs.variables.Tie as tie

@@ -1,5 +1,4 @@
 -- `replay::read_part` counts bytes of the buffer: what was read lies in its first n.
--- Assumes nothing.
 use borrow.Author.Needs.{needs}
 use native.Mathlib.Omega.{arith}
 use lib.ListN.{length-take, length-append}

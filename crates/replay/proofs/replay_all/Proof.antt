@@ -1,5 +1,4 @@
 -- `replay::replay_all` ends: the count of cases grows to its bound.
--- Assumes nothing.
 use Prim.Native.Nat.{_≤_, _-_}
 use borrow.Author.Needs.{needs}
 use native.Mathlib.Omega.{arith}

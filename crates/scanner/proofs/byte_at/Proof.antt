@@ -1,5 +1,4 @@
 -- `scanner::byte_at` meets its contract: past the end a list gives 0.
--- Assumes nothing.
 use borrow.Author.Needs.{needs}
 use mathlib.Core.Path.{sym}
 use denote.Ref.{now}

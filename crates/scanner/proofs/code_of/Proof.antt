@@ -1,5 +1,4 @@
 -- `scanner::code_of` meets its contract: each arm is given the token's constructor, at which `codeOf` computes.
--- Assumes nothing.
 use borrow.Author.Needs.{needs}
 use mathlib.Core.Path.{sym, ap, _∙_}
 use denote.Ref.{now}

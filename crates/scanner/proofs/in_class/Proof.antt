@@ -1,5 +1,4 @@
 -- `scanner::in_class` meets its contract: the tests that led to each call pick the case of `passes`.
--- Assumes nothing.
 use borrow.Author.Needs.{needs}
 use borrow.Author.Tests.{eq-eqb, ne-eqb}
 use Rattle.scanner.specs.Step.{passes}

@@ -1,5 +1,4 @@
 -- `scanner::is_blank` meets its contract, by computation.
--- Assumes nothing.
 use mathlib.Core.Path.{refl}
 use Rattle.syntax.specs.Bytes.{blank}
 use Rattle.scanner.proofs.is_blank.Statement.{statement}

@@ -1,5 +1,4 @@
 -- `scanner::is_digit` meets its contract, by computation.
--- Assumes nothing.
 use mathlib.Core.Path.{refl}
 use Rattle.syntax.specs.Bytes.{digit, between}
 use Rattle.scanner.proofs.is_digit.Statement.{statement}

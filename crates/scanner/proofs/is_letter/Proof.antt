@@ -1,5 +1,4 @@
 -- `scanner::is_letter` meets its contract, by computation.
--- Assumes nothing.
 use mathlib.Core.Path.{refl}
 use Rattle.syntax.specs.Bytes.{letter, between}
 use Rattle.scanner.proofs.is_letter.Statement.{statement}

@@ -1,5 +1,4 @@
 -- `scanner::is_word` meets its contract. The loop's invariant: what is left of both is the same exactly where the whole is.
--- Assumes nothing.
 use Prim.Native.Nat.{_-_}
 use mathlib.Core.Path.{_≡_, refl, sym, _∙_}
 use borrow.Author.Needs.{needs}
@@ -7,7 +6,7 @@ use borrow.Author.Tests.{eq-eqb, ne-eqb}
 use denote.Ref.{now}
 use lib.ListN.{length, drop}
 use Rattle.syntax.specs.Bytes.{sameBytes}
-use Rattle.scanner.proofs.Laws.{same-lengths, same-at, same-end}
+use Rattle.scanner.proofs.FirstElement.{same-lengths, same-at, same-end}
 use Rattle.scanner.proofs.is_word.Statement.{statement}
 use Rattle.scanner.proofs.is_word.Tie as tie
 

@@ -1,5 +1,4 @@
 -- `scanner::is_word_byte` meets its contract, from those of the two classes.
--- Assumes nothing.
 use borrow.Author.Needs.{needs}
 use Rattle.syntax.specs.Bytes.{wordByte}
 use Rattle.scanner.proofs.is_word_byte.Statement.{statement}

@@ -1,5 +1,4 @@
 -- `scanner::keyword_of` meets its contract: the place among the first five reserved words, or among the other five behind them.
--- Assumes nothing.
 use Prim.Native.Nat.{_≤_}
 use native.Mathlib.Omega.{arith}
 use borrow.Author.Needs.{needs}

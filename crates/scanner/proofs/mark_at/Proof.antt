@@ -1,5 +1,4 @@
 -- `scanner::mark_at` meets its contract: no mark looks past two bytes, and none has the byte 0 that stands for the file's end.
--- Assumes nothing.
 use borrow.Author.Needs.{needs}
 use Prim.Native.Nat.{_+_, _≤_}
 use mathlib.Core.Path.{_≡_, sym, ap, _∙_}

@@ -1,5 +1,4 @@
 -- `scanner::mark_of` meets its contract: in each arm the first byte is known, and the marks compute but for the test on the second.
--- Assumes nothing.
 use mathlib.Core.Path.{sym}
 use Rattle.syntax.specs.Bytes.{bytes, startsWith}
 use Rattle.syntax.specs.Decide.Scan.{markOf}

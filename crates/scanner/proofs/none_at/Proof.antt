@@ -1,5 +1,4 @@
 -- `scanner::none_at` meets its contract, by computation.
--- Assumes nothing.
 use mathlib.Core.Path.{refl}
 use Rattle.scanner.specs.Step.{stepOf}
 use Rattle.scanner.proofs.none_at.Statement.{statement}

@@ -1,5 +1,4 @@
 -- `scanner::number_at` meets its contract: the digits that lead are a part of the file, of which `value_of` gives the value.
--- Assumes nothing.
 use borrow.Author.Needs.{needs}
 use Prim.Native.Nat.{ℕ, _-_}
 use mathlib.Core.Path.{_≡_, sym, ap, _∙_}
@@ -10,7 +9,7 @@ use Rattle.syntax.specs.Bytes.{leading, digit, decimal}
 use Rattle.syntax.specs.Token.{number}
 use Rattle.scanner.specs.Step.{passes, stepOf, stepTo, tokenOf}
 use Rattle.scanner.specs.declared.Token.the-variants as token
-use Rattle.scanner.proofs.Laws.{leading-le}
+use Rattle.scanner.proofs.FirstElement.{leading-le}
 use Rattle.scanner.proofs.Scanning.{over, within, part-leads}
 use Rattle.scanner.proofs.number_at.Statement.{statement}
 use Rattle.scanner.proofs.number_at.Tie as tie

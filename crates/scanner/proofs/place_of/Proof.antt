@@ -1,5 +1,4 @@
 -- `scanner::place_of` meets its contract: each test that fails passes one word of the list, and the one that holds names it.
--- Assumes nothing.
 use borrow.Author.Needs.{needs}
 use Rattle.scanner.proofs.Scanning.{hit, miss, no-place}
 use Rattle.scanner.proofs.place_of.Statement.{statement}

@@ -1,5 +1,4 @@
 -- `scanner::run_end` meets its contract. The loop's invariant: the place and what leads there are the first place and what leads there.
--- Assumes nothing.
 use Prim.Native.Nat.{_+_, _-_}
 use mathlib.Core.Path.{_≡_, refl, sym, _∙_}
 use native.Mathlib.Omega.{arith}
@@ -9,7 +8,7 @@ use denote.Ref.{now}
 use lib.ListN.{length, drop}
 use Rattle.syntax.specs.Bytes.{leading}
 use Rattle.scanner.specs.Step.{passes}
-use Rattle.scanner.proofs.Laws.{leading-stop-at, leading-more-at, leading-end}
+use Rattle.scanner.proofs.FirstElement.{leading-stop-at, leading-more-at, leading-end}
 use Rattle.scanner.proofs.run_end.Statement.{statement}
 use Rattle.scanner.proofs.run_end.Tie as tie
 

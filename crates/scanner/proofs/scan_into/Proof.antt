@@ -1,6 +1,5 @@
 -- `scanner::scan_into` meets its contract. The loop's invariant, `Held`: the numbers of the tokens so far are in the slices, and those tokens
 -- in front of the tokens of what is left are the file's. Each token has a byte of its own, so that 8,192 of them end the file.
--- Assumes nothing.
 use Prim.Native.Nat.{ℕ, _-_, _<_}
 use mathlib.Core.Path.{_≡_}
 use mathlib.Core.List.{List}

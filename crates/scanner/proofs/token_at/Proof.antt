@@ -1,5 +1,4 @@
 -- `scanner::token_at` meets its contract: the class of the first byte picks the case of `scan`.
--- Assumes nothing.
 use borrow.Author.Needs.{needs}
 use mathlib.Core.Path.{sym, ap, _∙_}
 use denote.Ref.{now}

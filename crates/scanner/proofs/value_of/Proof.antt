@@ -1,6 +1,5 @@
 -- `scanner::value_of` meets its contract. The loop's invariant: the value so far goes on to the whole's, what is left are digits, and i digits
 -- are below 10 ^ i.
--- Assumes nothing.
 use Prim.Native.Nat.{_+_, _-_, _^_, _≤_, _<_}
 use native.Mathlib.Numerals.{add-one}
 use mathlib.Core.Path.{_≡_, refl, sym, _∙_}
@@ -9,7 +8,7 @@ use borrow.Author.Needs.{needs}
 use denote.Ref.{now}
 use lib.ListN.{length, drop, getD}
 use Rattle.syntax.specs.Bytes.{decimal, digit, leading}
-use Rattle.scanner.proofs.Laws.{leading-more-at, passes-at, digit-bounds, decimal-at, decimal-end, power-at-most}
+use Rattle.scanner.proofs.FirstElement.{leading-more-at, passes-at, digit-bounds, decimal-at, decimal-end, power-at-most}
 use Rattle.scanner.proofs.value_of.Statement.{statement}
 use Rattle.scanner.proofs.value_of.Tie as tie
 

@@ -1,5 +1,4 @@
 -- `scanner::word_at` meets its contract: the word bytes that lead are a word, unless they are more than 16.
--- Assumes nothing.
 use borrow.Author.Needs.{needs}
 use Prim.Native.Nat.{ℕ}
 use mathlib.Core.Path.{sym, ap, _∙_}

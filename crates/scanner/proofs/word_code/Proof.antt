@@ -1,5 +1,4 @@
 -- `scanner::word_code` meets its contract: a word is a reserved one, by its number, or a name, by its length.
--- Assumes nothing.
 use borrow.Author.Needs.{needs}
 use Prim.Native.Nat.{ℕ, _-_}
 use mathlib.Core.Path.{_≡_, sym, _∙_}

@@ -6,7 +6,7 @@ use mathlib.Core.Bool.{Bool, _&&_, _||_}
 use lib.Dec.{eqb}
 use Rattle.machine.specs.Decide.Table.{acts as actsOf}
 use Rattle.stepper.specs.Slices.{entryBy}
-use Rattle.stepper.proofs.Laws.{acts-some}
+use Rattle.stepper.proofs.Loops.{acts-some}
 use Rattle.stepper.proofs.acts.Statement.{statement}
 use Rattle.stepper.proofs.acts.Tie as tie
 

@@ -5,7 +5,7 @@ use Prim.Native.Nat.{_%_}
 use Rattle.machine.specs.Held.{followsBy}
 use Rattle.stepper.specs.Shown.{placeOf}
 use Rattle.stepper.specs.Slices.{followsAt}
-use Rattle.stepper.proofs.Laws.{follows-due}
+use Rattle.stepper.proofs.Loops.{follows-due}
 use Rattle.stepper.proofs.behind.Statement.{statement}
 use Rattle.stepper.proofs.behind.Tie as tie
 

@@ -12,7 +12,7 @@ use Rattle.machine.specs.Monitor.{Monitor, Config, Frame, threads, ahead}
 use Rattle.machine.specs.Decide.Step.{isWaiting, onGuard, waitsOn, mayBeAt, may, firstNotified}
 use Rattle.stepper.specs.Shown.{idleThread, frameOf}
 use Rattle.stepper.specs.Slices.{guardAt, holdsAt, slices, guardsOnly, placesOf, configOf}
-use Rattle.stepper.proofs.Laws.{guards-alone}
+use Rattle.stepper.proofs.Loops.{guards-alone}
 use Rattle.stepper.proofs.Judged.{begins-alone, lowest-below, may-be, other-is-due, not-there, other-flag, not-waiting, no-notice, recheck, resumes, not-first}
 use Rattle.stepper.proofs.judge.Statement.{statement}
 use Rattle.stepper.proofs.judge.Tie as tie

@@ -7,7 +7,7 @@ use Rattle.machine.specs.Decide.Step.{onGuard}
 use Rattle.stepper.specs.Shown.{placeOf}
 use Rattle.stepper.specs.Slices.{guardsOnly}
 use Rattle.stepper.specs.declared.Place.{Place}
-use Rattle.stepper.proofs.Laws.{guard-one}
+use Rattle.stepper.proofs.Loops.{guard-one}
 use Rattle.stepper.proofs.met_with.Statement.{statement}
 use Rattle.stepper.proofs.met_with.Tie as tie
 

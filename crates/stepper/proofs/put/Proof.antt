@@ -1,7 +1,7 @@
 -- `stepper::put` meets its contract: a list with one element replaced.
 use borrow.Author.Needs.{needs}
 use native.Mathlib.Omega.{arith}
-use Rattle.stepper.proofs.Laws.{places-set}
+use Rattle.stepper.proofs.Loops.{places-set}
 use Rattle.stepper.proofs.put.Statement.{statement}
 use Rattle.stepper.proofs.put.Tie as tie
 

@@ -14,7 +14,7 @@ use Rattle.machine.specs.Decide.Step.{onGuard}
 use Rattle.machine.specs.Decide.Table.{tableTold}
 use Rattle.stepper.specs.Shown.{idleThread}
 use Rattle.stepper.specs.Slices.{placesOf, entryAt, guardsOnly, truths}
-use Rattle.stepper.proofs.Laws.{Gathered, gather-none, gather-in, gather-out, gather-all, told-first}
+use Rattle.stepper.proofs.Loops.{Gathered, gather-none, gather-in, gather-out, gather-all, told-first}
 use Rattle.stepper.proofs.told_table.Statement.{statement}
 use Rattle.stepper.proofs.told_table.Tie as tie
 

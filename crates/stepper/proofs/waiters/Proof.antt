@@ -8,7 +8,7 @@ use Rattle.sets.specs.Set.{member}
 use Rattle.machine.specs.Decide.Step.{onGuard, waitsOn}
 use Rattle.stepper.specs.Slices.{placesOf, guardsOnly}
 use Rattle.stepper.specs.Shown.{idleThread}
-use Rattle.stepper.proofs.Laws.{Gathered, gather-none, gather-in, gather-out, gather-all}
+use Rattle.stepper.proofs.Loops.{Gathered, gather-none, gather-in, gather-out, gather-all}
 use Rattle.stepper.proofs.waiters.Statement.{statement}
 use Rattle.stepper.proofs.waiters.Tie as tie
 

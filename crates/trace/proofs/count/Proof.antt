@@ -7,7 +7,7 @@ use lib.ListN.{length}
 use borrow.Author.Needs.{needs}
 use denote.Ref.{now}
 use Rattle.trace.specs.Lined.{countedOf}
-use Rattle.trace.proofs.Laws.{line-end, leftFrom, LeftNext, left-all, left-frame, left-bad, left-end}
+use Rattle.trace.proofs.FirstLine.{line-end, leftFrom, LeftNext, left-all, left-frame, left-bad, left-end}
 use Rattle.trace.proofs.count.Statement.{statement}
 use Rattle.trace.proofs.count.Tie as tie
 

@@ -2,7 +2,7 @@
 use native.Mathlib.Omega.{arith}
 use mathlib.Core.Logic.{⊎-elim}
 use borrow.Author.Tests.{leb-true, leb-false}
-use Rattle.trace.proofs.Laws.{digit-low, digit-high, digit-other}
+use Rattle.trace.proofs.FirstLine.{digit-low, digit-high, digit-other}
 use borrow.Author.Needs.{needs}
 use Rattle.trace.proofs.hex_value.Statement.{statement}
 use Rattle.trace.proofs.hex_value.Tie as tie

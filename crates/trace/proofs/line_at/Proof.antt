@@ -3,7 +3,7 @@ use native.Mathlib.Omega.{arith}
 use mathlib.Core.Logic.{⊎-elim}
 use borrow.Author.Tests.{ltb-true, ltb-false, eqb-true, eqb-false, not-true, not-false}
 use denote.Ref.{now}
-use Rattle.trace.proofs.Laws.{PairsAt, line-end, line-bad, line-none, line-frame}
+use Rattle.trace.proofs.FirstLine.{PairsAt, line-end, line-bad, line-none, line-frame}
 use borrow.Author.Needs.{needs}
 use Rattle.trace.proofs.line_at.Statement.{statement}
 use Rattle.trace.proofs.line_at.Tie as tie

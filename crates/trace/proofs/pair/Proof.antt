@@ -2,7 +2,7 @@
 use native.Mathlib.Omega.{arith}
 use mathlib.Core.Logic.{⊎-elim}
 use borrow.Author.Tests.{ltb-true, ltb-false}
-use Rattle.trace.proofs.Laws.{pair-value, pair-over}
+use Rattle.trace.proofs.FirstLine.{pair-value, pair-over}
 use borrow.Author.Needs.{needs}
 use Rattle.trace.proofs.pair.Statement.{statement}
 use Rattle.trace.proofs.pair.Tie as tie

@@ -1,14 +1,14 @@
 -- `variables::fits` meets its contract. Each refusal breaks one part of `Good`, and what passes all tests has them all; the product
--- of at most 4,096 and 256 fits. Assumes nothing.
+-- of at most 4,096 and 256 fits.
 use Prim.Native.Nat.{ℕ, _+_, _-_}
 use native.Mathlib.Nat.{not-le-of-lt}
 use native.Mathlib.Omega.{arith}
 use mathlib.Core.Bool.{false, false≢true}
 use borrow.Author.Tests.{leb-true, leb-false}
 use borrow.Author.Needs.{needs}
-use Rattle.variables.specs.Reading.{Good, Fitting}
+use Rattle.variables.specs.Promises.{Good, Fitting}
 use Rattle.variables.specs.declared.Triple.{Triple}
-use Rattle.variables.proofs.Laws.{mul-at-most}
+use Rattle.variables.proofs.Indices.{mul-at-most}
 use Rattle.variables.proofs.fits.Statement.{statement}
 use Rattle.variables.proofs.fits.Tie as tie
 

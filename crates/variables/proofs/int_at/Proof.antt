@@ -1,5 +1,5 @@
 -- `variables::int_at` meets its contract. By the token at the place an integer with or without - is spelled there; the laws of
--- `Spelled` say where its number stands. Assumes nothing.
+-- `Spelled` say where its number stands.
 use native.Mathlib.Omega.{arith}
 use mathlib.Core.Path.{sym, _∙_}
 use borrow.Author.Needs.{needs}

@@ -1,4 +1,4 @@
--- `variables::kind_at` meets its contract: past the end the list's default, 0, is answered. Assumes nothing.
+-- `variables::kind_at` meets its contract: past the end the list's default, 0, is answered.
 use mathlib.Core.Path.{sym}
 use denote.Ref.{now}
 use lib.ListN.{List·getD-eq-default}

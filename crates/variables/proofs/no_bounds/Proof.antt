@@ -1,4 +1,4 @@
--- `variables::no_bounds` meets its contract: no variables are held in six slots of each kind. Assumes nothing.
+-- `variables::no_bounds` meets its contract: no variables are held in six slots of each kind.
 use native.Mathlib.Omega.{arith}
 use mathlib.Core.Path.{refl}
 use Rattle.meaning.specs.Value.{intOf}

@@ -1,5 +1,5 @@
 -- `variables::number_of` meets its contract. The loop's invariant: the number so far and the number of what is left from k on make
--- up the whole; each share is at most 2 ^ 32. Assumes nothing.
+-- up the whole; each share is at most 2 ^ 32.
 use Prim.Native.Nat.{_+_, _-_, _*_, _≤_}
 use native.Mathlib.Nat.{zero-add}
 use native.Mathlib.Omega.{arith}

@@ -1,6 +1,5 @@
 -- `variables::read` meets its contract. The loop's invariant: at most 4,096 states and six variables, and whatever variables are
 -- spelled there, those passed are good and held, and the tokens of the others are left (`Walk`). The place grows with each variable.
--- Assumes nothing.
 use Prim.Native.Nat.{_-_, _<_, _≤_}
 use native.Mathlib.Omega.{arith}
 use mathlib.Core.Path.{_≡_, refl, sym, _∙_}
@@ -10,7 +9,7 @@ use lib.ListN.{length, getD}
 use borrow.Author.Needs.{needs}
 use borrow.Author.Tests.{not-true, not-false}
 use Rattle.meaning.specs.State.{count}
-use Rattle.variables.proofs.Laws.{inside}
+use Rattle.variables.proofs.Indices.{inside}
 use Rattle.variables.proofs.Walk.{Walk, walk-start, walk-more, walk-bad, walk-end}
 use Rattle.variables.proofs.read.Statement.{statement}
 use Rattle.variables.proofs.read.Tie as tie

@@ -1,9 +1,9 @@
--- `variables::share_of` meets its contract: a product of two numbers below 65,536 fits. Assumes nothing.
+-- `variables::share_of` meets its contract: a product of two numbers below 65,536 fits.
 use Prim.Native.Nat.{_-_}
 use native.Mathlib.Omega.{arith}
 use mathlib.Core.Path.{refl}
 use borrow.Author.Needs.{needs}
-use Rattle.variables.proofs.Laws.{mul-at-most}
+use Rattle.variables.proofs.Indices.{mul-at-most}
 use Rattle.variables.proofs.share_of.Statement.{statement}
 use Rattle.variables.proofs.share_of.Tie as tie
 

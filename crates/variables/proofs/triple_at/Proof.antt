@@ -1,4 +1,4 @@
--- `variables::triple_at` meets its contract: what the three integers promise makes up the variable's, by `spelled-var`. Assumes nothing.
+-- `variables::triple_at` meets its contract: what the three integers promise makes up the variable's, by `spelled-var`.
 use native.Mathlib.Omega.{arith}
 use borrow.Author.Needs.{needs}
 use Rattle.variables.proofs.Spelled.{spelled-var}

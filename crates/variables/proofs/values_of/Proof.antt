@@ -1,5 +1,5 @@
 -- `variables::values_of` meets its contract. The loop's invariant: the values below k stand, and what is left of the state is the
--- state of the rest among the variables from k on. Assumes nothing.
+-- state of the rest among the variables from k on.
 use Prim.Native.Nat.{_-_, _≤_, _<_}
 use native.Mathlib.Omega.{arith}
 use mathlib.Core.Path.{_≡_, refl}

@@ -1,5 +1,5 @@
 -- `variables::weights_of` meets its contract. The loop's invariant: the weights from k on stand, and the weight is the count of
--- states of all variables from k on. Assumes nothing.
+-- states of all variables from k on.
 use Prim.Native.Nat.{_≤_}
 use native.Mathlib.Omega.{arith}
 use mathlib.Core.Path.{_≡_, refl}
@@ -10,8 +10,8 @@ use Rattle.syntax.specs.Tree.{Var}
 use Rattle.meaning.specs.Value.{intOf}
 use Rattle.meaning.specs.State.{count}
 use Rattle.meaning.specs.Accepted.{GoodRanges}
-use Rattle.variables.specs.Reading.{Slots}
-use Rattle.variables.proofs.Laws.{mul-at-most}
+use Rattle.variables.specs.Promises.{Slots}
+use Rattle.variables.proofs.Indices.{mul-at-most}
 use Rattle.variables.proofs.States.{Weighing, weighing-start, weighing-more}
 use Rattle.variables.proofs.weights_of.Statement.{statement}
 use Rattle.variables.proofs.weights_of.Tie as tie

@@ -1,4 +1,4 @@
--- `variables::with_var` meets its contract. Where a slot is left the stores are the contract's; elsewhere it asks nothing. Assumes nothing.
+-- `variables::with_var` meets its contract. Where a slot is left the stores are the contract's; elsewhere it asks nothing.
 use native.Mathlib.Omega.{arith}
 use borrow.Author.Needs.{needs}
 use Rattle.variables.proofs.with_var.Statement.{statement}

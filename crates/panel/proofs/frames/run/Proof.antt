@@ -1,5 +1,4 @@
 -- `panel::frames::run` is safe and ends: the measure is the frames that are left.
--- Assumes nothing.
 use borrow.Author.Needs.{needs}
 use native.Mathlib.Omega.{arith}
 use Prim.Native.Nat.{_-_}

@@ -1,5 +1,4 @@
 -- `panel::listing::print_guards` is safe and ends: the measure is the guards that are left.
--- Assumes nothing.
 use borrow.Author.Needs.{needs}
 use Prim.Native.Nat.{_-_}
 use Rattle.panel.proofs.listing.print_guards.Statement.{statement}

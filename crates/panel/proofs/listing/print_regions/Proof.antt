@@ -1,5 +1,4 @@
 -- `panel::listing::print_regions` is safe and ends: the measure is the regions that are left.
--- Assumes nothing.
 use borrow.Author.Needs.{needs}
 use Prim.Native.Nat.{_-_}
 use Rattle.panel.proofs.listing.print_regions.Statement.{statement}

@@ -1,5 +1,4 @@
 -- `panel::listing::print_table` is safe and ends: the measure is the entries that are left.
--- Assumes nothing.
 use borrow.Author.Needs.{needs}
 use Prim.Native.Nat.{_-_}
 use Rattle.panel.proofs.listing.print_table.Statement.{statement}

@@ -1,5 +1,4 @@
 -- `panel::names::regions_of` is safe and ends: the measure is what is left of the tokens.
--- Assumes nothing.
 use borrow.Author.Needs.{needs}
 use Prim.Native.Nat.{_-_}
 use lib.ListN.{length}

@@ -1,5 +1,4 @@
 -- `panel::refused::line_bytes` is safe and ends: the measure is what is left of the line.
--- Assumes nothing.
 use borrow.Author.Needs.{needs}
 use Prim.Native.Nat.{_-_}
 use Rattle.panel.proofs.refused.line_bytes.Statement.{statement}

@@ -1,5 +1,4 @@
 -- `panel::refused::line_of` is safe and ends: the measure is the bytes that are left.
--- Assumes nothing.
 use borrow.Author.Needs.{needs}
 use Prim.Native.Nat.{_-_}
 use Rattle.panel.proofs.refused.line_of.Statement.{statement}

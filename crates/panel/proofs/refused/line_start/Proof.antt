@@ -1,5 +1,4 @@
 -- `panel::refused::line_start` is safe and ends: the measure is the place.
--- Assumes nothing.
 use borrow.Author.Needs.{needs}
 use Rattle.panel.proofs.refused.line_start.Statement.{statement}
 use Rattle.panel.proofs.refused.line_start.Tie as tie

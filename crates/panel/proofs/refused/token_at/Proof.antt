@@ -1,5 +1,4 @@
 -- `panel::refused::token_at` is safe and ends: the measure is the tokens that are left.
--- Assumes nothing.
 use borrow.Author.Needs.{needs}
 use Prim.Native.Nat.{_-_}
 use lib.ListN.{length}

@@ -1,5 +1,4 @@
 -- `panel::text::cut` is safe and ends: the measure is what is left of the part.
--- Assumes nothing.
 use borrow.Author.Needs.{needs}
 use Prim.Native.Nat.{_-_}
 use Rattle.panel.proofs.text.cut.Statement.{statement}

@@ -1,5 +1,4 @@
 -- `panel::text::pad` is safe and ends: the measure is what is left up to the column.
--- Assumes nothing.
 use borrow.Author.Needs.{needs}
 use Prim.Native.Nat.{_-_}
 use Rattle.panel.proofs.text.pad.Statement.{statement}

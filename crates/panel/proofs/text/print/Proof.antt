@@ -1,5 +1,4 @@
 -- `panel::text::print` is safe: the part that it writes lies in the buffer, by the test.
--- Assumes nothing.
 use mathlib.Core.Path.{sym}
 use lib.Seq.{length-take-le}
 use borrow.Author.Needs.{needs}

@@ -1,5 +1,4 @@
 -- `panel::text::words` is safe and ends: the measure is what is left of the texts.
--- Assumes nothing.
 use borrow.Author.Needs.{needs}
 use Prim.Native.Nat.{_-_}
 use lib.ListN.{length}

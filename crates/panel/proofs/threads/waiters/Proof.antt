@@ -1,5 +1,4 @@
 -- `panel::threads::waiters` is safe and ends: the measure is the threads that are left.
--- Assumes nothing.
 use borrow.Author.Needs.{needs}
 use Prim.Native.Nat.{_≤_, _-_}
 use Rattle.panel.proofs.threads.waiters.Statement.{statement}

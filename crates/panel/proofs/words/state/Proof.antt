@@ -1,5 +1,4 @@
 -- `panel::words::state` is safe and ends: the measure is the variables that are left.
--- Assumes nothing.
 use borrow.Author.Needs.{needs}
 use native.Mathlib.Omega.{arith}
 use Prim.Native.Nat.{_-_}

@@ -1,5 +1,4 @@
 -- `panel::words::waiting` is safe and ends: the measure is the regions that are left.
--- Assumes nothing.
 use borrow.Author.Needs.{needs}
 use Prim.Native.Nat.{_≤_, _-_}
 use Rattle.panel.proofs.words.waiting.Statement.{statement}

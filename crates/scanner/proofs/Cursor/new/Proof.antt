@@ -1,5 +1,4 @@
 -- `scanner::Cursor::new` meets its contract, by computation.
--- Assumes nothing.
 use mathlib.Core.Path.{refl}
 use Rattle.scanner.proofs.Cursor.new.Statement.{statement}
 use Rattle.scanner.proofs.Cursor.new.Tie as tie

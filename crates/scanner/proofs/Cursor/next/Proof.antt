@@ -1,5 +1,4 @@
 -- `scanner::Cursor::next` meets its contract: the token at the first byte that is no blank.
--- Assumes nothing.
 use borrow.Author.Needs.{needs}
 use Rattle.scanner.specs.Step.{stepAt, passes}
 use Rattle.scanner.proofs.Cursor.next.Statement.{statement}

@@ -2,7 +2,6 @@
 -- `Cursor::next` is called on that and the slice. All that the proof knows of `next` is that it meets its contract.
 -- The struct is Copy: what it owns is had twice, one copy is kept whole for the exit, and of the other what `file` owns goes to the callee,
 -- beside the cursor's facts and the lifetime's token, which comes back.
--- Assumes nothing.
 use mathlib.Core.Path.{_≡_, refl}
 use Prim.Native.Nat.{_<_, _^_}
 use mathlib.Core.List.{[], _∷_}

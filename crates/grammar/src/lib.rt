@@ -1,0 +1,396 @@
+// Reads the grammar over the kinds of a file's tokens, by recursive descent in the shape of `syntax`'s `Reading`: where a
+// phrase ends, or where no file of the grammar can go on. `left` falls with each call of a cycle.
+ghost use mathlib.Core.List.{List, map};
+ghost use mathlib.Core.Path.{_≡_};
+ghost use lib.ListN.{length};
+ghost use Prim.Native.Nat.{_≤_};
+ghost use Rattle.syntax.specs.Token.{Lexeme, isKey, k-var, k-method, k-waituntil};
+ghost use Rattle.syntax.specs.Tree.{Int, Atom, Term, Expr, Cond, Conj, Simple, Block, Stmt, Region, Method, Var, Monitor};
+ghost use Rattle.syntax.specs.Decide.Reading.{atEnd, isSign, readMany, readInt, readAtom, readTerm, readExpr, readCond, readConj, readSimple, readBlock, readStmt, readRegion, readMethod, readVar, readMonitor};
+ghost use Rattle.syntax.specs.Decide.Reading as reading;
+ghost use Rattle.syntax.specs.Held.Kind.{kindOf};
+ghost use Rattle.grammar.specs.Reads.{Reads, Follows, Expects, halted, seen};
+
+// The token behind a phrase, or the token at which it cannot go on; the count of tokens stands for the file's end.
+// A function that is given a place at which the reading stopped hands it on.
+pub enum Pos {
+    Next(usize),
+    Stuck(usize),
+}
+
+// The kinds of tokens.
+const LBRACE: u8 = 0;
+
+const RBRACE: u8 = 1;
+
+const LPAREN: u8 = 2;
+
+const RPAREN: u8 = 3;
+
+const SEMICOLON: u8 = 4;
+
+const EQUALS: u8 = 5;
+
+const DOTS: u8 = 6;
+
+const BECOMES: u8 = 7;
+
+const SAME: u8 = 8;
+
+const AT_LEAST: u8 = 13;
+
+const PLUS: u8 = 14;
+
+const MINUS: u8 = 15;
+
+const BANG: u8 = 16;
+
+const AND_AND: u8 = 17;
+
+const OR_OR: u8 = 18;
+
+const MONITOR: u8 = 19;
+
+const VAR: u8 = 20;
+
+const IN: u8 = 21;
+
+const KEEP: u8 = 22;
+
+const METHOD: u8 = 23;
+
+const WAITUNTIL: u8 = 24;
+
+const IF: u8 = 25;
+
+const ELSE: u8 = 26;
+
+const TRUE: u8 = 27;
+
+const FALSE: u8 = 28;
+
+const NUMBER: u8 = 29;
+
+const NAME: u8 = 30;
+
+// Stops where the reading stands.
+fn stop(from: Pos) -> Pos
+    ensures { λ r. ⌜ r ≡ halted from ⌝ }
+{
+    match from {
+        Pos::Next(at) => Pos::Stuck(at),
+        Pos::Stuck(_) => from,
+    }
+}
+
+// Whether a token of a kind from `low` to `high` comes next.
+fn sees_among(kinds: &[u8], from: Pos, low: u8, high: u8) -> bool
+    ensures { λ r. ⌜ r ≡ seen (now (kinds .entry)) from low high ⌝ }
+{
+    match from {
+        Pos::Next(at) => {
+            if kinds.len() <= at {
+                return false;
+            }
+            let kind = kinds[at];
+            if kind < low {
+                return false;
+            }
+            kind <= high
+        }
+        Pos::Stuck(_) => false,
+    }
+}
+
+fn sees(kinds: &[u8], from: Pos, kind: u8) -> bool
+    ensures { λ r. ⌜ r ≡ seen (now (kinds .entry)) from kind kind ⌝ }
+{
+    sees_among(kinds, from, kind, kind)
+}
+
+// Passes over a token of a kind from `low` to `high`.
+fn expect_among(kinds: &[u8], from: Pos, low: u8, high: u8) -> Pos
+    ensures { λ r. ⌜ Expects (now (kinds .entry)) from low high r ⌝ }
+{
+    let found = sees_among(kinds, from, low, high);
+    match from {
+        Pos::Next(at) => {
+            if found {
+                Pos::Next(at + 1)
+            } else {
+                Pos::Stuck(at)
+            }
+        }
+        Pos::Stuck(_) => from,
+    }
+}
+
+fn expect(kinds: &[u8], from: Pos, kind: u8) -> Pos
+    ensures { λ r. ⌜ Expects (now (kinds .entry)) from kind kind r ⌝ }
+{
+    expect_among(kinds, from, kind, kind)
+}
+
+fn at_end(kinds: &[u8], from: Pos) -> Pos
+    ensures { λ r. ⌜ Follows (Unit {0}) (now (kinds .entry)) from atEnd r ⌝ }
+{
+    match from {
+        Pos::Next(at) => {
+            if at < kinds.len() {
+                Pos::Stuck(at)
+            } else {
+                from
+            }
+        }
+        Pos::Stuck(_) => from,
+    }
+}
+
+fn read_int(kinds: &[u8], from: Pos) -> Pos
+    ensures { λ r. ⌜ Follows Int (now (kinds .entry)) from readInt r ⌝ }
+{
+    if sees(kinds, from, MINUS) {
+        let minus = expect(kinds, from, MINUS);
+        return expect(kinds, minus, NUMBER);
+    }
+    expect(kinds, from, NUMBER)
+}
+
+fn read_atom(kinds: &[u8], from: Pos) -> Pos
+    ensures { λ r. ⌜ Follows Atom (now (kinds .entry)) from readAtom r ⌝ }
+{
+    if sees(kinds, from, NAME) {
+        return expect(kinds, from, NAME);
+    }
+    read_int(kinds, from)
+}
+
+// Terms joined by + and -, as many as there are.
+fn read_terms(kinds: &[u8], from: Pos, left: usize) -> Pos
+    ensures { λ r. ⌜ Follows (List Term) (now (kinds .entry)) from (readMany isSign readTerm left) r ⌝ }
+{
+    if left == 0 {
+        return stop(from);
+    }
+    if sees_among(kinds, from, PLUS, MINUS) {
+        let sign = expect_among(kinds, from, PLUS, MINUS);
+        let atom = read_atom(kinds, sign);
+        return read_terms(kinds, atom, left - 1);
+    }
+    from
+}
+
+fn read_expr(kinds: &[u8], from: Pos, left: usize) -> Pos
+    ensures { λ r. ⌜ Follows Expr (now (kinds .entry)) from (readExpr left) r ⌝ }
+{
+    let atom = read_atom(kinds, from);
+    read_terms(kinds, atom, left)
+}
+
+fn read_cond(kinds: &[u8], from: Pos, left: usize) -> Pos
+    ensures { λ r. ⌜ Follows Cond (now (kinds .entry)) from (readCond left) r ⌝ }
+{
+    if left == 0 {
+        return stop(from);
+    }
+    let less = left - 1;
+    let conj = read_conj(kinds, from, less);
+    if sees(kinds, conj, OR_OR) {
+        let or = expect(kinds, conj, OR_OR);
+        return read_cond(kinds, or, less);
+    }
+    conj
+}
+
+fn read_conj(kinds: &[u8], from: Pos, left: usize) -> Pos
+    ensures { λ r. ⌜ Follows Conj (now (kinds .entry)) from (readConj left) r ⌝ }
+{
+    if left == 0 {
+        return stop(from);
+    }
+    let less = left - 1;
+    let simple = read_simple(kinds, from, less);
+    if sees(kinds, simple, AND_AND) {
+        let and = expect(kinds, simple, AND_AND);
+        return read_conj(kinds, and, less);
+    }
+    simple
+}
+
+fn read_simple(kinds: &[u8], from: Pos, left: usize) -> Pos
+    ensures { λ r. ⌜ Follows Simple (now (kinds .entry)) from (readSimple left) r ⌝ }
+{
+    if left == 0 {
+        return stop(from);
+    }
+    let less = left - 1;
+    if sees(kinds, from, BANG) {
+        let bang = expect(kinds, from, BANG);
+        return read_simple(kinds, bang, less);
+    }
+    if sees(kinds, from, LPAREN) {
+        let open = expect(kinds, from, LPAREN);
+        let cond = read_cond(kinds, open, less);
+        return expect(kinds, cond, RPAREN);
+    }
+    if sees(kinds, from, TRUE) {
+        return expect(kinds, from, TRUE);
+    }
+    if sees(kinds, from, FALSE) {
+        return expect(kinds, from, FALSE);
+    }
+    let one = read_expr(kinds, from, less);
+    let comparison = expect_among(kinds, one, SAME, AT_LEAST);
+    read_expr(kinds, comparison, less)
+}
+
+// Statements up to a closing brace, which is left.
+fn read_block(kinds: &[u8], from: Pos, left: usize) -> Pos
+    ensures { λ r. ⌜ Follows Block (now (kinds .entry)) from (readBlock left) r ⌝ }
+{
+    if left == 0 {
+        return stop(from);
+    }
+    let less = left - 1;
+    if sees(kinds, from, RBRACE) {
+        return from;
+    }
+    let stmt = read_stmt(kinds, from, less);
+    match stmt {
+        Pos::Next(_) => read_block(kinds, stmt, less),
+        Pos::Stuck(_) => stmt,
+    }
+}
+
+fn read_stmt(kinds: &[u8], from: Pos, left: usize) -> Pos
+    ensures { λ r. ⌜ Follows Stmt (now (kinds .entry)) from (readStmt left) r ⌝ }
+{
+    if left == 0 {
+        return stop(from);
+    }
+    let less = left - 1;
+    if sees(kinds, from, IF) {
+        let word = expect(kinds, from, IF);
+        let open = expect(kinds, word, LPAREN);
+        let cond = read_cond(kinds, open, less);
+        let close = expect(kinds, cond, RPAREN);
+        let begin = expect(kinds, close, LBRACE);
+        let block = read_block(kinds, begin, less);
+        let end = expect(kinds, block, RBRACE);
+        if sees(kinds, end, ELSE) {
+            let other = expect(kinds, end, ELSE);
+            let begin2 = expect(kinds, other, LBRACE);
+            let block2 = read_block(kinds, begin2, less);
+            return expect(kinds, block2, RBRACE);
+        }
+        return end;
+    }
+    let name = expect(kinds, from, NAME);
+    let becomes = expect(kinds, name, BECOMES);
+    let value = read_expr(kinds, becomes, less);
+    expect(kinds, value, SEMICOLON)
+}
+
+fn read_region(kinds: &[u8], from: Pos, left: usize) -> Pos
+    ensures { λ r. ⌜ Follows Region (now (kinds .entry)) from (readRegion left) r ⌝ }
+{
+    let word = expect(kinds, from, WAITUNTIL);
+    let open = expect(kinds, word, LPAREN);
+    let guard = read_cond(kinds, open, left);
+    let shut = expect(kinds, guard, RPAREN);
+    let begin = expect(kinds, shut, LBRACE);
+    let block = read_block(kinds, begin, left);
+    expect(kinds, block, RBRACE)
+}
+
+// As many regions as there are, each with `left` of its own.
+fn read_regions(kinds: &[u8], from: Pos, left: usize, rounds: usize) -> Pos
+    ensures { λ r. ⌜ Follows (List Region) (now (kinds .entry)) from (readMany (isKey k-waituntil) (readRegion left) rounds) r ⌝ }
+{
+    if rounds == 0 {
+        return stop(from);
+    }
+    if sees(kinds, from, WAITUNTIL) {
+        let region = read_region(kinds, from, left);
+        return read_regions(kinds, region, left, rounds - 1);
+    }
+    from
+}
+
+fn read_method(kinds: &[u8], from: Pos, left: usize) -> Pos
+    ensures { λ r. ⌜ Follows Method (now (kinds .entry)) from (readMethod left) r ⌝ }
+{
+    let word = expect(kinds, from, METHOD);
+    let name = expect(kinds, word, NAME);
+    let begin = expect(kinds, name, LBRACE);
+    let region = read_region(kinds, begin, left);
+    let regions = read_regions(kinds, region, left, left);
+    expect(kinds, regions, RBRACE)
+}
+
+fn read_methods(kinds: &[u8], from: Pos, left: usize, rounds: usize) -> Pos
+    ensures { λ r. ⌜ Follows (List Method) (now (kinds .entry)) from (readMany (isKey k-method) (readMethod left) rounds) r ⌝ }
+{
+    if rounds == 0 {
+        return stop(from);
+    }
+    if sees(kinds, from, METHOD) {
+        let method = read_method(kinds, from, left);
+        return read_methods(kinds, method, left, rounds - 1);
+    }
+    from
+}
+
+fn read_var(kinds: &[u8], from: Pos) -> Pos
+    ensures { λ r. ⌜ Follows Var (now (kinds .entry)) from readVar r ⌝ }
+{
+    let word = expect(kinds, from, VAR);
+    let name = expect(kinds, word, NAME);
+    let equals = expect(kinds, name, EQUALS);
+    let start = read_int(kinds, equals);
+    let within = expect(kinds, start, IN);
+    let low = read_int(kinds, within);
+    let dots = expect(kinds, low, DOTS);
+    let high = read_int(kinds, dots);
+    expect(kinds, high, SEMICOLON)
+}
+
+fn read_vars(kinds: &[u8], from: Pos, rounds: usize) -> Pos
+    ensures { λ r. ⌜ Follows (List Var) (now (kinds .entry)) from (readMany (isKey k-var) readVar rounds) r ⌝ }
+{
+    if rounds == 0 {
+        return stop(from);
+    }
+    if sees(kinds, from, VAR) {
+        let var = read_var(kinds, from);
+        return read_vars(kinds, var, rounds - 1);
+    }
+    from
+}
+
+fn read_monitor(kinds: &[u8], from: Pos, left: usize) -> Pos
+    ensures { λ r. ⌜ Follows Monitor (now (kinds .entry)) from (readMonitor left) r ⌝ }
+{
+    let word = expect(kinds, from, MONITOR);
+    let name = expect(kinds, word, NAME);
+    let begin = expect(kinds, name, LBRACE);
+    let var = read_var(kinds, begin);
+    let vars = read_vars(kinds, var, left);
+    let keep = expect(kinds, vars, KEEP);
+    let cond = read_cond(kinds, keep, left);
+    let kept = expect(kinds, cond, SEMICOLON);
+    let method = read_method(kinds, kept, left);
+    let methods = read_methods(kinds, method, left, left);
+    let end = expect(kinds, methods, RBRACE);
+    at_end(kinds, end)
+}
+
+// Where a file's tokens are no file of the grammar (4), or their count.
+pub fn read(kinds: &[u8]) -> Pos
+    ensures { λ r. ⌜ ((ls : List Lexeme) → map kindOf ls ≡ now (kinds .entry) → length ls ≤ 8192 → Reads r ls (reading.read ls)) ⌝ }
+{
+    if 8192 < kinds.len() {
+        return Pos::Stuck(0);
+    }
+    read_monitor(kinds, Pos::Next(0), 4 * (kinds.len() + 1))
+}

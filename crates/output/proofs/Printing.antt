@@ -1,0 +1,181 @@
+-- From what the library's calls promise to what the programs print.
+use Prim.Native.Nat.{ℕ, _+_, _*_, _<_, _≤_}
+use native.Mathlib.Omega.{arith}
+use native.Mathlib.Nat.{zero-add}
+use mathlib.Core.Path.{_≡_, refl, sym, ap, _∙_, subst}
+use mathlib.Core.Bool.{Bool, true, false, _&&_}
+use mathlib.Core.Logic.{⊎-elim}
+use mathlib.Core.List.{List, _++_}
+use lib.ListN.{length, take, drop, length-append}
+use lib.Seq.{length-take-le, take-all, take-take}
+use lib.Dec.{ltb}
+use borrow.Author.Tests.{ltb-true, lt-ltb}
+use Rattle.meaning.specs.Answer.{Answer, answer, Verdict, accepted, refused}
+use Rattle.meaning.specs.Decide.Check.{check}
+use Rattle.meaning.specs.Model.{model}
+use Rattle.logic.proofs.Bools.{both, and, clash}
+use Rattle.meaning.proofs.Verdicts.{refusal-number, accepted-iff, refused-iff}
+use Rattle.meaning.proofs.Sizes.{sizes}
+use Rattle.meaning.specs.Calls.{Machine, plain-machine, table-machine, ran, not-run}
+use Rattle.meaning.specs.Decide.Calls.{place, running}
+use Rattle.meaning.specs.Calls as calls
+use Rattle.demands.specs.Demand1.{PlacesAs, file-refused, too-short, placed}
+use Rattle.demands.proofs.Demand1.{place-iff, accepted-writes-table, running-iff}
+use Rattle.demands.specs.Demand3.{runAnswer}
+use Rattle.meaning.specs.Lines.{refusalLine, recordLine, runLine, machineLine, placer, runner}
+use Rattle.demands.specs.Widths.{AnswerFits, RunFits}
+use Rattle.demands.proofs.Widths.{refusal-fits, running-fits, trace-number, line-short, table-short}
+use Rattle.answers.specs.Says.{Says}
+use Rattle.answers.specs.declared.Answer as code
+use Rattle.run.specs.Results.{Runs}
+use Rattle.run.specs.declared.Running.{Running}
+use Rattle.monitor.specs.Results.{Places, startOf}
+use Rattle.monitor.specs.declared.Placing.{Placing}
+use Rattle.lines.specs.Written.{Writes, Fits}
+use Rattle.lines.proofs.Writing.{written-length, written-more}
+use Rattle.output.specs.Printed.{Prints}
+
+-- ---- lines at byte 0
+
+pub prints : {lines before after : List ℕ} {n : ℕ} → after ≡ lines ++ drop (length lines) before → n ≡ length lines
+    → Prints lines before n after
+prints {lines} {before} {after} {n} e c =
+    let whole = ap length e ∙ length-append lines (drop (length lines) before) in
+    let within : n ≤ length after = omega arith in
+    record { bytes = e; count = c; within = within; part = sym (length-take-le n after within) }
+
+pub written-prints : {lines before after : List ℕ} {n : ℕ} → Writes lines before 0 n after → Prints lines before n after
+written-prints {lines} w = prints (rw zero-add at (w .bytes)) (w .behind ∙ zero-add (length lines))
+
+-- ---- an answer
+
+answer-is : {r : code.Answer} {a : Answer} → Says r a → answer (r .number) (r .first) (r .second) ≡ a
+answer-is s = λ i. record { number = s .number i; first = s .first i; second = s .second i }
+
+-- what writing an answer's line says, of a refusal whose places fit
+module _ (r : code.Answer) {before after : List ℕ} {at n : ℕ}
+    (put : at + 11 ≤ length before → r .first < 65536 → r .second < 65536
+    → Writes (refusalLine (answer (r .number) (r .first) (r .second))) before at n after) where
+  pub answer-written : {a : Answer} → Says r a → AnswerFits a → at + 11 ≤ length before → Writes (refusalLine a) before at n after
+  answer-written s f room =
+      subst (λ x. Writes (refusalLine x) before at n after) (answer-is s)
+      (put room (omega (arith, s .first, f .first)) (omega (arith, s .second, f .second)))
+
+-- ---- the table
+
+module _ (file buffer : List ℕ) {r : Placing} {after : List ℕ} (p : Places (place file buffer) r after) where
+  pub table-printed : r .answer .number ≡ 0 → Prints (placer file) buffer (r .length) after
+  unfolding placer
+  table-printed z =
+      let x = accepted-writes-table file buffer (sym (p .answer .number) ∙ z) in
+      rw (accepted-iff file (x .0) .1 (x .1), placer) (prints (p .bytes ∙ x .3) (p .length ∙ x .2))
+
+  -- a number other than 0 is a refusal of the file, since the table fits
+  pub refusal-printed : {n : ℕ} {last : List ℕ} → 4096 ≤ length buffer → (r .answer .number ≡ 0 → ⊥)
+      → (0 + 11 ≤ length after → r .answer .first < 65536 → r .answer .second < 65536
+      → Writes (refusalLine (answer (r .answer .number) (r .answer .first) (r .answer .second))) after 0 n last)
+      → Prints (placer file) buffer n last
+  unfolding placer model
+  refusal-printed {n} {last} room other put = go (place-iff file buffer _ .0 refl) p
+    where
+      go : {q : calls.Placing} → PlacesAs file buffer q → Places q r after → Prints (placer file) buffer n last
+      go (file-refused {a} f) q =
+          let w = answer-written (r .answer) put (q .answer) (refusal-fits f) (rw (q .bytes) (omega arith)) in
+          rw (refused-iff file a .1 f, placer) (written-prints (rw (q .bytes) at w))
+      go (too-short {m} a h) q =
+          let n = sizes a in
+          let short = table-short (model m) (n .regions) (n .guards) in
+          absurd (omega arith)
+      go (placed a h) q = absurd (other (q .answer .number))
+
+-- ---- a machine's line
+
+module _ (r : Running) {before after : List ℕ} {at n : ℕ} (room : at + 47 ≤ length before) where
+  pub refusal-written : (r .answer .number ≡ 0 → ⊥)
+      → (at + 11 ≤ length before → r .answer .first < 65536 → r .answer .second < 65536
+      → Writes (refusalLine (answer (r .answer .number) (r .answer .first) (r .answer .second))) before at n after)
+      → (x : calls.Running) → Runs x r → RunFits x → Writes (runLine x) before at n after
+  unfolding Runs RunFits runLine
+  refusal-written other put (ran rec) s f = absurd (other (s .0 .number))
+  refusal-written other put (not-run a) s f = answer-written (r .answer) put (s .0) f (omega arith)
+
+  pub record-written : r .answer .number ≡ 0
+      → ((rec : calls.Record) → Fits rec (r .record .vars) (r .record .values) (r .record .threads)
+      → at + 35 + 2 * r .record .vars ≤ length before → Writes (recordLine rec) before at n after)
+      → (x : calls.Running) → Runs x r → RunFits x → Writes (runLine x) before at n after
+  unfolding Runs RunFits runLine
+  record-written z put (ran rec) s f =
+      let held = s .1 in
+      put rec (record { counted = held .vars; held = held .values; places = held .places; digits = f }) (omega (arith, held .vars, f .few))
+  record-written z put (not-run a) s f = absurd (omega (arith, s .0 .number, f .refuses))
+
+-- ---- the runs
+
+number-is : (x : calls.Running) (r : Running) → Runs x r → r .answer .number ≡ runAnswer x .number
+unfolding Runs runAnswer
+number-is (ran rec) r s = s .0 .number
+number-is (not-run a) r s = s .0 .number
+
+-- a trace is judged by its first 65,536 bytes
+pub runner-cut : (file trace : List ℕ) → runner file (take 65536 trace) ≡ runner file trace
+unfolding runner
+runner-cut file trace = go (check file) refl
+  where
+    go : (v : Verdict) → check file ≡ v → runner file (take 65536 trace) ≡ runner file trace
+    go (accepted m) e = rw (e, runner, take-take 65536 65536 trace (omega arith))
+    go (refused a) e = rw (e, runner)
+
+module _ (file trace : List ℕ) (short : length trace ≤ 65536) where
+  abbrev pub end : Machine → calls.Running
+  end w = running file trace (startOf (check file)) w
+
+  pub end-fits : (w : Machine) → RunFits (end w)
+  end-fits w = running-fits (running-iff file trace (startOf (check file)) w (end w) .0 refl) short
+
+  module _ (r : Running) (runs : Runs (end plain-machine) r) where
+    abbrev of-file : Bool
+    of-file = ltb 0 (r .answer .number) && ltb (r .answer .number) 10
+
+    -- the number of a file's refusal: one line
+    one-line : of-file ≡ true → runLine (end plain-machine) ≡ runner file trace
+    unfolding running runLine runner runAnswer
+    one-line h = go (check file) refl
+      where
+        go : (v : Verdict) → check file ≡ v → runLine (end plain-machine) ≡ runner file trace
+        go (refused a) e = rw (e, running, runner)
+        go (accepted m) e =
+            let b = both (ltb 0 (r .answer .number)) (ltb (r .answer .number) 10) h in
+            let low = ltb-true 0 (r .answer .number) (b .0) in
+            let high = ltb-true (r .answer .number) 10 (b .1) in
+            let n = number-is (end plain-machine) r runs in
+            ⊎-elim (λ x. absurd (omega arith)) (λ x. absurd (omega arith))
+            (trace-number (accepted-iff file m .0 e) (running-iff file trace (startOf (check file)) plain-machine (end plain-machine) .0 refl))
+
+    -- any other: a line for each machine
+    two-lines : of-file ≡ false → runLine (end plain-machine) ++ runLine (end table-machine) ≡ runner file trace
+    unfolding running runLine machineLine runner runAnswer startOf
+    two-lines h = go (check file) refl
+      where
+        go : (v : Verdict) → check file ≡ v → runLine (end plain-machine) ++ runLine (end table-machine) ≡ runner file trace
+        go (accepted m) e = rw (e, running, runner, take-all 65536 trace short, e)
+        go (refused a) e =
+            let s = number-is (end plain-machine) r runs in
+            let n = refusal-number (refused-iff file a .0 e) in
+            let same : r .answer .number ≡ a .number = s ∙ rw (e, running) in
+            clash (and (lt-ltb 0 (r .answer .number) (omega arith)) (lt-ltb (r .answer .number) 10 (omega arith))) h
+
+    module _ {before mid : List ℕ} {next : ℕ} (one : Writes (runLine (end plain-machine)) before 0 next mid) where
+      pub one-printed : of-file ≡ true → Prints (runner file trace) before next mid
+      one-printed h = rw (← one-line h) (written-prints one)
+
+      pub next-room : 4096 ≤ length before → next + 47 ≤ length mid
+      next-room room =
+          let line = line-short (end plain-machine) (end-fits plain-machine) in
+          let same = written-length one (omega arith) in
+          omega (arith, one .behind)
+
+      pub two-printed : {after : List ℕ} {n : ℕ} → of-file ≡ false → 4096 ≤ length before
+          → Writes (runLine (end table-machine)) mid next n after → Prints (runner file trace) before n after
+      two-printed h room two =
+          let line = line-short (end plain-machine) (end-fits plain-machine) in
+          rw (← two-lines h) (written-prints (written-more one (omega arith) two))

@@ -1,0 +1,2 @@
+pub mod FrameByFrame
+pub mod Records

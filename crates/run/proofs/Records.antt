@@ -1,0 +1,188 @@
+-- From the code's record of a run to the meaning's, and from the tests at its start and the end of the code's run to what it gives.
+use Prim.Native.Nat.{ℕ, zero, suc, _+_, _/_, _%_, _^_, _<_, _≤_}
+use native.Mathlib.Omega.{arith}
+use native.Mathlib.Nat.{pow-suc}
+use mathlib.Core.Path.{_≡_, refl, sym, ap, _∙_, subst}
+use mathlib.Core.Bool.{Bool, true, false}
+use mathlib.Core.List.{List, _∷_, map}
+use lib.ListN.{length, getD, length-map, List·getD-map}
+use lib.Seq.{ext-getD}
+use lib.Arith.{lt-one}
+use lib.Dec.{eqb}
+use lib.Count as count
+use borrow.Author.Tests.{eqb-true, eqb-false}
+use Rattle.sets.specs.Set.{member, size}
+use Rattle.sets.proofs.SetLaws.{member-zero, member-suc, size-ones}
+use Rattle.syntax.specs.Tree.{Monitor}
+use Rattle.machine.specs.Monitor.{Config, Run, accepted, stopped, allIdle, threads}
+use Rattle.machine.specs.Decide.Step.{Told, run}
+use Rattle.machine.specs.Monitor as machine
+use Rattle.machine.specs.Agreement.{Checked}
+use Rattle.machine.specs.Held.{Held}
+use Rattle.logic.specs.Tests.{bit}
+use Rattle.logic.proofs.Bools.{split}
+use Rattle.meaning.specs.Answer.{answer}
+use Rattle.meaning.specs.Held.{Biased}
+use Rattle.meaning.specs.State.{stateAt}
+use Rattle.meaning.specs.State as state
+use Rattle.meaning.specs.Decide.Frames.{framesOf, frames, none-at}
+use Rattle.meaning.specs.Model.{vars, kept, model}
+use Rattle.meaning.proofs.ModelLaws.{kept-below}
+use Rattle.meaning.specs.Calls.{Machine, eachThread, bits, ones, not-run, recordOf}
+use Rattle.meaning.specs.Decide.Calls.{toldBy, runningOf, runList, runFrames, runFrom}
+use Rattle.stepper.specs.declared.Thread.{Thread}
+use Rattle.stepper.specs.declared.Run as code
+use Rattle.stepper.specs.Shown.{Shows, placeOf, idleThread, toldOn}
+use Rattle.demands.proofs.Demand2.{run-reached, run-stops}
+use Rattle.demands.proofs.Widths.{each-length}
+use Rattle.run.specs.Ended.{EndsAs}
+use Rattle.run.specs.declared.frames.Ended.{Ended}
+use Rattle.run.specs.Results.{Runs, Records, machineOf}
+use Rattle.run.specs.declared.Running.{Running}
+
+-- ---- the record of a point
+
+each-at : {A : Type 0} (n t : ℕ) (f : ℕ → A) (d : A) (u : ℕ) → u < n → getD (eachThread n t f) u d ≡ f (t + u)
+unfolding eachThread
+each-at zero t f d u h = absurd (omega arith)
+each-at (suc n) t f d zero h = ap f (omega arith)
+each-at (suc n) t f d (suc u) h = each-at n (t + 1) f d u (omega arith) ∙ ap f (omega arith)
+
+-- sixteen threads that show the places are the list of the places
+pub places-shown : (ts : List Thread) (c : Config) → length ts ≡ 16
+    → ((t : ℕ) → t < 16 → placeOf (getD ts t idleThread .place) ≡ c .place t)
+    → map (λ (t : Thread). placeOf (t .place)) ts ≡ eachThread threads 0 (c .place)
+unfolding threads
+places-shown ts c l h =
+    let f : Thread → machine.Place = λ t. placeOf (t .place) in
+    let n = length-map ts f in
+    ext-getD (f idleThread) (map f ts) (eachThread 16 0 (c .place)) (n ∙ l ∙ sym (each-length 16 0 (c .place)))
+    (λ i b.
+    let low : i < 16 = omega arith in
+    List·getD-map f ts i idleThread ∙ h i low ∙ ap (c .place) (omega arith) ∙ sym (each-at 16 0 (c .place) (f idleThread) i low))
+
+-- a number below 2 ^ n whose members are given thread by thread is the bits of the list, and has as many ones
+pub set-shown : (n t s : ℕ) (f : ℕ → Bool) → s < 2 ^ n → ((u : ℕ) → u < n → member s u ≡ f (t + u))
+    → (s ≡ bits (eachThread n t f)) × (count.ones s ≡ ones (eachThread n t f))
+unfolding eachThread bits ones count.ones
+set-shown zero t s f h e = let z : s ≡ 0 = lt-one h in (z, ap count.ones z)
+set-shown (suc n) t s f h e =
+    let p = pow-suc 2 n in
+    let rest = set-shown n (t + 1) (s / 2) f (omega arith)
+    (λ u l. sym (member-suc s u) ∙ e (suc u) (omega arith) ∙ ap f (omega arith)) in
+    go (f t) (sym (member-zero s) ∙ e 0 (omega arith) ∙ ap f (omega arith)) (rest .0) (rest .1)
+  where
+    go : (b : Bool) → eqb (s % 2) 1 ≡ b → s / 2 ≡ bits (eachThread n (t + 1) f) → count.ones (s / 2) ≡ ones (eachThread n (t + 1) f)
+        → (s ≡ bits (b ∷ eachThread n (t + 1) f)) × (count.ones s ≡ ones (b ∷ eachThread n (t + 1) f))
+    go true d x y =
+        let o = eqb-true (s % 2) 1 d in
+        let q = count.ones-step s in
+        (omega arith, omega arith)
+    go false d x y =
+        let o = eqb-false (s % 2) 1 d in
+        let q = count.ones-step s in
+        (omega arith, omega arith)
+
+-- the record of a run that shows a point, with the values of its state
+pub recorded : (m : Monitor) (c : Config) (end : code.Run) (vs : List ℕ) (vars-held many : ℕ) → Shows end c → length (end .threads) ≡ 16
+    → end .notified < 2 ^ 16 → vars-held ≡ length (vars m) → Biased (vars m) (stateAt (vars m) (end .state)) vs
+    → many ≡ size (end .notified) 16
+    → Records (recordOf m c) (record { vars = vars-held; values = vs; threads = end .threads; notified = end .notified; «how_many» = many })
+unfolding recordOf threads
+recorded m c end vs vars-held many s l small counted values sized =
+    let v = subst (λ (n : ℕ). Biased (vars m) (stateAt (vars m) n) vs) (s .state) values in
+    let n = v .each-value in
+    let set = set-shown 16 0 (end .notified) (c .notified) small (λ u h. s .notices u h ∙ ap (c .notified) (omega arith)) in
+    record {
+      vars = counted ∙ sym n;
+      values = λ k h. v .held k (omega arith);
+      unused = λ k h b. v .unused k h (omega arith);
+      places = places-shown (end .threads) c l (s .places);
+      notified = set .0;
+      how-many = sized ∙ size-ones 16 (end .notified) small ∙ set .1;
+    }
+
+-- ---- the start of a run
+
+told-same : (m : machine.Monitor) (table : Bool) → toldBy m (machineOf table) ≡ toldOn m table
+unfolding toldBy machineOf toldOn
+told-same m true = refl
+told-same m false = refl
+
+pub past-states : (m : Monitor) (s : ℕ) → state.count (vars m) ≤ s → kept m s ≡ false
+past-states m s h = split (kept m s) (λ t. let b = kept-below m s t in absurd (omega arith)) (λ f. f)
+
+-- what the slice of kept states says at a state of the file
+pub kept-by : (m : Monitor) (ks holds after guardOf : List ℕ) → Held (model m) ks holds after guardOf
+    → (s : ℕ) → s < state.count (vars m) → getD ks s 0 ≡ bit (kept m s)
+unfolding model
+kept-by m ks holds after guardOf h s l = h .by-kept s l
+
+pub kept-one : (b : Bool) (n : ℕ) → n ≡ bit b → n ≡ 1 → b ≡ true
+unfolding bit
+kept-one true n e o = refl
+kept-one false n e o = absurd (omega arith)
+
+pub kept-other : (b : Bool) (n : ℕ) → n ≡ bit b → (n ≡ 1 → ⊥) → b ≡ false
+unfolding bit
+kept-other true n e o = absurd (o e)
+kept-other false n e o = refl
+
+from-other : (m : Monitor) (w : Machine) (s : ℕ) (bytes : List ℕ) → kept m s ≡ false → runFrom m w s bytes ≡ not-run (answer 11 0 0)
+unfolding runFrom
+from-other m w s bytes k = rw (runFrom, k)
+
+from-kept : (m : Monitor) (w : Machine) (s : ℕ) (bytes : List ℕ) → kept m s ≡ true
+    → runFrom m w s bytes ≡ runFrames m w s (framesOf bytes)
+unfolding runFrom
+from-kept m w s bytes k = rw (runFrom, k)
+
+module _ (m : Monitor) (table : Bool) (s : ℕ) (bytes : List ℕ) (r : Running) where
+  abbrev pub Ran : Type 0
+  Ran = Runs (runFrom m (machineOf table) s bytes) r
+
+  pub not-started : kept m s ≡ false → Runs (not-run (answer 11 0 0)) r → Ran
+  not-started k h = subst (λ x. Runs x r) (sym (from-other m (machineOf table) s bytes k)) h
+
+  pub not-framed : (j : ℕ) → kept m s ≡ true → framesOf bytes ≡ none-at j → Runs (not-run (answer 12 j 0)) r → Ran
+  unfolding runFrames
+  not-framed j k e h =
+      subst (λ x. Runs x r) (sym (from-kept m (machineOf table) s bytes k ∙ ap (runFrames m (machineOf table) s) e)) h
+
+  module _ (fs : List machine.Frame) (k : kept m s ≡ true) (read : framesOf bytes ≡ frames fs) where
+    abbrev pub end : Run
+    end = run (model m) (toldOn (model m) table) 0 (allIdle s) fs
+
+    list-ends : runList m (machineOf table) s fs ≡ end
+    unfolding runList
+    list-ends = ap (λ (t : Told). run (model m) t 0 (allIdle s) fs) (told-same (model m) table)
+
+    by-end : Runs (runningOf m end) r → Ran
+    unfolding runFrames
+    by-end h =
+        subst (λ x. Runs x r)
+        (sym (from-kept m (machineOf table) s bytes k ∙ ap (runFrames m (machineOf table) s) read ∙ ap (runningOf m) list-ends)) h
+
+    module _ (e : Ended) (ends : EndsAs e end) where
+      -- a refusal
+      pub ran-refused : (e .number ≡ 0 → ⊥) → Runs (not-run (answer (e .number) (e .frame) 0)) r → Ran
+      unfolding EndsAs runningOf
+      ran-refused other h = by-end (go end ends)
+        where
+          go : (x : Run) → EndsAs e x → Runs (runningOf m x) r
+          go (accepted c) p = absurd (other (p .0))
+          go (stopped a j) p = subst (λ (n : ℕ). Runs (not-run (answer n j 0)) r) (p .0)
+              (subst (λ (i : ℕ). Runs (not-run (answer (e .number) i 0)) r) (p .1) h)
+
+      -- an end
+      pub ran-accepted : Checked (model m) → e .number ≡ 0
+          → ((c : Config) → Shows (e .run) c → c .state < state.count (vars m) → Runs (runningOf m (accepted c)) r) → Ran
+      unfolding EndsAs model
+      ran-accepted ok zero-number h = by-end (go end refl ends)
+        where
+          go : (x : Run) → end ≡ x → EndsAs e x → Runs (runningOf m x) r
+          go (accepted c) q p = h c (p .1) (kept-below m (c .state) (run-reached m ok s k fs (machineOf table) c (list-ends ∙ q) .is-kept))
+          go (stopped a j) q p =
+              let w = run-stops m (machineOf table) s fs a j (list-ends ∙ q) in
+              let same = p .0 in
+              absurd (omega arith)

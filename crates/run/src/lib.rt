@@ -1,0 +1,140 @@
+// Runs a trace over an accepted file's slices, from a start state, on either machine: 11 to 14, or the record of the run.
+mod frames;
+
+use answers::Answer;
+use layout::Layout;
+use stepper::Place;
+use stepper::Run;
+use stepper::Thread;
+use trace::Counted;
+use variables::Bounds;
+ghost use mathlib.Core.Path.{_≡_};
+ghost use mathlib.Core.Bool.{true};
+ghost use Prim.Native.Nat.{_<_};
+ghost use lib.ListN.{length};
+ghost use Rattle.syntax.specs.Tree.{Monitor};
+ghost use Rattle.machine.specs.Monitor.{Config};
+ghost use Rattle.machine.specs.Agreement.{Checked};
+ghost use Rattle.machine.specs.Held.{Held, HeldPlaces, HeldEntries};
+ghost use Rattle.meaning.specs.Model.{vars, regions, model};
+ghost use Rattle.meaning.specs.Answer.{answer};
+ghost use Rattle.meaning.specs.State.{count};
+ghost use Rattle.meaning.specs.Calls as calls;
+ghost use Rattle.meaning.specs.Decide.Calls as decided;
+ghost use Rattle.stepper.specs.Shown.{Shows};
+ghost use Rattle.variables.specs.Bounded.{Bounded};
+ghost use Rattle.run.specs.Results.{Runs, Records, NoRecord, machineOf};
+
+// The record of a run: how many variables there are and each value with 128 added, the place of each of sixteen threads, the
+// notified set and how many are in it.
+pub struct Record {
+    pub vars: usize,
+    pub values: [u16; 6],
+    pub threads: [Thread; 16],
+    pub notified: u16,
+    pub how_many: u32,
+}
+
+// What a run answers, and its record where the trace is accepted.
+pub struct Running {
+    pub answer: Answer,
+    pub record: Record,
+}
+
+pub fn no_record() -> Record
+    ensures { λ r. ⌜ NoRecord r ⌝ }
+{
+    Record {
+        vars: 0,
+        values: [128u16; 6],
+        threads: [Thread { place: Place::Idle }; 16],
+        notified: 0,
+        how_many: 0,
+    }
+}
+
+// A refusal, with no record.
+fn not_run(number: u8, first: usize, second: usize) -> Running
+    ensures { λ r. ⌜ Runs (calls.not-run (answer number first second)) r ⌝ }
+{
+    Running {
+        answer: answers::say(number, first, second),
+        record: no_record(),
+    }
+}
+
+// 11: a start that is no kept state.
+fn no_start() -> Running
+    ensures { λ r. ⌜ Runs (calls.not-run (answer 11 0 0)) r ⌝ }
+{
+    not_run(11, 0, 0)
+}
+
+// The record of a run's end.
+fn record_of(bounds: Bounds, run: Run) -> Record
+    ensures { λ r. ⌜ ((m : Monitor) (c : Config) → Bounded (vars m) bounds → Shows run c → c .state < count (vars m)
+        → Records (calls.recordOf m c) r) ⌝ }
+{
+    let notified = run.notified;
+    let threads = run.threads;
+    Record {
+        vars: bounds.count,
+        values: variables::values_of(bounds, run.state as usize),
+        threads: threads,
+        notified: notified,
+        how_many: sets::count(notified),
+    }
+}
+
+// 11 to 14: a run of a trace over an accepted file's slices.
+pub fn run_from(
+    bounds: Bounds,
+    layout: Layout,
+    bytes: &[u8],
+    start: usize,
+    table: bool,
+    kept: &[u8; 4096],
+    holds: &[u16; 4096],
+    after: &[u16; 65536],
+    entries: &[u8; 256],
+) -> Running
+    ensures { λ r. ⌜ ((m : Monitor) → Bounded (vars m) bounds → layout .regions ≡ length (regions m)
+        → Held (model m) (now (kept .entry)) (now (holds .entry)) (now (after .entry)) (layout .«guard_of»)
+        → HeldPlaces (model m) (layout .begins) (layout .«goes_on»)
+        → (table ≡ true → HeldEntries (model m) (now (entries .entry)))
+        → Checked (model m) → Runs (decided.runFrom m (machineOf table) start (now (bytes .entry))) r) ⌝ }
+{
+    if bounds.states <= start || 4096 <= start {
+        return no_start();
+    }
+    if kept[start] != 1 {
+        return no_start();
+    }
+    if let Counted::BadAt(k) = trace::count(bytes) {
+        return not_run(12, k, 0);
+    }
+    let guard_of = layout.guard_of;
+    let begins = layout.begins;
+    let goes_on = layout.goes_on;
+    let ended = frames::run_trace(
+        bytes,
+        start as u16,
+        table,
+        holds,
+        after,
+        &guard_of,
+        &begins,
+        &goes_on,
+        entries,
+        layout.regions,
+    );
+    let number = ended.number;
+    if number != 0 {
+        return not_run(number, ended.frame, 0);
+    }
+    let last = ended.run;
+    Running {
+        answer: answers::say(0, 0, 0),
+        record: record_of(bounds, last),
+    }
+}

@@ -1,2 +1,0 @@
--- The laws that the proof cites.
-pub mod Laws

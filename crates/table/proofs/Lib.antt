@@ -1,0 +1,3 @@
+pub mod Lines
+pub mod Sweeps
+pub mod Monitors

@@ -1,0 +1,306 @@
+// Places a table: the entries of a monitor that is held in slices, and their lines in a lent buffer.
+ghost use mathlib.Core.Path.{_≡_};
+ghost use Prim.Native.Nat.{ℕ, _+_, _*_, _%_, _<_, _≤_};
+ghost use lib.ListN.{length, getD};
+ghost use Rattle.machine.specs.Monitor.{Monitor};
+ghost use Rattle.machine.specs.Held.{Held, codeOf, HeldEntries};
+ghost use Rattle.meaning.specs.Decide.Table.{tableOf, entryLine};
+ghost use Rattle.meaning.specs.Hex.{hexDigit};
+ghost use Rattle.table.specs.Written.{Writes};
+ghost use Rattle.table.specs.Slices.{Swept, made, sweptCode, codeAt, entryBy, lineAt, linesAt, tableAt, over};
+
+// The table's length, or that the buffer is shorter than the table (10).
+pub enum Placed {
+    Length(usize),
+    Short,
+}
+
+// A guard's number; in slices that hold a monitor the remainder is the number itself.
+fn guard(x: u8) -> u32
+    ensures { λ n. ⌜ n ≡ x % 16 ⌝ }
+{
+    x as u32 % 16
+}
+
+// A state's number; in slices that hold a monitor the remainder is the number itself.
+fn state(x: u16) -> usize
+    ensures { λ n. ⌜ n ≡ x % 4096 ⌝ }
+{
+    x as usize % 4096
+}
+
+// What a region's body does to guards over the states it may run from, as sets: those that it makes true from some state, those that
+// hold before or after it from every state, and those that hold after it from some state.
+struct Sweep {
+    raised: u16,
+    covered: u16,
+    left: u16,
+}
+
+// A sweep of the states before s, and s.
+fn visit(
+    kept: &[u8; 4096],
+    holds: &[u16; 4096],
+    after: &[u16; 65536],
+    guard: u32,
+    r: usize,
+    s: usize,
+    w: Sweep,
+) -> Sweep
+    requires { ⌜ (guard < 16) × (r < 16) × (s < 4096) × Swept (now kept) (now holds) (now after) s guard r w ⌝ }
+    ensures { λ n. ⌜ Swept (now (kept .entry)) (now (holds .entry)) (now (after .entry)) (s + 1) guard r n ⌝ }
+{
+    if kept[s] != 1 {
+        return w;
+    }
+    let here = holds[s];
+    if !sets::has(here, guard) {
+        return w;
+    }
+    let t = state(after[r * 4096 + s]);
+    let there = holds[t];
+    let either = here | there;
+    Sweep {
+        raised: either ^ here | w.raised,
+        covered: either & w.covered,
+        left: there | w.left,
+    }
+}
+
+// The sweep of all states.
+fn sweep_region(
+    kept: &[u8; 4096],
+    holds: &[u16; 4096],
+    after: &[u16; 65536],
+    states: usize,
+    guard: u32,
+    r: usize,
+) -> Sweep
+    requires { ⌜ (states ≤ 4096) × (guard < 16) × (r < 16) ⌝ }
+    ensures { λ n. ⌜ Swept (now (kept .entry)) (now (holds .entry)) (now (after .entry)) states guard r n ⌝ }
+{
+    let mut w = Sweep {
+        raised: 0,
+        covered: 65535,
+        left: 0,
+    };
+    let mut s = 0;
+    while s < states {
+        w = visit(kept, holds, after, guard, r, s, w);
+        s += 1;
+    }
+    w
+}
+
+// An entry as a number: 0 for none, else 1, and 2 more where it is unconditional, and 4 more where it is a broadcast.
+fn code(stands: bool, always: bool, wide: bool) -> u8
+    ensures { λ n. ⌜ n ≡ codeOf (made stands always wide) ⌝ }
+{
+    if stands {
+        if always {
+            if wide { 7 } else { 3 }
+        } else {
+            if wide { 5 } else { 1 }
+        }
+    } else {
+        0
+    }
+}
+
+// The entries of a region, at region * 16 + guard, by its sweep and the set of guards whose entries are broadcasts.
+fn fill_region(w: Sweep, wide: u16, guards: usize, r: usize, entries: &mut [u8])
+    requires { ⌜ (guards ≤ 16) × (r < 16) × (length (now entries) ≡ 256) ⌝ }
+    ensures { λ _. ⌜ ((g : ℕ) → g < guards → getD (now (entries .exit)) (r * 16 + g) 0 ≡ sweptCode w wide g) ⌝ }
+    ensures { λ _. ⌜ ((k : ℕ) → k < r * 16 → getD (now (entries .exit)) k 0 ≡ getD (now (entries .entry)) k 0) ⌝ }
+{
+    let mut g = 0;
+    while g < guards {
+        let t = g as u32;
+        entries[r * 16 + g] = code(
+            sets::has(w.raised, t),
+            sets::has(w.covered, t),
+            sets::has(wide, t),
+        );
+        g += 1;
+    }
+}
+
+// The entries of all regions. A guard's are broadcasts where some region that has it leaves it true.
+fn fill_regions(
+    kept: &[u8; 4096],
+    holds: &[u16; 4096],
+    after: &[u16; 65536],
+    guard_of: &[u8; 16],
+    states: usize,
+    regions: usize,
+    guards: usize,
+    entries: &mut [u8],
+)
+    requires { ⌜ (states ≤ 4096) × (regions ≤ 16) × (guards ≤ 16) × (length (now entries) ≡ 256) ⌝ }
+    ensures { λ _. ⌜ ((r : ℕ) → r < regions → (g : ℕ) → g < guards → getD (now (entries .exit)) (r * 16 + g) 0
+        ≡ codeAt (now (kept .entry)) (now (holds .entry)) (now (after .entry)) (now («guard_of» .entry)) states regions r g) ⌝ }
+{
+    let mut sweeps = [Sweep {
+        raised: 0,
+        covered: 0,
+        left: 0,
+    }; 16];
+    let mut wide = 0;
+    let mut r = 0;
+    while r < regions {
+        let own = guard(guard_of[r]);
+        let w = sweep_region(kept, holds, after, states, own, r);
+        sweeps[r] = w;
+        wide = 1 << own & w.left | wide;
+        r += 1;
+    }
+    r = 0;
+    while r < regions {
+        let w = sweeps[r];
+        fill_region(w, wide, guards, r, entries);
+        r += 1;
+    }
+}
+
+// The entries of all regions and guards of a monitor that the slices hold, at region * 16 + guard.
+pub fn fill_entries(
+    kept: &[u8; 4096],
+    holds: &[u16; 4096],
+    after: &[u16; 65536],
+    guard_of: &[u8; 16],
+    states: usize,
+    regions: usize,
+    guards: usize,
+    entries: &mut [u8; 256],
+)
+    ensures { λ _. ⌜ ((m : Monitor) → m .states ≡ states → m .regions ≡ regions → m .guards ≡ guards
+        → Held m (now (kept .entry)) (now (holds .entry)) (now (after .entry)) (now («guard_of» .entry))
+        → HeldEntries m (now (entries .exit))) ⌝ }
+{
+    if states > 4096 {
+        return;
+    }
+    if regions > 16 {
+        return;
+    }
+    if guards > 16 {
+        return;
+    }
+    fill_regions(
+        kept,
+        holds,
+        after,
+        guard_of,
+        states,
+        regions,
+        guards,
+        entries,
+    );
+}
+
+// How many of a region's entries stand: a line of nine bytes each.
+fn count_region(entries: &[u8; 256], guards: usize, r: usize) -> usize
+    requires { ⌜ (guards ≤ 16) × (r < 16) ⌝ }
+    ensures { λ n. ⌜ (n * 9 ≡ length (linesAt (now (entries .entry)) guards r)) × (n ≤ guards) ⌝ }
+{
+    let mut n = 0;
+    let mut g = 0;
+    while g < guards {
+        if entries[r * 16 + g] != 0 {
+            n += 1;
+        }
+        g += 1;
+    }
+    n
+}
+
+// How many entries stand.
+fn count(entries: &[u8; 256], regions: usize, guards: usize) -> usize
+    requires { ⌜ (regions ≤ 16) × (guards ≤ 16) ⌝ }
+    ensures { λ n. ⌜ (n * 9 ≡ length (tableAt (now (entries .entry)) regions guards)) × (n ≤ 256) ⌝ }
+{
+    let mut n = 0;
+    let mut r = 0;
+    while r < regions {
+        n += count_region(entries, guards, r);
+        r += 1;
+    }
+    n
+}
+
+// One of the digits 0-9 and A-F.
+fn hex_digit(n: u8) -> u8
+    requires { ⌜ n < 16 ⌝ }
+    ensures { λ d. ⌜ d ≡ hexDigit n ⌝ }
+{
+    if n < 10 { n + 48 } else { n + 55 }
+}
+
+// A line of the table at a place of the buffer.
+fn write_line(table: &mut [u8], at: usize, r: usize, g: usize, code: u8)
+    requires { ⌜ (at + 9 ≤ length (now table)) × (r < 16) × (g < 16) × (0 < code) ⌝ }
+    ensures { λ _. ⌜ now (table .exit) ≡ over (now (table .entry)) at (entryLine r g (entryBy code)) ⌝ }
+{
+    table[at] = 48;
+    table[at + 1] = hex_digit(r as u8);
+    table[at + 2] = 48;
+    table[at + 3] = hex_digit(g as u8);
+    table[at + 4] = 48;
+    table[at + 5] = 48 + code / 2 % 2;
+    table[at + 6] = 48;
+    table[at + 7] = 48 + code / 4 % 2;
+    table[at + 8] = 10;
+}
+
+// The line of a region and a guard, where their entry stands, at a place of the buffer; the place behind it.
+fn write_entry(entries: &[u8; 256], r: usize, g: usize, table: &mut [u8], at: usize) -> usize
+    requires { ⌜ (at + length (lineAt (now entries) r g) ≤ length (now table)) × (r < 16) × (g < 16) ⌝ }
+    ensures { λ e. ⌜ (e ≡ at + length (lineAt (now (entries .entry)) r g))
+        × (now (table .exit) ≡ over (now (table .entry)) at (lineAt (now (entries .entry)) r g)) ⌝ }
+{
+    let code = entries[r * 16 + g];
+    if code == 0 {
+        return at;
+    }
+    write_line(table, at, r, g, code);
+    at + 9
+}
+
+// The lines of a region from a place of the buffer on; the place behind them.
+fn write_region(entries: &[u8; 256], guards: usize, r: usize, table: &mut [u8], at: usize) -> usize
+    requires { ⌜ (at + length (linesAt (now entries) guards r) ≤ length (now table)) × (guards ≤ 16) × (r < 16) ⌝ }
+    ensures { λ e. ⌜ (e ≡ at + length (linesAt (now (entries .entry)) guards r))
+        × (now (table .exit) ≡ over (now (table .entry)) at (linesAt (now (entries .entry)) guards r)) ⌝ }
+{
+    let mut next = at;
+    let mut g = 0;
+    while g < guards {
+        next = write_entry(entries, r, g, table, next);
+        g += 1;
+    }
+    next
+}
+
+// The lines of the entries, by region and then guard. A buffer that is too short is left as it is.
+pub fn write_table(entries: &[u8; 256], regions: usize, guards: usize, table: &mut [u8]) -> Placed
+    ensures { λ r. ⌜ ((m : Monitor) → m .regions ≡ regions → m .guards ≡ guards → regions ≤ 16 → guards ≤ 16
+        → HeldEntries m (now (entries .entry)) → Writes (tableOf m) (now (table .entry)) r (now (table .exit))) ⌝ }
+{
+    if regions > 16 {
+        return Placed::Short;
+    }
+    if guards > 16 {
+        return Placed::Short;
+    }
+    let size = count(entries, regions, guards) * 9;
+    if table.len() < size {
+        return Placed::Short;
+    }
+    let mut at = 0;
+    let mut r = 0;
+    while r < regions {
+        at = write_region(entries, guards, r, table, at);
+        r += 1;
+    }
+    Placed::Length(size)
+}
