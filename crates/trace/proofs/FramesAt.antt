@@ -1,14 +1,15 @@
--- A trace whose lines are all frames: its i-th frame is what the code finds at byte 7 * i, and its end at 7 times their number.
+-- A trace whose lines are all frames: its i-th frame is what the code finds behind the ends of the lines before it, which is byte
+-- 7 * i, and its end at 7 times their number.
 use Prim.Native.Nat.{ℕ, zero, suc, _+_, _*_, _/_, _%_, _<_, _≤_}
 use native.Mathlib.Omega.{arith}
-use mathlib.Core.Path.{_≡_, refl, sym, ap, _∙_}
+use mathlib.Core.Path.{_≡_, refl, sym, subst, ap, _∙_}
 use mathlib.Core.Bool.{Bool, true, false}
 use mathlib.Core.List.{List, [], _∷_, _++_}
 use mathlib.Core.Option.{Option, none, some}
-use lib.ListN.{length, drop, getD, length-append, length-drop}
+use lib.ListN.{length, take, drop, getD, length-append, length-drop}
 use lib.Dec.{eqb, ltb}
 use borrow.Author.Tests.{ltb-true, ltb-false, le-leb}
-use lib.Seq.{drop-append-add, drop-cons, drop-length, getD-drop}
+use lib.Seq.{length-take-le, take-length, drop-append-add, drop-cons, drop-length, getD-drop}
 use Rattle.machine.specs.Monitor as machine
 use Rattle.meaning.specs.Decide.Frames.{frameOf, Frames, frames, none-at, prepend, framesFrom, framesOf}
 use Rattle.meaning.specs.Decide.Frames as meaning
@@ -52,14 +53,22 @@ first-frame k (l ∷ ls) fs e = go (frameOf l) refl (framesFrom (k + 1) ls) refl
     go (some f) p (frames gs) q [] e = let e₂ = rw (framesFrom, p, q) at e in different (cc)
     go (some f) p (frames gs) q (g ∷ hs) e = let e₂ = rw (framesFrom, p, q) at e in let s : f ≡ g = cc in rw (p, s)
 
+-- where the i-th line begins: behind the ends of those before it
+startOf : List machine.Frame → ℕ → ℕ
+startOf fs i = length (linesOf (take i fs))
+
+-- the one place that knows how long a line is
+start-seven : (fs : List machine.Frame) (i : ℕ) → i ≤ length fs → startOf fs i ≡ 7 * i
+unfolding startOf
+start-seven fs i h = lines-seven (take i fs) ∙ rw (length-take-le i fs h) refl
+
 -- the bytes from the i-th line on are those of the frames from the i-th on
-lines-drop : (fs : List machine.Frame) (i : ℕ) → i ≤ length fs → drop (7 * i) (linesOf fs) ≡ linesOf (drop i fs)
-unfolding linesOf
-lines-drop fs zero h = refl
-lines-drop [] (suc i) h = absurd (omega arith)
-lines-drop (f ∷ fs) (suc i) h =
-    let e : 7 * suc i ≡ length (frameLine f) + 7 * i = omega (arith, line-seven f) in
-    ap (λ (n : ℕ). drop n (frameLine f ++ linesOf fs)) e ∙ drop-append-add (frameLine f) (linesOf fs) (7 * i) ∙ lines-drop fs i (omega arith)
+lines-drop : (fs : List machine.Frame) (i : ℕ) → drop (startOf fs i) (linesOf fs) ≡ linesOf (drop i fs)
+unfolding startOf linesOf
+lines-drop fs zero = refl
+lines-drop [] (suc i) = refl
+lines-drop (f ∷ fs) (suc i) =
+    rw (length-append) (drop-append-add (frameLine f) (linesOf fs) (startOf fs i) ∙ lines-drop fs i)
 
 records-drop : {fs : List machine.Frame} (i : ℕ) → FrameRecords fs → FrameRecords (drop i fs)
 records-drop zero r = r
@@ -72,10 +81,10 @@ record-at d zero (one-frame h r) l = h
 record-at d (suc i) (one-frame h r) l = record-at d i r (omega arith)
 
 -- what the code finds at the i-th line
-line-of : (fs : List machine.Frame) (i : ℕ) → FrameRecords fs → i ≤ length fs → lineAt (linesOf fs) (7 * i) ≡ firstFrame (drop i fs)
+line-of : (fs : List machine.Frame) (i : ℕ) → FrameRecords fs → lineAt (linesOf fs) (startOf fs i) ≡ firstFrame (drop i fs)
 unfolding lineAt framesOf
-line-of fs i r h =
-    rw (lines-drop fs i h) (first-frame 0 _ _ (frames-read (linesOf (drop i fs)) (drop i fs) .1 (records-drop i r, refl)))
+line-of fs i r =
+    rw (lines-drop fs i) (first-frame 0 _ _ (frames-read (linesOf (drop i fs)) (drop i fs) .1 (records-drop i r, refl)))
 
 -- the value of a digit by arithmetic
 value-digit : (n : ℕ) → n < 16 → valueOf (hexDigit n) ≡ n
@@ -120,23 +129,26 @@ module _ {trace : List ℕ} {fs : List machine.Frame} (e : framesOf trace ≡ fr
   frame-at d i h =
       let p = frames-read trace fs .0 e in
       let q = record-at d i (p .0) h in
-      record {
-        found = rw (p .1, line-of fs i (p .0) (omega arith), drop-cons fs i d h);
+      let lines = p .1 in
+      subst (λ (at : ℕ). FrameAt trace at (getD fs i d)) (start-seven fs i (omega arith))
+      (record {
+        found = rw (p .1, line-of fs i (p .0), drop-cons fs i d h);
         numbers =
-            line-numbers trace (linesOf (drop (suc i) fs)) (7 * i) (getD fs i d) (record-at d i (p .0) h)
-            (rw (p .1, lines-drop fs i (omega arith), drop-cons fs i d h) refl);
+            line-numbers trace (linesOf (drop (suc i) fs)) (startOf fs i) (getD fs i d) (record-at d i (p .0) h)
+            (rw (p .1, lines-drop fs i, drop-cons fs i d h) refl);
         thread = q .0;
         region = q .1;
-      }
+      })
 
   pub frames-end : EndAt trace (7 * length fs)
-  unfolding firstFrame
+  unfolding firstFrame startOf
   frames-end =
       let p = frames-read trace fs .0 e in
-      record {
-        found = rw (p .1, line-of fs (length fs) (p .0) (omega arith), drop-length);
-        whole = rw (p .1, lines-seven fs);
-      }
+      subst (EndAt trace) (start-seven fs (length fs) (omega arith))
+      (record {
+        found = rw (p .1, line-of fs (length fs) (p .0), drop-length);
+        whole = rw (p .1, startOf, take-length) refl;
+      })
 
 -- what a count says of the frames
 pub record Counts (trace : List ℕ) (n : ℕ) : Type 0 where
