@@ -1,8 +1,8 @@
--- What writing a line does to a lent buffer, and a run's record as the code holds it.
+-- A run's record as the code holds it, and what it writes of each part.
 use Prim.Native.Nat.{ℕ, _+_, _%_, _<_}
 use mathlib.Core.Path.{_≡_}
-use mathlib.Core.List.{List, _++_, map}
-use lib.ListN.{length, getD, take, drop}
+use mathlib.Core.List.{List, map}
+use lib.ListN.{length, getD}
 use lib.IntN.{pos}
 use Rattle.machine.specs.Monitor as machine
 use Rattle.meaning.specs.Held.{Offset}
@@ -13,11 +13,6 @@ use Rattle.demands.specs.Widths.{RecordFits}
 use Rattle.stepper.specs.Shown.{placeOf}
 use Rattle.stepper.specs.Slices.{placesOf}
 use Rattle.stepper.specs.declared.Thread.{Thread}
-
--- the line stands at a place, the bytes before and behind are as they were, and the next place is behind it
-pub record Writes (line before : List ℕ) (at next : ℕ) (after : List ℕ) : Type 0 where
-  pub bytes : after ≡ take at before ++ (line ++ drop (at + length line) before)
-  pub behind : next ≡ at + length line
 
 -- each value with 128 added, and the threads' places; the record's numbers fit their digits
 pub record Fits (rec : calls.Record) (vars : ℕ) (values : List ℕ) (threads : List Thread) : Type 0 where

@@ -6,27 +6,20 @@ ghost use mathlib.Core.List.{[], _∷_};
 ghost use Prim.Native.Nat.{_+_, _*_, _%_, _<_, _≤_};
 ghost use lib.ListN.{length};
 ghost use Rattle.meaning.specs.Answer as meaning;
-ghost use Rattle.meaning.specs.Hex.{hexDigit, hex2};
+ghost use Rattle.meaning.specs.Hex.{hex2};
 ghost use Rattle.meaning.specs.Lines.{hex4, refusalLine, recordLine};
 ghost use Rattle.meaning.specs.Calls as calls;
 ghost use Rattle.stepper.specs.Shown.{placeOf};
-ghost use Rattle.lines.specs.Written.{Writes, Fits, byteOf, valuesAt, placesAt};
-
-// One of the digits 0-9 and A-F.
-fn hex_digit(n: u8) -> u8
-    requires { ⌜ n < 16 ⌝ }
-    ensures { λ d. ⌜ d ≡ hexDigit n ⌝ }
-{
-    if n < 10 { n + 48 } else { n + 55 }
-}
+ghost use Rattle.digits.specs.Written.{Writes};
+ghost use Rattle.lines.specs.Written.{Fits, byteOf, valuesAt, placesAt};
 
 // Two digits.
 fn put2(out: &mut [u8], at: usize, n: u8) -> usize
     requires { ⌜ at + 2 ≤ length (now out) ⌝ }
     ensures { λ r. ⌜ Writes (hex2 n) (now (out .entry)) at r (now (out .exit)) ⌝ }
 {
-    out[at] = hex_digit(n / 16);
-    out[at + 1] = hex_digit(n % 16);
+    out[at] = digits::hex_digit(n / 16);
+    out[at + 1] = digits::hex_digit(n % 16);
     at + 2
 }
 

@@ -1,8 +1,9 @@
 -- `any` as a fact about which number passes, by induction on the bound.
-use Prim.Native.Nat.{ℕ, zero, suc, _<_}
+use Prim.Native.Nat.{ℕ, zero, suc, _+_, _<_}
+use native.Mathlib.Numerals.{add-one}
 use native.Mathlib.Omega.{arith}
-use mathlib.Core.Path.{_≡_, subst}
-use mathlib.Core.Bool.{Bool, true, not, false≢true}
+use mathlib.Core.Path.{_≡_, refl, subst}
+use mathlib.Core.Bool.{Bool, true, not, _||_, false≢true}
 use mathlib.Core.Logic.{inl, inr, _↔_, Iff·trans}
 use Rattle.logic.specs.Tests.{any}
 use Rattle.logic.proofs.Bools.{split-eq, either, or-left, or-right, decides-not}
@@ -33,3 +34,15 @@ module _ (n : ℕ) (f : ℕ → Bool) {P : ℕ → Type 0} (tells : (u : ℕ) �
 
   pub none-iff : (not (any n f) ≡ true) ↔ ((u : ℕ) → u < n → P u → ⊥)
   none-iff = Iff·trans (decides-not (any n f) any-iff) (λ h u l x. h (u, l, x), λ h x. h (x .0) (x .1) (x .2))
+
+-- one number more, and tests that pass alike
+pub any-next : (n : ℕ) (f : ℕ → Bool) → any (n + 1) f ≡ (f n || any n f)
+unfolding any
+any-next n f = rw add-one
+
+pub any-same : (n : ℕ) (f g : ℕ → Bool) → ((k : ℕ) → k < n → f k ≡ g k) → any n f ≡ any n g
+unfolding any
+any-same zero f g e = refl
+any-same (suc n) f g e =
+    let rest : any n f ≡ any n g = any-same n f g (λ k h. e k (omega arith)) in
+    rw (e n (omega arith), rest)

@@ -17,7 +17,7 @@ use Rattle.meaning.specs.Decide.Table.{tableOf}
 use Rattle.logic.proofs.Bools.{different}
 use Rattle.answers.specs.Says.{Says, Is, answerOf}
 use Rattle.answers.specs.declared.Answer as code
-use Rattle.table.specs.Written.{placedOf, bufferOf, Writes}
+use Rattle.table.specs.Written.{placedOf, bufferOf, WritesTable}
 use Rattle.table.specs.declared.Placed.{Placed}
 use Rattle.table.specs.declared.Placed.the-variants.{Length, Short}
 use Rattle.loader.specs.Loading.{Loads}
@@ -41,7 +41,7 @@ module _ {file : List ℕ} {l : Loaded} {kept holds after : List ℕ} (loads : L
   module _ (z : l .answer .number ≡ 0) (entries : List ℕ) {buffer behind : List ℕ} {r : Placed}
       (fill : EntriesOf file entries)
       (write : (n : machine.Monitor) → n .regions ≡ l .layout .regions → n .guards ≡ l .layout .guards → l .layout .regions ≤ 16
-      → l .layout .guards ≤ 16 → HeldEntries n entries → Writes (tableOf n) buffer r behind) where
+      → l .layout .guards ≤ 16 → HeldEntries n entries → WritesTable (tableOf n) buffer r behind) where
     abbrev m : Monitor
     m = monitor-of file (l .answer) (loads .verdict) z .0
 
@@ -51,7 +51,7 @@ module _ {file : List ℕ} {l : Loaded} {kept holds after : List ℕ} (loads : L
     abbrev table : List ℕ
     table = tableOf (model m)
 
-    w : Writes (tableOf (model m)) buffer r behind
+    w : WritesTable (tableOf (model m)) buffer r behind
     unfolding model EntriesOf
     w =
         let k = loads .monitored m e in

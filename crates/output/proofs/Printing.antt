@@ -31,8 +31,9 @@ use Rattle.run.specs.Results.{Runs}
 use Rattle.run.specs.declared.Running.{Running}
 use Rattle.monitor.specs.Results.{Places, startOf}
 use Rattle.monitor.specs.declared.Placing.{Placing}
-use Rattle.lines.specs.Written.{Writes, Fits}
-use Rattle.lines.proofs.Writing.{written-length, written-more}
+use Rattle.digits.specs.Written.{over, Writes}
+use Rattle.lines.specs.Written.{Fits}
+use Rattle.digits.proofs.Writing.{written-length, written-more}
 use Rattle.output.specs.Printed.{Prints}
 
 -- ---- lines at byte 0
@@ -45,6 +46,7 @@ prints {lines} {before} {after} {n} e c =
     record { bytes = e; count = c; within = within; part = sym (length-take-le n after within) }
 
 pub written-prints : {lines before after : List ℕ} {n : ℕ} → Writes lines before 0 n after → Prints lines before n after
+unfolding over
 written-prints {lines} w = prints (rw zero-add at (w .bytes)) (w .behind ∙ zero-add (length lines))
 
 -- ---- an answer

@@ -9,7 +9,7 @@ ghost use Rattle.meaning.specs.Calls as calls;
 ghost use Rattle.meaning.specs.Lines.{runLine, placer, runner};
 ghost use Rattle.demands.specs.Widths.{RunFits};
 ghost use Rattle.run.specs.Results.{Runs};
-ghost use Rattle.lines.specs.Written.{Writes};
+ghost use Rattle.digits.specs.Written.{Writes};
 ghost use Rattle.output.specs.Printed.{Prints};
 
 // What placer prints of a file: its table, or its refusal's line.

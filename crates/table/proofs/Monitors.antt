@@ -16,7 +16,8 @@ use Rattle.machine.specs.Held.{Held, codeOf, HeldEntries}
 use Rattle.logic.specs.Tests.{bit}
 use Rattle.meaning.specs.Decide.Table.{tableOf}
 use Rattle.table.specs.Slices.{runsAt, someAt, rises, neither, holdsThen, wideAt, made, codeAt, entryBy, lineAt, linesAt, tableAt}
-use Rattle.table.proofs.Lines.{any-same, forEach-same}
+use Rattle.logic.proofs.Any.{any-same}
+use Rattle.digits.proofs.ForEach.{forEach-same}
 
 -- `mod-eq-of-lt`, with the numbers written
 mod-small : (n k : ℕ) → n < k → n % k ≡ n

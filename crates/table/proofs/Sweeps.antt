@@ -10,7 +10,7 @@ use Rattle.sets.proofs.SetLaws.{member-and, member-or, member-xor, member-none,
 use Rattle.logic.specs.Tests.{any}
 use Rattle.table.specs.Slices.{runsAt, someAt, rises, neither, holdsThen, Swept, wideAt, sweptCode, codeAt}
 use Rattle.table.specs.declared.Sweep.{Sweep}
-use Rattle.table.proofs.Lines.{any-next}
+use Rattle.logic.proofs.Any.{any-next}
 
 -- a guard that holds after and not before; one that is covered, as it was so far
 bit-new : (a b : Bool) → xor (a || b) a ≡ (not a && b)

@@ -73,7 +73,3 @@ linesAt entries guards r = forEach guards 0 (lineAt entries r)
 
 unfoldable pub tableAt : (entries : List ℕ) (regions guards : ℕ) → List ℕ
 tableAt entries regions guards = forEach regions 0 (linesAt entries guards)
-
--- a list with another written over it from a place on
-unfoldable pub over : List ℕ → ℕ → List ℕ → List ℕ
-over d at s = take at d ++ (s ++ drop (at + length s) d)

@@ -15,6 +15,6 @@ placedOf table buffer = elim (ltb (length buffer) (length table)) [ true ↦ Sho
 unfoldable pub bufferOf : List ℕ → List ℕ → List ℕ
 bufferOf table buffer = elim (ltb (length buffer) (length table)) [ true ↦ buffer | false ↦ table ++ drop (length table) buffer ]
 
-pub record Writes (table before : List ℕ) (r : Placed) (after : List ℕ) : Type 0 where
+pub record WritesTable (table before : List ℕ) (r : Placed) (after : List ℕ) : Type 0 where
   pub answer : r ≡ placedOf table before
   pub buffer : after ≡ bufferOf table before

@@ -5,9 +5,9 @@ ghost use lib.ListN.{length, getD};
 ghost use Rattle.machine.specs.Monitor.{Monitor};
 ghost use Rattle.machine.specs.Held.{Held, codeOf, HeldEntries};
 ghost use Rattle.meaning.specs.Decide.Table.{tableOf, entryLine};
-ghost use Rattle.meaning.specs.Hex.{hexDigit};
-ghost use Rattle.table.specs.Written.{Writes};
-ghost use Rattle.table.specs.Slices.{Swept, made, sweptCode, codeAt, entryBy, lineAt, linesAt, tableAt, over};
+ghost use Rattle.digits.specs.Written.{over, Writes};
+ghost use Rattle.table.specs.Written.{WritesTable};
+ghost use Rattle.table.specs.Slices.{Swept, made, sweptCode, codeAt, entryBy, lineAt, linesAt, tableAt};
 
 // The table's length, or that the buffer is shorter than the table (10).
 pub enum Placed {
@@ -228,23 +228,15 @@ fn count(entries: &[u8; 256], regions: usize, guards: usize) -> usize
     n
 }
 
-// One of the digits 0-9 and A-F.
-fn hex_digit(n: u8) -> u8
-    requires { ⌜ n < 16 ⌝ }
-    ensures { λ d. ⌜ d ≡ hexDigit n ⌝ }
-{
-    if n < 10 { n + 48 } else { n + 55 }
-}
-
 // A line of the table at a place of the buffer.
 fn write_line(table: &mut [u8], at: usize, r: usize, g: usize, code: u8)
     requires { ⌜ (at + 9 ≤ length (now table)) × (r < 16) × (g < 16) × (0 < code) ⌝ }
     ensures { λ _. ⌜ now (table .exit) ≡ over (now (table .entry)) at (entryLine r g (entryBy code)) ⌝ }
 {
     table[at] = 48;
-    table[at + 1] = hex_digit(r as u8);
+    table[at + 1] = digits::hex_digit(r as u8);
     table[at + 2] = 48;
-    table[at + 3] = hex_digit(g as u8);
+    table[at + 3] = digits::hex_digit(g as u8);
     table[at + 4] = 48;
     table[at + 5] = 48 + code / 2 % 2;
     table[at + 6] = 48;
@@ -255,8 +247,7 @@ fn write_line(table: &mut [u8], at: usize, r: usize, g: usize, code: u8)
 // The line of a region and a guard, where their entry stands, at a place of the buffer; the place behind it.
 fn write_entry(entries: &[u8; 256], r: usize, g: usize, table: &mut [u8], at: usize) -> usize
     requires { ⌜ (at + length (lineAt (now entries) r g) ≤ length (now table)) × (r < 16) × (g < 16) ⌝ }
-    ensures { λ e. ⌜ (e ≡ at + length (lineAt (now (entries .entry)) r g))
-        × (now (table .exit) ≡ over (now (table .entry)) at (lineAt (now (entries .entry)) r g)) ⌝ }
+    ensures { λ e. ⌜ Writes (lineAt (now (entries .entry)) r g) (now (table .entry)) at e (now (table .exit)) ⌝ }
 {
     let code = entries[r * 16 + g];
     if code == 0 {
@@ -269,8 +260,7 @@ fn write_entry(entries: &[u8; 256], r: usize, g: usize, table: &mut [u8], at: us
 // The lines of a region from a place of the buffer on; the place behind them.
 fn write_region(entries: &[u8; 256], guards: usize, r: usize, table: &mut [u8], at: usize) -> usize
     requires { ⌜ (at + length (linesAt (now entries) guards r) ≤ length (now table)) × (guards ≤ 16) × (r < 16) ⌝ }
-    ensures { λ e. ⌜ (e ≡ at + length (linesAt (now (entries .entry)) guards r))
-        × (now (table .exit) ≡ over (now (table .entry)) at (linesAt (now (entries .entry)) guards r)) ⌝ }
+    ensures { λ e. ⌜ Writes (linesAt (now (entries .entry)) guards r) (now (table .entry)) at e (now (table .exit)) ⌝ }
 {
     let mut next = at;
     let mut g = 0;
@@ -284,7 +274,7 @@ fn write_region(entries: &[u8; 256], guards: usize, r: usize, table: &mut [u8], 
 // The lines of the entries, by region and then guard. A buffer that is too short is left as it is.
 pub fn write_table(entries: &[u8; 256], regions: usize, guards: usize, table: &mut [u8]) -> Placed
     ensures { λ r. ⌜ ((m : Monitor) → m .regions ≡ regions → m .guards ≡ guards → regions ≤ 16 → guards ≤ 16
-        → HeldEntries m (now (entries .entry)) → Writes (tableOf m) (now (table .entry)) r (now (table .exit))) ⌝ }
+        → HeldEntries m (now (entries .entry)) → WritesTable (tableOf m) (now (table .entry)) r (now (table .exit))) ⌝ }
 {
     if regions > 16 {
         return Placed::Short;

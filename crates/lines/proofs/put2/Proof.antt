@@ -1,7 +1,7 @@
 -- `lines::put2` meets its contract: its two stores are the two digits.
 use native.Mathlib.Omega.{arith}
 use lib.ListN.{length-set}
-use Rattle.lines.proofs.Writing.{two-stores}
+use Rattle.digits.proofs.Writing.{two-stores}
 use borrow.Author.Needs.{needs}
 use Rattle.lines.proofs.put2.Statement.{statement}
 use Rattle.lines.proofs.put2.Tie as tie
@@ -28,7 +28,7 @@ same-length : tie.Need-same-length
 same-length c = simp length-set
 
 returns : tie.Need-returns
-returns c = two-stores _ _ _ _ _ (search needs) (c .before .hex-digit .ensures) (c .hex-digit2 .ensures)
+returns c = two-stores _ _ _ _ _ (search needs) (search needs) (c .before .hex-digit .ensures) (c .hex-digit2 .ensures)
 
 pub put2-spec : {M : Type 1} → statement M
 put2-spec =

@@ -2,7 +2,7 @@
 use native.Mathlib.Omega.{arith}
 use Rattle.meaning.specs.Hex.{hex2}
 use Rattle.meaning.specs.Lines.{hex4}
-use Rattle.lines.proofs.Writing.{written-more}
+use Rattle.digits.proofs.Writing.{written-more}
 use borrow.Author.Needs.{needs}
 use Rattle.lines.proofs.put4.Statement.{statement}
 use Rattle.lines.proofs.put4.Tie as tie

@@ -3,7 +3,7 @@ use native.Mathlib.Omega.{arith}
 use native.Mathlib.Nat.{mod-eq-of-lt}
 use Rattle.meaning.specs.Hex.{hex2}
 use Rattle.meaning.specs.Lines.{hex4, refusalLine}
-use Rattle.lines.proofs.Writing.{written-four}
+use Rattle.digits.proofs.Writing.{written-four}
 use borrow.Author.Needs.{needs}
 use Rattle.lines.proofs.put_answer.Statement.{statement}
 use Rattle.lines.proofs.put_answer.Tie as tie

@@ -1,5 +1,5 @@
 -- `lines::put_end` meets its contract: one store.
-use Rattle.lines.proofs.Writing.{one-store}
+use Rattle.digits.proofs.Writing.{one-store}
 use borrow.Author.Needs.{needs}
 use Rattle.lines.proofs.put_end.Statement.{statement}
 use Rattle.lines.proofs.put_end.Tie as tie

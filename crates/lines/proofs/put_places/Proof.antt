@@ -1,12 +1,16 @@
 -- `lines::put_places` meets its contract. The invariant: the digits of the threads passed are written.
-use Prim.Native.Nat.{_-_, _≤_}
+use Prim.Native.Nat.{_+_, _-_, _≤_}
+use lib.ListN.{length}
 use native.Mathlib.Omega.{arith}
 use mathlib.Core.Path.{_≡_}
+use Rattle.meaning.specs.Hex.{hex2}
 use Rattle.meaning.specs.Decide.Table.{forEach}
 use Rattle.stepper.specs.Shown.{idleThread}
 use Rattle.stepper.specs.Slices.{placesOf}
-use Rattle.lines.specs.Written.{Writes, placeAt, placesAt}
-use Rattle.lines.proofs.Writing.{written-none, place-two, turn-place, turn-length, turn}
+use Rattle.digits.specs.Written.{Writes}
+use Rattle.lines.specs.Written.{placeAt, placesAt}
+use Rattle.digits.proofs.Writing.{written-none, turn-length, turn-room, turn}
+use Rattle.lines.proofs.Writing.{places-length}
 use Rattle.lines.proofs.put_places.Statement.{statement}
 use Rattle.lines.proofs.put_places.Tie as tie
 
@@ -15,6 +19,16 @@ Inv-loop out₀ at threads to₀ t₀ out to t = Writes (placesAt threads t) out
 
 abbrev μ-loop : tie.MeasureT-loop
 μ-loop out₀ at threads to₀ t₀ out to t = 16 - t
+
+-- the places fit
+room :
+    (q : tie.At-loop Inv-loop μ-loop)
+    → (let a = q .before .before .args in a .at + length (placesAt (a .t3) 16) ≤ length (a .out .now))
+room q =
+    let a = q .before .before .args in
+    let l = places-length (a .t3) 16 in
+    let h = q .before .before .pre in
+    omega arith
 
 loop-holds : tie.Need-loop-holds Inv-loop μ-loop
 unfolding placesAt forEach
@@ -30,14 +44,11 @@ place-byte-requires : tie.Need-place-byte-requires Inv-loop μ-loop
 place-byte-requires c κs = tt
 
 put2-requires : tie.Need-put2-requires Inv-loop μ-loop
-unfolding placesAt
+unfolding placesAt placeAt hex2
 put2-requires c κs =
     let q = c .before .before .before .before in
     let a = q .before .before .args in
-    let f = placeAt (a .t3) in
-    let p = turn-place 16 f (place-two (a .t3)) (q .before .before .pre) (q .loop .t) (q .loop .inv .0) in
-    let l = turn-length 16 f (place-two (a .t3)) (q .before .before .pre) (q .loop .t) (q .loop .inv .0) (q .loop .inv .1) in
-    omega arith
+    turn-room 16 (placeAt (a .t3)) (room q) (q .loop .t) (q .loop .inv .0) (c .before .before .before .loop-test .taken)
 
 add-t : tie.Need-add-t Inv-loop μ-loop
 add-t c = omega arith
@@ -51,7 +62,7 @@ loop-again c =
     let w = c .before .before in
     let q = w .before .before .before .before .before in
     let a = q .before .before .args in (
-      turn 16 (placeAt (a .t3)) (place-two (a .t3)) (q .before .before .pre) (q .loop .t) (q .loop .inv .0)
+      turn 16 (placeAt (a .t3)) (room q) (q .loop .t) (q .loop .inv .0)
           (w .before .before .before .before .loop-test .taken) (rw (w .before .place-byte .ensures) at (w .put2 .ensures)),
       omega arith,
     )
@@ -61,7 +72,7 @@ unfolding placesAt
 same-length c =
     let q = c .before in
     let a = q .before .before .args in
-    turn-length 16 (placeAt (a .t3)) (place-two (a .t3)) (q .before .before .pre) (q .loop .t) (q .loop .inv .0) (q .loop .inv .1)
+    turn-length 16 (placeAt (a .t3)) (room q) (q .loop .t) (q .loop .inv .0) (q .loop .inv .1)
 
 returns : tie.Need-returns Inv-loop μ-loop
 returns c =

@@ -4,7 +4,8 @@ use mathlib.Core.Path.{_≡_}
 use lib.ListN.{length}
 use Rattle.meaning.specs.Hex.{hex2}
 use Rattle.meaning.specs.Lines.{recordLine}
-use Rattle.lines.proofs.Writing.{written-four, values-length, places-length, values-are, places-are}
+use Rattle.digits.proofs.Writing.{written-four}
+use Rattle.lines.proofs.Writing.{values-length, places-length, values-are, places-are}
 use borrow.Author.Needs.{needs}
 use Rattle.lines.proofs.put_record.Statement.{statement}
 use Rattle.lines.proofs.put_record.Tie as tie

@@ -1,7 +1,8 @@
 -- `table::write_entry` meets its contract: an entry held as 0 has no line, and another has the line that is written.
 use native.Mathlib.Omega.{arith}
 use Rattle.table.specs.Slices.{lineAt}
-use Rattle.table.proofs.Lines.{line-none, line-some, over-none}
+use Rattle.table.proofs.Lines.{line-none, line-some}
+use Rattle.digits.proofs.Writing.{over-none}
 use borrow.Author.Needs.{needs}
 use Rattle.table.proofs.write_entry.Statement.{statement}
 use Rattle.table.proofs.write_entry.Tie as tie
@@ -19,7 +20,7 @@ returns : tie.Need-returns
 returns c =
     let a = c .before .before .before .args in
     let e = line-none (a .entries .now) (a .r) (a .g) (c .if1 .taken) in
-    (rw e (omega arith), rw (e, over-none))
+    record { bytes = rw (e, over-none); behind = rw e (omega arith) }
 
 write-line-requires : tie.Need-write-line-requires
 write-line-requires c κs =
@@ -38,7 +39,7 @@ returns-2 c =
     let q = c .before .before .before .before in
     let a = q .before .before .before .args in
     let l = line-some (a .entries .now) (a .r) (a .g) (q .if1 .left) in
-    (omega arith, unfold lineAt in c .before .before .write-line .ensures)
+    record { bytes = unfold lineAt in c .before .before .write-line .ensures; behind = omega arith }
 
 pub write-entry-spec : {M : Type 1} → statement M
 write-entry-spec =

@@ -1,19 +1,20 @@
 -- `table::write_table` meets its contract. The loop's invariant: the lines of the regions passed are written.
 use Prim.Native.Nat.{_+_, _≤_, _-_}
-use mathlib.Core.Path.{_≡_, sym}
+use mathlib.Core.Path.{_≡_}
 use native.Mathlib.Omega.{arith}
 use lib.ListN.{length}
 use Rattle.meaning.specs.Decide.Table.{forEach}
-use Rattle.table.specs.Slices.{linesAt, tableAt, over}
-use Rattle.table.proofs.Lines.{over-none, turn-length, turn-room, turn-place, turn-over, writes-short, writes-long}
+use Rattle.table.specs.Slices.{linesAt, tableAt}
+use Rattle.digits.specs.Written.{Writes}
+use Rattle.digits.proofs.Writing.{written-none, turn-length, turn-room, turn}
+use Rattle.table.proofs.Lines.{writes-short, writes-long}
 use Rattle.table.proofs.Monitors.{table-is}
 use Rattle.table.proofs.write_table.Statement.{statement}
 use Rattle.table.proofs.write_table.Tie as tie
 
 abbrev Inv-loop : tie.InvT-loop
 Inv-loop entries regions guards table₀ size at₀ r₀ table at r =
-    (table ≡ over table₀ 0 (forEach r 0 (linesAt entries guards))) × (at ≡ 0 + length (forEach r 0 (linesAt entries guards)))
-    × (r ≤ regions)
+    Writes (forEach r 0 (linesAt entries guards)) table₀ 0 at table × (r ≤ regions)
 
 abbrev μ-loop : tie.MeasureT-loop
 μ-loop entries regions guards table₀ size at₀ r₀ table at r = regions - r
@@ -42,15 +43,15 @@ returns-3 c = λ m er eg hr hg es. rw (table-is m _ _ _ er eg es) (writes-short 
 
 loop-holds : tie.Need-loop-holds Inv-loop μ-loop
 unfolding forEach
-loop-holds c = (sym (over-none _ _), omega arith, omega arith)
+loop-holds c = (written-none _ _, omega arith)
 
 write-region-requires : tie.Need-write-region-requires Inv-loop μ-loop
 unfolding tableAt
 write-region-requires c κs =
     let q = c .before .before in
     let a = q .before .before .before .before .before .before .args in (
-      turn-room (a .table .now) 0 (a .regions) (linesAt (a .entries .now) (a .guards)) (room q) (q .loop .r)
-          (q .loop .table) (q .loop .at) (q .loop .inv .0) (q .loop .inv .1) (c .before .loop-test .taken),
+      turn-room (a .regions) (linesAt (a .entries .now) (a .guards)) (room q) (q .loop .r) (q .loop .inv .0)
+          (c .before .loop-test .taken),
       omega arith,
       omega arith,
     )
@@ -66,12 +67,9 @@ unfolding tableAt
 loop-again c =
     let e = c .before .before in
     let q = e .before .before .before in
-    let a = q .before .before .before .before .before .before .args in
-    let f = linesAt (a .entries .now) (a .guards) in (
-      turn-over (a .table .now) 0 (a .regions) f (room q) (q .loop .r) (q .loop .table) (q .loop .at)
-          (q .loop .inv .0) (q .loop .inv .1) (e .before .before .loop-test .taken) _ (e .write-region .ensures .1),
-      turn-place (a .table .now) 0 (a .regions) f (room q) (q .loop .r) (q .loop .table) (q .loop .at)
-          (q .loop .inv .0) (q .loop .inv .1) _ (e .write-region .ensures .0),
+    let a = q .before .before .before .before .before .before .args in (
+      turn (a .regions) (linesAt (a .entries .now) (a .guards)) (room q) (q .loop .r) (q .loop .inv .0)
+          (e .before .before .loop-test .taken) (e .write-region .ensures),
       omega arith,
     )
 
@@ -80,8 +78,7 @@ unfolding tableAt
 same-length c =
     let q = c .before in
     let a = q .before .before .before .before .before .before .args in
-    turn-length (a .table .now) 0 (a .regions) (linesAt (a .entries .now) (a .guards)) (room q) (q .loop .r)
-    (q .loop .table) (q .loop .at) (q .loop .inv .0) (q .loop .inv .1) (q .loop .inv .2)
+    turn-length (a .regions) (linesAt (a .entries .now) (a .guards)) (room q) (q .loop .r) (q .loop .inv .0) (q .loop .inv .1)
 
 returns-4 : tie.Need-returns-4 Inv-loop μ-loop
 unfolding tableAt
@@ -89,7 +86,8 @@ returns-4 c =
     λ m er eg hr hg es.
     let q = c .before in
     let e : q .loop .r ≡ q .before .before .before .before .before .before .args .regions = omega arith in
-    rw (table-is m _ _ _ er eg es) (writes-long _ _ _ _ (omega (arith, room q)) (q .before .before .count .ensures .0) (rw e at (q .loop .inv .0)))
+    rw (table-is m _ _ _ er eg es)
+    (writes-long _ _ _ _ (omega (arith, room q)) (q .before .before .count .ensures .0) (rw e at (q .loop .inv .0 .bytes)))
 
 pub write-table-spec : {M : Type 1} → statement M
 write-table-spec =

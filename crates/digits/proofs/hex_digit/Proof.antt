@@ -1,9 +1,9 @@
--- `lines::hex_digit` gives a digit of a line. Each arm is the digit's own case.
+-- `digits::hex_digit` meets its contract: each arm is the digit's own case.
 use borrow.Author.Needs.{needs}
 use mathlib.Core.Path.{sym}
 use Rattle.meaning.proofs.Digits.{low-digit, high-digit}
-use Rattle.lines.proofs.hex_digit.Statement.{statement}
-use Rattle.lines.proofs.hex_digit.Tie as tie
+use Rattle.digits.proofs.hex_digit.Statement.{statement}
+use Rattle.digits.proofs.hex_digit.Tie as tie
 
 add-result : tie.Need-add-result
 add-result c = search needs

@@ -1,0 +1,2 @@
+pub mod ForEach
+pub mod Writing
