@@ -69,7 +69,9 @@ line-bytes r g (suc n) d e hr hg h hd he =
 -- nine stores from a place on
 nine-stores :
     (d : List ℕ) (at a0 a1 a2 a3 a4 a5 a6 a7 a8 : ℕ) → at + 9 ≤ length d
-    → set (set (set (set (set (set (set (set (set d at a0) (at + 1) a1) (at + 2) a2) (at + 3) a3) (at + 4) a4) (at + 5) a5)
+    → set
+    (set (set (set (set (set (set (set (set d at a0) (at + 1) a1) (at + 2) a2) (at + 3) a3) (at + 4) a4)
+    (at + 5) a5)
     (at + 6) a6) (at + 7) a7) (at + 8) a8
     ≡ over d at (a0 ∷ a1 ∷ a2 ∷ a3 ∷ a4 ∷ a5 ∷ a6 ∷ a7 ∷ a8 ∷ [])
 unfolding over
@@ -108,9 +110,14 @@ count-more n l k f e here = rw (forEach-more, length-append) (omega arith)
 pub writes-short : (t b : List ℕ) → length b < length t → WritesTable t b Short b
 unfolding placedOf bufferOf
 writes-short t b h =
-    record { answer = rw (lt-ltb (length b) (length t) h, placedOf); buffer = rw (lt-ltb (length b) (length t) h, bufferOf) }
+    record {
+      answer = rw (lt-ltb (length b) (length t) h, placedOf);
+      buffer =
+          rw (lt-ltb (length b) (length t) h, bufferOf);
+    }
 
-pub writes-long : (t b : List ℕ) (n : ℕ) (a : List ℕ) → length t ≤ length b → n ≡ length t → a ≡ over b 0 t → WritesTable t b (Length n) a
+pub writes-long : (t b : List ℕ) (n : ℕ) (a : List ℕ) → length t ≤ length b → n ≡ length t → a ≡ over b 0 t
+    → WritesTable t b (Length n) a
 unfolding placedOf bufferOf over
 writes-long t b n a h en ea =
     record {

@@ -1,5 +1,5 @@
--- What the code works out from slices, of a monitor that they hold: its entries; and the lines of entries that a slice holds are
--- those of the monitor's table. The cases are those of `runs`.
+-- What the code works out from slices, of a monitor that they hold: its entries; and the lines of entries that a slice
+-- holds are those of the monitor's table. The cases are those of `runs`.
 use Prim.Native.Nat.{ℕ, _+_, _*_, _%_, _<_, _≤_}
 use mathlib.Core.Path.{_≡_, refl, ap}
 use mathlib.Core.Bool.{Bool, true, false, not, _&&_}
@@ -15,7 +15,8 @@ use Rattle.machine.specs.Decide.Table.{runs, someMove, everyMove, stands, uncon
 use Rattle.machine.specs.Held.{Held, codeOf, HeldEntries}
 use Rattle.logic.specs.Tests.{bit}
 use Rattle.meaning.specs.Decide.Table.{tableOf}
-use Rattle.table.specs.Slices.{runsAt, someAt, rises, neither, holdsThen, wideAt, made, codeAt, entryBy, lineAt, linesAt, tableAt}
+use Rattle.table.specs.Slices.{runsAt, someAt, rises, neither, holdsThen, wideAt, made, codeAt, entryBy, lineAt}
+use Rattle.table.specs.Slices.{linesAt, tableAt}
 use Rattle.logic.proofs.Any.{any-same}
 use Rattle.digits.proofs.ForEach.{forEach-same}
 
@@ -28,7 +29,8 @@ unfolding bit
 bit-is true = refl
 bit-is false = refl
 
-module _ (m : Monitor) (kept holds after guardOf : List ℕ) (states regions guards : ℕ) (held : Held m kept holds after guardOf)
+module _ (m : Monitor) (kept holds after guardOf : List ℕ) (states regions guards : ℕ)
+    (held : Held m kept holds after guardOf)
     (es : m .states ≡ states) (er : m .regions ≡ regions) (eg : m .guards ≡ guards) where
   guard-is : (r : ℕ) → r < m .regions → getD guardOf r 0 % 16 ≡ m .guardOf r
   guard-is r hr =
@@ -38,7 +40,8 @@ module _ (m : Monitor) (kept holds after guardOf : List ℕ) (states regions gua
 
   run-is : (r s : ℕ) → r < m .regions → s < m .states → runsAt kept holds (m .guardOf r) s ≡ runs m r s
   unfolding runsAt runs
-  run-is r s hr hs = rw (held .by-kept s hs, bit-is (m .kept s), held .by-holds (m .guardOf r) s (held .guard-below r hr) hs)
+  run-is r s hr hs =
+      rw (held .by-kept s hs, bit-is (m .kept s), held .by-holds (m .guardOf r) s (held .guard-below r hr) hs)
 
   -- a test of sets of guards that is a test of states
   some-is :
@@ -49,7 +52,8 @@ module _ (m : Monitor) (kept holds after guardOf : List ℕ) (states regions gua
   some-is r test on hr e = any-same (m .states) _ _ (λ s hs. rw (run-is r s hr hs) (go s hs (runs m r s) refl))
     where
       go : (s : ℕ) → s < m .states → (b : Bool) → runs m r s ≡ b
-          → (b && test (getD holds s 0) (getD holds (getD after (r * 4096 + s) 0 % 4096) 0)) ≡ (b && on s (m .after r s))
+          → (b && test (getD holds s 0) (getD holds (getD after (r * 4096 + s) 0 % 4096) 0))
+          ≡ (b && on s (m .after r s))
       go s hs false run = refl
       go s hs true run =
           let small : m .after r s < m .states = held .after-below r s hr run in
@@ -57,7 +61,8 @@ module _ (m : Monitor) (kept holds after guardOf : List ℕ) (states regions gua
           rw (held .by-after r s hr run, mod-small (m .after r s) 4096 (omega arith)) (e s (m .after r s) hs small)
 
   stands-is :
-      (r g : ℕ) → r < m .regions → g < m .guards → someAt kept holds after (m .states) (m .guardOf r) r (rises g) ≡ stands m r g
+      (r g : ℕ) → r < m .regions → g < m .guards → someAt kept holds after (m .states) (m .guardOf r) r (rises g)
+      ≡ stands m r g
   unfolding stands rises
   stands-is r g hr hg = some-is r _ _ hr (λ s t hs ht. rw (held .by-holds g s hg hs, held .by-holds g t hg ht))
 
@@ -91,7 +96,15 @@ module _ (m : Monitor) (kept holds after guardOf : List ℕ) (states regions gua
       (r g : ℕ) → r < m .regions → g < m .guards
       → codeAt kept holds after guardOf states regions r g ≡ codeOf (entryOf m r g)
   unfolding codeAt
-  code-is r g hr hg = rw (← es, ← er, guard-is r hr, stands-is r g hr hg, always-is r g hr hg, wide-is g hg, made-is r g)
+  code-is r g hr hg = rw (
+    ← es,
+    ← er,
+    guard-is r hr,
+    stands-is r g hr hg,
+    always-is r g hr hg,
+    wide-is g hg,
+    made-is r g,
+  )
 
 -- an entry from its number
 decoded : (e : Entry) → entryBy (codeOf e) ≡ e

@@ -42,10 +42,12 @@ module _ (kept holds after : List ℕ) (guard r n : ℕ) where
         by-left = λ g. s .by-left g ∙ some-skip (holdsThen g) e;
       }
 
-  module _ (y : ℕ) (there : y ≡ getD holds (getD after (r * 4096 + n) 0 % 4096) 0) (run : runsAt kept holds guard n ≡ true) where
+  module _ (y : ℕ) (there : y ≡ getD holds (getD after (r * 4096 + n) 0 % 4096) 0) (run : runsAt kept holds guard n
+      ≡ true) where
     some-more :
         (test : ℕ → ℕ → Bool)
-        → (test (getD holds n 0) y || someAt kept holds after n guard r test) ≡ someAt kept holds after (n + 1) guard r test
+        → (test (getD holds n 0) y || someAt kept holds after n guard r test)
+        ≡ someAt kept holds after (n + 1) guard r test
     unfolding someAt
     some-more test = sym (any-next n _ ∙ rw (run, there))
 
@@ -59,8 +61,10 @@ module _ (kept holds after : List ℕ) (guard r n : ℕ) where
     unfolding rises neither holdsThen
     swept-more w s =
         record {
-          by-raised = λ g. rw (member-or, member-xor, member-or, s .by-raised g, bit-new (member x g) (member y g)) (some-more (rises g));
-          by-covered = λ g h. rw (member-and, member-or, s .by-covered g h, bit-still (member x g || member y g) _) (ap not (some-more _));
+          by-raised = λ g. rw (member-or, member-xor, member-or, s .by-raised g, bit-new (member x g) (member y g))
+              (some-more (rises g));
+          by-covered = λ g h. rw (member-and, member-or, s .by-covered g h, bit-still (member x g || member y g) _)
+              (ap not (some-more _));
           by-left = λ g. rw (member-or, s .by-left g) (some-more (holdsThen g));
         }
       where
@@ -79,7 +83,8 @@ swept-none kept holds after guard r =
 pub wide-more :
     (kept holds after guardOf : List ℕ) (states n own wide : ℕ) (w : Sweep) → own ≡ getD guardOf n 0 % 16 → own < 16
     → Swept kept holds after states own n w → ((g : ℕ) → member wide g ≡ wideAt kept holds after guardOf states n g)
-    → (g : ℕ) → member (bitOr (bitAnd (1 * 2 ^ own % 65536) (w .left)) wide) g ≡ wideAt kept holds after guardOf states (n + 1) g
+    → (g : ℕ) → member (bitOr (bitAnd (1 * 2 ^ own % 65536) (w .left)) wide) g
+    ≡ wideAt kept holds after guardOf states (n + 1) g
 unfolding wideAt
 wide-more kept holds after guardOf states n own wide w e h s all g =
     rw (member-or, member-and, bit-of own h, member-one own g, s .by-left g, all g, e) (sym (any-next n _))
@@ -87,7 +92,8 @@ wide-more kept holds after guardOf states n own wide w e h s all g =
 -- a sweep's entries are those of its region
 pub swept-code :
     (kept holds after guardOf : List ℕ) (states regions r wide g : ℕ) (w : Sweep)
-    → Swept kept holds after states (getD guardOf r 0 % 16) r w → member wide g ≡ wideAt kept holds after guardOf states regions g
+    → Swept kept holds after states (getD guardOf r 0 % 16) r w → member wide g
+    ≡ wideAt kept holds after guardOf states regions g
     → g < 16 → sweptCode w wide g ≡ codeAt kept holds after guardOf states regions r g
 unfolding sweptCode codeAt
 swept-code kept holds after guardOf states regions r wide g w s e h = rw (s .by-raised g, s .by-covered g h, e)

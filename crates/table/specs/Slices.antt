@@ -1,5 +1,5 @@
--- What the code works out from the slices alone, and what entries held as numbers spell: the promises of the inner functions.
--- `proofs/Monitors.antt` ties these to a monitor that the slices hold.
+-- What the code works out from the slices alone, and what entries held as numbers spell: the promises of the inner
+-- functions. `proofs/Monitors.antt` ties these to a monitor that the slices hold.
 use Prim.Native.Nat.{ℕ, zero, suc, _+_, _*_, _/_, _%_, _<_}
 use mathlib.Core.Path.{_≡_}
 use mathlib.Core.Bool.{Bool, true, false, not, _&&_, _||_}
@@ -17,7 +17,8 @@ use Rattle.table.specs.declared.Sweep.{Sweep}
 unfoldable pub runsAt : (kept holds : List ℕ) (guard s : ℕ) → Bool
 runsAt kept holds guard s = eqb (getD kept s 0) 1 && member (getD holds s 0) guard
 
--- from one of the first n states, region r's body leads to a state such that a test of the two states' sets of guards passes
+-- from one of the first n states, region r's body leads to a state such that a test of the two states' sets of guards
+-- passes
 unfoldable pub someAt : (kept holds after : List ℕ) (n guard r : ℕ) → (ℕ → ℕ → Bool) → Bool
 someAt kept holds after n guard r test =
     any n (λ s. runsAt kept holds guard s && test (getD holds s 0) (getD holds (getD after (r * 4096 + s) 0 % 4096) 0))
@@ -51,7 +52,8 @@ module _ (kept holds after guardOf : List ℕ) (states : ℕ) where
   -- one of the first n regions has guard g and leaves it true
   unfoldable pub wideAt : (n g : ℕ) → Bool
   wideAt n g =
-      any n (λ w. eqb g (getD guardOf w 0 % 16) && someAt kept holds after states (getD guardOf w 0 % 16) w (holdsThen g))
+      any n (λ w. eqb g (getD guardOf w 0 % 16) && someAt kept holds after states (getD guardOf w 0 % 16) w
+      (holdsThen g))
 
   -- the entry of a region and a guard, of so many regions, as a number
   unfoldable pub codeAt : (regions r g : ℕ) → ℕ

@@ -13,7 +13,8 @@ unfoldable pub placedOf : List ℕ → List ℕ → Placed
 placedOf table buffer = elim (ltb (length buffer) (length table)) [ true ↦ Short | false ↦ Length (length table) ]
 
 unfoldable pub bufferOf : List ℕ → List ℕ → List ℕ
-bufferOf table buffer = elim (ltb (length buffer) (length table)) [ true ↦ buffer | false ↦ table ++ drop (length table) buffer ]
+bufferOf table buffer =
+    elim (ltb (length buffer) (length table)) [ true ↦ buffer | false ↦ table ++ drop (length table) buffer ]
 
 pub record WritesTable (table before : List ℕ) (r : Placed) (after : List ℕ) : Type 0 where
   pub answer : r ≡ placedOf table before

@@ -29,8 +29,8 @@ fn state(x: u16) -> usize
     x as usize % 4096
 }
 
-// What a region's body does to guards over the states it may run from, as sets: those that it makes true from some state, those that
-// hold before or after it from every state, and those that hold after it from some state.
+// What a region's body does to guards over the states it may run from, as sets: those that it makes true from some
+// state, those that hold before or after it from every state, and those that hold after it from some state.
 struct Sweep {
     raised: u16,
     covered: u16,
@@ -138,7 +138,8 @@ fn fill_regions(
 )
     requires { ⌜ (states ≤ 4096) × (regions ≤ 16) × (guards ≤ 16) × (length (now entries) ≡ 256) ⌝ }
     ensures { λ _. ⌜ ((r : ℕ) → r < regions → (g : ℕ) → g < guards → getD (now (entries .exit)) (r * 16 + g) 0
-        ≡ codeAt (now (kept .entry)) (now (holds .entry)) (now (after .entry)) (now («guard_of» .entry)) states regions r g) ⌝ }
+        ≡ codeAt (now (kept .entry)) (now (holds .entry)) (now (after .entry)) (now («guard_of» .entry)) states regions
+        r g) ⌝ }
 {
     let mut sweeps = [Sweep {
         raised: 0,

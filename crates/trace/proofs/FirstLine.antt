@@ -1,5 +1,5 @@
--- Laws of the first line of some bytes, by cutting them at each 0A: it is a frame's exactly where six digits of a frame's values and
--- then 0A come first; after a frame, the lines go on seven bytes further.
+-- Laws of the first line of some bytes, by cutting them at each 0A: it is a frame's exactly where six digits of a
+-- frame's values and then 0A come first; after a frame, the lines go on seven bytes further.
 use Prim.Native.Nat.{ℕ, zero, suc, _+_, _*_, _-_, _≤_, _<_}
 use native.Mathlib.Omega.{arith}
 use native.Mathlib.Numerals.{add-one}
@@ -13,7 +13,8 @@ use lib.Seq.{append-snoc, drop-cons, drop-drop, getD-drop}
 use lib.Dec.{eqb}
 use borrow.Author.Tests.{eqb-true, eq-eqb, lt-ltb, ltb-true}
 use Rattle.machine.specs.Monitor as machine
-use Rattle.meaning.specs.Decide.Frames.{ended, linesFrom, isHex, hexValue, allHex, pairAt, isFrame, frameOf, Frames, frames, none-at, prepend, framesFrom, framesOf}
+use Rattle.meaning.specs.Decide.Frames.{ended, linesFrom, isHex, hexValue, allHex, pairAt, isFrame, frameOf, Frames}
+use Rattle.meaning.specs.Decide.Frames.{frames, none-at, prepend, framesFrom, framesOf}
 use Rattle.meaning.specs.Decide.Frames as meaning
 use Rattle.meaning.proofs.Digits.{decides-hex, low-value, high-value, pair-digits}
 use Rattle.meaning.proofs.Frames.{frameAt, is-frame}
@@ -49,7 +50,8 @@ pub digit-high : (b : ℕ) → 65 ≤ b → b ≤ 70 → b - 55 ≡ digitOf b
 digit-high b h g = let l : 57 < b = omega arith in rw (digit-is b (decides-hex b .1 (inr (h, g))), high-value b l)
 
 pub digit-other : (b : ℕ) → (48 ≤ b → b ≤ 57 → ⊥) → (65 ≤ b → b ≤ 70 → ⊥) → 16 ≡ digitOf b
-digit-other b h g = sym (digit-none b (is-false (λ e. ⊎-elim (λ p. h (p .0) (p .1)) (λ p. g (p .0) (p .1)) (decides-hex b .0 e))))
+digit-other b h g =
+    sym (digit-none b (is-false (λ e. ⊎-elim (λ p. h (p .0) (p .1)) (λ p. g (p .0) (p .1)) (decides-hex b .0 e))))
 
 pair-is : (a b : ℕ) → isHex a ≡ true → isHex b ≡ true → pairOf a b ≡ hexValue a * 16 + hexValue b
 unfolding pairOf
@@ -99,7 +101,8 @@ frame-tests bs h =
 tests-frame : (bs : List ℕ) → Tests bs → isFrame bs ≡ true
 unfolding isFrame
 tests-frame bs t =
-    and (and (and (eq-eqb _ _ (t .six)) (t .hex)) (lt-ltb (pairAt bs 0) 16 (t .thread))) (lt-ltb (pairAt bs 4) 2 (t .flag))
+    and (and (and (eq-eqb _ _ (t .six)) (t .hex)) (lt-ltb (pairAt bs 0) 16 (t .thread)))
+    (lt-ltb (pairAt bs 4) 2 (t .flag))
 
 no-tests : (bs : List ℕ) → (Tests bs → ⊥) → frameOf (ended bs) ≡ none
 unfolding frameOf
@@ -112,7 +115,8 @@ hex-both b bs = both (isHex b) (allHex bs)
 module _ (a b c d p q : ℕ) where
   -- six bytes whose pairs are in a frame's ranges
   pub six-frame : pairOf a b ≤ 15 → pairOf c d ≤ 255 → pairOf p q ≤ 1
-      → lineFor (frameOf (ended (a ∷ b ∷ c ∷ d ∷ p ∷ q ∷ []))) ≡ line.Frame (pairOf a b) (pairOf c d) (eqb (pairOf p q) 1)
+      → lineFor (frameOf (ended (a ∷ b ∷ c ∷ d ∷ p ∷ q ∷ [])))
+      ≡ line.Frame (pairOf a b) (pairOf c d) (eqb (pairOf p q) 1)
   unfolding allHex pairAt frameAt lineFor
   six-frame h g f =
       let x = pair-hex a b (omega arith) in
@@ -130,7 +134,8 @@ module _ (a b c d p q : ℕ) where
       rw (is-frame (a ∷ b ∷ c ∷ d ∷ p ∷ q ∷ []) (tests-frame _ t), x₂, y₂, z₂)
 
   -- and six bytes whose pairs are not
-  pub six-none : (pairOf a b ≤ 15 → pairOf c d ≤ 255 → pairOf p q ≤ 1 → ⊥) → lineFor (frameOf (ended (a ∷ b ∷ c ∷ d ∷ p ∷ q ∷ []))) ≡ line.Bad
+  pub six-none : (pairOf a b ≤ 15 → pairOf c d ≤ 255 → pairOf p q ≤ 1 → ⊥)
+      → lineFor (frameOf (ended (a ∷ b ∷ c ∷ d ∷ p ∷ q ∷ []))) ≡ line.Bad
   unfolding pairAt lineFor
   six-none n =
       rw (no-tests (a ∷ b ∷ c ∷ d ∷ p ∷ q ∷ []) (λ t.
@@ -147,7 +152,8 @@ module _ (a b c d p q : ℕ) where
 
 -- The first line of some bytes, after those of a line that has begun
 
-ends-here : (begun bs : List ℕ) (b : ℕ) → eqb b 10 ≡ true → linesFrom begun (b ∷ bs) ≡ ended (reverse begun) ∷ linesFrom [] bs
+ends-here : (begun bs : List ℕ) (b : ℕ) → eqb b 10 ≡ true → linesFrom begun (b ∷ bs)
+    ≡ ended (reverse begun) ∷ linesFrom [] bs
 unfolding linesFrom
 ends-here begun bs b h = rw (linesFrom, h)
 
@@ -167,7 +173,8 @@ bad-first [] [] l h = absurd (omega arith)
 bad-first (a ∷ begun) [] l h = refl
 bad-first begun (b ∷ bs) l h = split (eqb b 10)
     (λ e. rw (ends-here begun bs b e, begun-bytes begun (λ s. h 0 (omega arith) (omega arith) (eqb-true b 10 e))))
-    (λ e. rw (goes-on begun bs b e) (bad-first (b ∷ begun) bs (omega arith) (λ k p q. h (suc k) (omega arith) (omega arith))))
+    (λ e. rw (goes-on begun bs b e)
+    (bad-first (b ∷ begun) bs (omega arith) (λ k p q. h (suc k) (omega arith) (omega arith))))
 
 -- six bytes and then 0A are read as these six: a 0A among them is no digit
 ten-digit : isHex 10 ≡ false
@@ -187,8 +194,14 @@ six-first : (begun bs more : List ℕ) → length begun + length bs ≡ 6
 unfolding firstOf linesFrom
 six-first begun [] more l = rw append-nil
 six-first begun (b ∷ bs) more l = split (eqb b 10)
-    (λ e. rw (ends-here begun (bs ++ 10 ∷ more) b e, begun-bytes begun (omega arith), eqb-true b 10 e, ten-none (reverse begun) bs))
-    (λ e. rw (goes-on begun (bs ++ 10 ∷ more) b e) (six-first (b ∷ begun) bs more (omega arith) ∙ rw (reverse-cons, append-snoc)))
+    (λ e. rw (
+      ends-here begun (bs ++ 10 ∷ more) b e,
+      begun-bytes begun (omega arith),
+      eqb-true b 10 e,
+      ten-none (reverse begun) bs,
+    ))
+    (λ e. rw (goes-on begun (bs ++ 10 ∷ more) b e) (six-first (b ∷ begun) bs more (omega arith)
+    ∙ rw (reverse-cons, append-snoc)))
 
 -- Where the first line is a frame, it ends k bytes further, and the others begin there
 
@@ -204,12 +217,15 @@ some-frame : {t r : ℕ} {f : Bool} (bs : List ℕ) → lineFor (frameOf (ended 
 unfolding lineFor frameOf
 some-frame bs h = is-true (λ e. let h₂ = rw (frameOf, e) at h in different (cc))
 
-next-first : {t r : ℕ} {f : Bool} (k : ℕ) (begun bs : List ℕ) → k + length begun ≡ 6 → firstOf (linesFrom begun bs) ≡ line.Frame t r f
+next-first : {t r : ℕ} {f : Bool} (k : ℕ) (begun bs : List ℕ) → k + length begun ≡ 6 → firstOf (linesFrom begun bs)
+    ≡ line.Frame t r f
     → Next begun bs (suc k)
 unfolding firstOf linesFrom frameOf lineFor
 next-first k [] [] l h = different (cc)
 next-first k (a ∷ begun) [] l h = different (cc)
-next-first k begun (b ∷ bs) l h = split (eqb b 10) (λ e. here k l e) (λ e. further k l e (λ j m. next-first j (b ∷ begun) bs m (rw (goes-on begun bs b e) at h)))
+next-first k begun (b ∷ bs) l h =
+    split (eqb b 10) (λ e. here k l e)
+    (λ e. further k l e (λ j m. next-first j (b ∷ begun) bs m (rw (goes-on begun bs b e) at h)))
   where
     here : (k : ℕ) → k + length begun ≡ 6 → eqb b 10 ≡ true → Next begun (b ∷ bs) (suc k)
     here k l e =
@@ -224,13 +240,21 @@ next-first k begun (b ∷ bs) l h = split (eqb b 10) (λ e. here k l e) (λ e. f
           fits = omega arith;
         }
 
-    further : (k : ℕ) → k + length begun ≡ 6 → eqb b 10 ≡ false → ((j : ℕ) → j + length (b ∷ begun) ≡ 6 → Next (b ∷ begun) bs (suc j)) → Next begun (b ∷ bs) (suc k)
+    further : (k : ℕ) → k + length begun ≡ 6 → eqb b 10 ≡ false
+        → ((j : ℕ) → j + length (b ∷ begun) ≡ 6 → Next (b ∷ begun) bs (suc j)) → Next begun (b ∷ bs) (suc k)
     further zero l e rest =
         let h₂ = rw (goes-on begun bs b e) at h in
         let n = bad-first (b ∷ begun) bs (omega arith) (λ k p q. omega arith) in different (cc)
     further (suc j) l e rest =
         let r = rest j (omega arith) in
-        record { its = r .its; frame = r .frame; is = r .is; lines = goes-on begun bs b e ∙ r .lines; fits = omega (arith, r .fits) }
+        record {
+          its = r .its;
+          frame = r .frame;
+          is = r .is;
+          lines = goes-on begun bs b e ∙ r .lines;
+          fits =
+              omega (arith, r .fits);
+        }
 
 -- The line at a byte of a trace
 
@@ -238,7 +262,8 @@ pub line-end : (trace : List ℕ) (at : ℕ) → length trace ≤ at → line.En
 unfolding lineAt firstOf linesFrom
 line-end trace at h = rw (drop-of-length-le trace h)
 
-pub line-bad : (trace : List ℕ) (at : ℕ) → at < length trace → (at + 6 < length trace → getD trace (at + 6) 0 ≡ 10 → ⊥) → line.Bad ≡ lineAt trace at
+pub line-bad : (trace : List ℕ) (at : ℕ) → at < length trace → (at + 6 < length trace → getD trace (at + 6) 0 ≡ 10 → ⊥)
+    → line.Bad ≡ lineAt trace at
 unfolding lineAt
 line-bad trace at l h =
     let n = length-drop at trace in
@@ -248,7 +273,8 @@ line-bad trace at l h =
 -- the six bytes from a byte on
 sixAt : List ℕ → ℕ → List ℕ
 sixAt trace at =
-    getD trace at 0 ∷ getD trace (at + 1) 0 ∷ getD trace (at + 2) 0 ∷ getD trace (at + 3) 0 ∷ getD trace (at + 4) 0 ∷ getD trace (at + 5) 0 ∷ []
+    getD trace at 0 ∷ getD trace (at + 1) 0 ∷ getD trace (at + 2) 0 ∷ getD trace (at + 3) 0 ∷ getD trace (at + 4) 0 ∷
+    getD trace (at + 5) 0 ∷ []
 
 drop-one : (l : List ℕ) (i : ℕ) → i < length l → drop i l ≡ getD l i 0 ∷ drop (i + 1) l
 drop-one l i h = rw add-one (drop-cons l i 0 h)
@@ -256,7 +282,8 @@ drop-one l i h = rw add-one (drop-cons l i 0 h)
 drop-next : (l : List ℕ) (i k : ℕ) → i + k < length l → drop (i + k) l ≡ getD l (i + k) 0 ∷ drop (i + (k + 1)) l
 drop-next l i k h = let e : i + (k + 1) ≡ i + k + 1 = omega arith in rw e (drop-one l (i + k) h)
 
-drop-seven : (trace : List ℕ) (at : ℕ) → at + 6 < length trace → drop at trace ≡ sixAt trace at ++ (getD trace (at + 6) 0 ∷ drop (at + 7) trace)
+drop-seven : (trace : List ℕ) (at : ℕ) → at + 6 < length trace
+    → drop at trace ≡ sixAt trace at ++ (getD trace (at + 6) 0 ∷ drop (at + 7) trace)
 unfolding sixAt
 drop-seven trace at h =
     rw (
@@ -269,7 +296,8 @@ drop-seven trace at h =
       drop-next trace at 6 h,
     )
 
-line-six : (trace : List ℕ) (at : ℕ) → at + 6 < length trace → getD trace (at + 6) 0 ≡ 10 → lineAt trace at ≡ lineFor (frameOf (ended (sixAt trace at)))
+line-six : (trace : List ℕ) (at : ℕ) → at + 6 < length trace → getD trace (at + 6) 0 ≡ 10 → lineAt trace at
+    ≡ lineFor (frameOf (ended (sixAt trace at)))
 unfolding lineAt sixAt
 line-six trace at h e = rw (drop-seven trace at h, e) (six-first [] (sixAt trace at) (drop (at + 7) trace) refl)
 
@@ -281,12 +309,14 @@ pub record PairsAt (trace : List ℕ) (at t r f : ℕ) : Type 0 where
   pub region : r ≡ pairOf (getD trace (at + 2) 0) (getD trace (at + 3) 0)
   pub flag : f ≡ pairOf (getD trace (at + 4) 0) (getD trace (at + 5) 0)
 
-pub line-frame : {trace : List ℕ} {at t r f : ℕ} → PairsAt trace at t r f → t ≤ 15 → r ≤ 255 → f ≤ 1 → line.Frame t r (eqb f 1) ≡ lineAt trace at
+pub line-frame : {trace : List ℕ} {at t r f : ℕ} → PairsAt trace at t r f → t ≤ 15 → r ≤ 255 → f ≤ 1
+    → line.Frame t r (eqb f 1) ≡ lineAt trace at
 unfolding sixAt
 line-frame {trace} {at} p h g e = rw (line-six trace at (p .inside) (p .ends), p .thread, p .region, p .flag)
     (sym (six-frame _ _ _ _ _ _ (rw (p .thread) at h) (rw (p .region) at g) (rw (p .flag) at e)))
 
-pub line-none : {trace : List ℕ} {at t r f : ℕ} → PairsAt trace at t r f → (t ≤ 15 → r ≤ 255 → f ≤ 1 → ⊥) → line.Bad ≡ lineAt trace at
+pub line-none : {trace : List ℕ} {at t r f : ℕ} → PairsAt trace at t r f → (t ≤ 15 → r ≤ 255 → f ≤ 1 → ⊥)
+    → line.Bad ≡ lineAt trace at
 unfolding sixAt
 line-none {trace} {at} p n = rw (line-six trace at (p .inside) (p .ends))
     (sym (six-none _ _ _ _ _ _ (rw (p .thread, p .region, p .flag) at n)))
@@ -319,7 +349,8 @@ pub record LeftNext (trace : List ℕ) (at n : ℕ) : Type 0 where
   pub same : leftFrom trace at n ≡ leftFrom trace (at + 7) (n + 1)
   pub fits : at + 7 ≤ length trace
 
-pub left-frame : {t r : ℕ} {f : Bool} (trace : List ℕ) (at n : ℕ) → line.Frame t r f ≡ lineAt trace at → LeftNext trace at n
+pub left-frame : {t r : ℕ} {f : Bool} (trace : List ℕ) (at n : ℕ) → line.Frame t r f ≡ lineAt trace at
+    → LeftNext trace at n
 unfolding lineAt leftFrom framesFrom
 left-frame trace at n h =
     let x = next-first 6 [] (drop at trace) refl (sym h) in

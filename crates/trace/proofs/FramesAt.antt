@@ -1,5 +1,5 @@
--- A trace whose lines are all frames: its i-th frame is what the code finds behind the ends of the lines before it, which is byte
--- 7 * i, and its end at 7 times their number.
+-- A trace whose lines are all frames: its i-th frame is what the code finds behind the ends of the lines before it,
+-- which is byte 7 * i, and its end at 7 times their number.
 use Prim.Native.Nat.{ℕ, zero, suc, _+_, _*_, _/_, _%_, _<_, _≤_}
 use native.Mathlib.Omega.{arith}
 use mathlib.Core.Path.{_≡_, refl, sym, subst, ap, _∙_}
@@ -41,13 +41,15 @@ firstFrame : List machine.Frame → code.Line
 firstFrame [] = line.End
 firstFrame (f ∷ fs) = lineFor (some f)
 
-first-frame : (k : ℕ) (ls : List meaning.Line) (fs : List machine.Frame) → framesFrom k ls ≡ frames fs → firstOf ls ≡ firstFrame fs
+first-frame : (k : ℕ) (ls : List meaning.Line) (fs : List machine.Frame) → framesFrom k ls ≡ frames fs
+    → firstOf ls ≡ firstFrame fs
 unfolding framesFrom prepend firstOf firstFrame
 first-frame k [] [] e = refl
 first-frame k [] (f ∷ fs) e = different (cc)
 first-frame k (l ∷ ls) fs e = go (frameOf l) refl (framesFrom (k + 1) ls) refl fs e
   where
-    go : (o : Option machine.Frame) → frameOf l ≡ o → (r : Frames) → framesFrom (k + 1) ls ≡ r → (fs : List machine.Frame) → framesFrom k (l ∷ ls) ≡ frames fs → lineFor (frameOf l) ≡ firstFrame fs
+    go : (o : Option machine.Frame) → frameOf l ≡ o → (r : Frames) → framesFrom (k + 1) ls ≡ r
+        → (fs : List machine.Frame) → framesFrom k (l ∷ ls) ≡ frames fs → lineFor (frameOf l) ≡ firstFrame fs
     go none p r q fs e = let e₂ = rw (framesFrom, p) at e in different (cc)
     go (some f) p (none-at j) q fs e = let e₂ = rw (framesFrom, p, q) at e in different (cc)
     go (some f) p (frames gs) q [] e = let e₂ = rw (framesFrom, p, q) at e in different (cc)
@@ -75,13 +77,15 @@ records-drop zero r = r
 records-drop (suc i) no-frame = no-frame
 records-drop (suc i) (one-frame h r) = records-drop i r
 
-record-at : {fs : List machine.Frame} (d : machine.Frame) (i : ℕ) → FrameRecords fs → i < length fs → IsFrameRecord (getD fs i d)
+record-at : {fs : List machine.Frame} (d : machine.Frame) (i : ℕ) → FrameRecords fs → i < length fs
+    → IsFrameRecord (getD fs i d)
 record-at d i no-frame h = absurd (omega arith)
 record-at d zero (one-frame h r) l = h
 record-at d (suc i) (one-frame h r) l = record-at d i r (omega arith)
 
 -- what the code finds at the i-th line
-line-of : (fs : List machine.Frame) (i : ℕ) → FrameRecords fs → lineAt (linesOf fs) (startOf fs i) ≡ firstFrame (drop i fs)
+line-of : (fs : List machine.Frame) (i : ℕ) → FrameRecords fs → lineAt (linesOf fs) (startOf fs i)
+    ≡ firstFrame (drop i fs)
 unfolding lineAt framesOf
 line-of fs i r =
     rw (lines-drop fs i) (first-frame 0 _ _ (frames-read (linesOf (drop i fs)) (drop i fs) .1 (records-drop i r, refl)))
@@ -106,7 +110,8 @@ flag-byte true more = refl
 flag-byte false more = refl
 
 -- the numbers of a frame's line, whatever follows it
-line-numbers : (trace more : List ℕ) (at : ℕ) (f : machine.Frame) → IsFrameRecord f → drop at trace ≡ frameLine f ++ more
+line-numbers : (trace more : List ℕ) (at : ℕ) (f : machine.Frame) → IsFrameRecord f
+    → drop at trace ≡ frameLine f ++ more
     → numbersAt trace at ≡ record { thread = f .thread; region = f .region; flag = f .flag }
 unfolding IsFrameRecord frameLine hex2 numbersAt
 line-numbers trace more at f ok e =
@@ -114,9 +119,12 @@ line-numbers trace more at f ok e =
     let room : at + 7 ≤ length trace = omega (arith, length-drop at trace, ap length e) in
     let byte : (k : ℕ) → getD trace (at + k) 0 ≡ getD (frameLine f ++ more) k 0 =
     λ k. sym (getD-drop at trace k 0) ∙ ap (λ (bs : List ℕ). getD bs k 0) e in
-    let one : valueOf (getD trace (at + 1) 0) ≡ f .thread % 16 = ap valueOf (byte 1) ∙ value-digit (f .thread % 16) (omega arith) in
-    let two : valueOf (getD trace (at + 2) 0) ≡ f .region / 16 = ap valueOf (byte 2) ∙ value-digit (f .region / 16) (omega arith) in
-    let three : valueOf (getD trace (at + 3) 0) ≡ f .region % 16 = ap valueOf (byte 3) ∙ value-digit (f .region % 16) (omega arith) in
+    let one : valueOf (getD trace (at + 1) 0) ≡ f .thread % 16 =
+    ap valueOf (byte 1) ∙ value-digit (f .thread % 16) (omega arith) in
+    let two : valueOf (getD trace (at + 2) 0) ≡ f .region / 16 =
+    ap valueOf (byte 2) ∙ value-digit (f .region / 16) (omega arith) in
+    let three : valueOf (getD trace (at + 3) 0) ≡ f .region % 16 =
+    ap valueOf (byte 3) ∙ value-digit (f .region % 16) (omega arith) in
     let five : eqb (getD trace (at + 5) 0) 49 ≡ f .flag =
     ap (λ (b : ℕ). eqb b 49) (byte 5) ∙ flag-byte (f .flag) more in
     let thread : f .thread % 16 ≡ f .thread = omega arith in

@@ -1,4 +1,5 @@
-// Reads the frames of a trace: the line at a byte, and how many frames a whole trace has or its first line that is none (12).
+// Reads the frames of a trace: the line at a byte, and how many frames a whole trace has or its first line that is none
+// (12).
 ghost use mathlib.Core.Path.{_≡_};
 ghost use Prim.Native.Nat.{_<_};
 ghost use Rattle.trace.specs.Lined.{lineAt, countedOf};

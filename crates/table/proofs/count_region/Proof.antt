@@ -1,4 +1,5 @@
--- `table::count_region` meets its contract. The loop's invariant: nine times the count is the length of the lines passed.
+-- `table::count_region` meets its contract. The loop's invariant: nine times the count is the length of the lines
+-- passed.
 use Prim.Native.Nat.{_*_, _≤_, _-_}
 use mathlib.Core.Path.{_≡_, refl, ap}
 use mathlib.Core.Logic.{⊎-elim}
@@ -66,15 +67,4 @@ returns c =
 pub count-region-spec : {M : Type 1} → statement M
 count-region-spec =
     tie.close
-    (tie.spec
-    Inv-loop
-    μ-loop
-    loop-holds
-    mul-if1
-    add-if1
-    element-copy-out-if1
-    add-n
-    add-g
-    loop-less
-    loop-again
-    returns)
+    (tie.spec Inv-loop μ-loop loop-holds mul-if1 add-if1 element-copy-out-if1 add-n add-g loop-less loop-again returns)

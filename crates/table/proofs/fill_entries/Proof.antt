@@ -1,4 +1,5 @@
--- `table::fill_entries` meets its contract: what the code works out is the monitor's entries. Where a count is too large, no monitor is held.
+-- `table::fill_entries` meets its contract: what the code works out is the monitor's entries. Where a count is too
+-- large, no monitor is held.
 use mathlib.Core.Path.{_∙_}
 use native.Mathlib.Omega.{arith}
 use borrow.Author.Needs.{needs}
@@ -29,9 +30,4 @@ returns-4 c =
 pub fill-entries-spec : {M : Type 1} → statement M
 fill-entries-spec =
     tie.close
-    (tie.spec
-    returns
-    returns-2
-    returns-3
-    (λ c κs. search needs)
-    returns-4)
+    (tie.spec returns returns-2 returns-3 (λ c κs. search needs) returns-4)

@@ -1,4 +1,5 @@
--- `table::fill_region` meets its contract. The loop's invariant: the entries of the guards passed are in place, and those of lower regions are as they were.
+-- `table::fill_region` meets its contract. The loop's invariant: the entries of the guards passed are in place, and
+-- those of lower regions are as they were.
 use Prim.Native.Nat.{ℕ, _+_, _*_, _≤_, _<_, _-_}
 use mathlib.Core.Path.{_≡_, refl, _∙_}
 use native.Mathlib.Omega.{arith}
@@ -45,20 +46,6 @@ returns c = (λ g h. c .before .loop .inv .2 g (omega arith), c .before .loop .i
 pub fill-region-spec : {M : Type 1} → statement M
 fill-region-spec =
     tie.close
-    (tie.spec
-    Inv-loop
-    μ-loop
-    loop-holds
-    (λ c. omega arith)
-    (λ c κs. tt)
-    (λ c κs. tt)
-    (λ c κs. tt)
-    (λ c κs. tt)
-    (λ c. omega arith)
-    (λ c. omega arith)
-    (λ c. omega arith)
-    (λ c. omega arith)
-    (λ c. omega arith)
-    loop-again
-    (λ c. omega arith)
-    returns)
+    (tie.spec Inv-loop μ-loop loop-holds (λ c. omega arith) (λ c κs. tt) (λ c κs. tt) (λ c κs. tt) (λ c κs. tt)
+    (λ c. omega arith) (λ c. omega arith) (λ c. omega arith) (λ c. omega arith) (λ c. omega arith) loop-again
+    (λ c. omega arith) returns)

@@ -1,5 +1,5 @@
--- `table::fill_regions` meets its contract. The first loop's invariant: the sweeps of the regions passed, and the guards that these leave
--- true; the second's: the entries of the regions passed are in place.
+-- `table::fill_regions` meets its contract. The first loop's invariant: the sweeps of the regions passed, and the
+-- guards that these leave true; the second's: the entries of the regions passed are in place.
 use Prim.Native.Nat.{ℕ, _+_, _*_, _%_, _≤_, _<_, _-_}
 use mathlib.Core.Path.{_≡_, refl, _∙_}
 use native.Mathlib.Omega.{arith}
@@ -70,7 +70,8 @@ loop2-again c =
       omega arith,
       below-more _ _ (λ k h g hg. e .fill-region .ensures .1 (k * 16 + g) (omega arith) ∙ q .loop2 .inv .2 k h g hg)
           (λ g hg. e .fill-region .ensures .0 g hg
-          ∙ swept-code _ _ _ _ _ _ r _ g _ (l .loop .inv .2 r (omega arith)) (rw all at (l .loop .inv .3 g)) (omega arith)),
+          ∙ swept-code _ _ _ _ _ _ r _ g _ (l .loop .inv .2 r (omega arith)) (rw all at (l .loop .inv .3 g))
+          (omega arith)),
     )
 
 returns : tie.Need-returns Inv-loop μ-loop Inv-loop2 μ-loop2
@@ -79,28 +80,7 @@ returns c = λ r h g hg. c .before .loop2 .inv .2 r (omega arith) g hg
 pub fill-regions-spec : {M : Type 1} → statement M
 fill-regions-spec =
     tie.close
-    (tie.spec
-    Inv-loop
-    μ-loop
-    Inv-loop2
-    μ-loop2
-    loop-holds
-    (λ c. omega arith)
-    (λ c κs. tt)
-    (λ c κs. omega arith)
-    (λ c. omega arith)
-    (λ c. omega arith)
-    (λ c. omega arith)
-    (λ c. omega arith)
-    (λ c. omega arith)
-    (λ c. omega arith)
-    loop-again
-    loop2-holds
-    (λ c. omega arith)
-    (λ c. omega arith)
-    (λ c κs. omega arith)
-    (λ c. omega arith)
-    (λ c. omega arith)
-    loop2-again
-    (λ c. omega arith)
-    returns)
+    (tie.spec Inv-loop μ-loop Inv-loop2 μ-loop2 loop-holds (λ c. omega arith) (λ c κs. tt) (λ c κs. omega arith)
+    (λ c. omega arith) (λ c. omega arith) (λ c. omega arith) (λ c. omega arith) (λ c. omega arith) (λ c. omega arith)
+    loop-again loop2-holds (λ c. omega arith) (λ c. omega arith) (λ c κs. omega arith) (λ c. omega arith)
+    (λ c. omega arith) loop2-again (λ c. omega arith) returns)

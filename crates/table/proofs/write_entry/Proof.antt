@@ -44,12 +44,4 @@ returns-2 c =
 pub write-entry-spec : {M : Type 1} → statement M
 write-entry-spec =
     tie.close
-    (tie.spec
-    mul-code
-    add-code
-    element-copy-out-code
-    returns
-    write-line-requires
-    add-result
-    same-length
-    returns-2)
+    (tie.spec mul-code add-code element-copy-out-code returns write-line-requires add-result same-length returns-2)

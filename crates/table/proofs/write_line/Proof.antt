@@ -87,29 +87,7 @@ returns c =
 pub write-line-spec : {M : Type 1} → statement M
 write-line-spec =
     tie.close
-    (tie.spec
-    slice-write-table
-    cast-hex-digit
-    hex-digit-requires
-    add-table
-    slice-write-table-2
-    add-table-2
-    slice-write-table-3
-    cast-hex-digit-2
-    hex-digit-requires-2
-    add-table-3
-    slice-write-table-4
-    add-table-4
-    slice-write-table-5
-    add-table-5
-    add-table-6
-    slice-write-table-6
-    add-table-7
-    slice-write-table-7
-    add-table-8
-    add-table-9
-    slice-write-table-8
-    add-table-10
-    slice-write-table-9
-    same-length
-    returns)
+    (tie.spec slice-write-table cast-hex-digit hex-digit-requires add-table slice-write-table-2 add-table-2
+    slice-write-table-3 cast-hex-digit-2 hex-digit-requires-2 add-table-3 slice-write-table-4 add-table-4
+    slice-write-table-5 add-table-5 add-table-6 slice-write-table-6 add-table-7 slice-write-table-7 add-table-8
+    add-table-9 slice-write-table-8 add-table-10 slice-write-table-9 same-length returns)

@@ -65,13 +65,4 @@ returns c =
 pub write-region-spec : {M : Type 1} → statement M
 write-region-spec =
     tie.close
-    (tie.spec
-    Inv-loop
-    μ-loop
-    loop-holds
-    write-entry-requires
-    add-g
-    loop-less
-    loop-again
-    same-length
-    returns)
+    (tie.spec Inv-loop μ-loop loop-holds write-entry-requires add-g loop-less loop-again same-length returns)

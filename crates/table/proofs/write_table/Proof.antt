@@ -78,7 +78,8 @@ unfolding tableAt
 same-length c =
     let q = c .before in
     let a = q .before .before .before .before .before .before .args in
-    turn-length (a .regions) (linesAt (a .entries .now) (a .guards)) (room q) (q .loop .r) (q .loop .inv .0) (q .loop .inv .1)
+    turn-length (a .regions) (linesAt (a .entries .now) (a .guards)) (room q) (q .loop .r) (q .loop .inv .0)
+    (q .loop .inv .1)
 
 returns-4 : tie.Need-returns-4 Inv-loop μ-loop
 unfolding tableAt
@@ -87,23 +88,11 @@ returns-4 c =
     let q = c .before in
     let e : q .loop .r ≡ q .before .before .before .before .before .before .args .regions = omega arith in
     rw (table-is m _ _ _ er eg es)
-    (writes-long _ _ _ _ (omega (arith, room q)) (q .before .before .count .ensures .0) (rw e at (q .loop .inv .0 .bytes)))
+    (writes-long _ _ _ _ (omega (arith, room q)) (q .before .before .count .ensures .0)
+    (rw e at (q .loop .inv .0 .bytes)))
 
 pub write-table-spec : {M : Type 1} → statement M
 write-table-spec =
     tie.close
-    (tie.spec
-    Inv-loop
-    μ-loop
-    returns
-    returns-2
-    count-requires
-    mul-size
-    returns-3
-    loop-holds
-    write-region-requires
-    add-r
-    loop-less
-    loop-again
-    same-length
-    returns-4)
+    (tie.spec Inv-loop μ-loop returns returns-2 count-requires mul-size returns-3 loop-holds write-region-requires add-r
+    loop-less loop-again same-length returns-4)

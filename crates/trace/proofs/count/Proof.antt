@@ -1,5 +1,5 @@
--- `trace::count` meets its contract. The loop's invariant: the frames passed, joined with what is counted from the byte on, are what is
--- counted of the whole. The measure is what is left of the length.
+-- `trace::count` meets its contract. The loop's invariant: the frames passed, joined with what is counted from the byte
+-- on, are what is counted of the whole. The measure is what is left of the length.
 use Prim.Native.Nat.{_≤_, _-_}
 use native.Mathlib.Omega.{arith}
 use mathlib.Core.Path.{_≡_, sym, _∙_}
@@ -18,7 +18,9 @@ abbrev μ-loop : tie.MeasureT-loop
 μ-loop trace at₀ n₀ at n = length trace - at
 
 -- after a frame
-next : (c : tie.After-enum-told Inv-loop μ-loop) → (let h = c .before .before .before .before in LeftNext (now (h .before .before .args .trace)) (h .loop .at) (h .loop .n))
+next : (c : tie.After-enum-told Inv-loop μ-loop)
+    → (let h = c .before .before .before .before in LeftNext (now (h .before .before .args .trace)) (h .loop .at)
+    (h .loop .n))
 next c = left-frame _ _ _ (sym (c .enum-told .given .1) ∙ c .before .before .line-at .ensures)
 
 loop-holds : tie.Need-loop-holds Inv-loop μ-loop
@@ -40,19 +42,25 @@ loop-less : tie.Need-loop-less Inv-loop μ-loop
 loop-less c = let l = next c in omega arith
 
 loop-again : tie.Need-loop-again Inv-loop μ-loop
-loop-again c = let l = next c in (sym (l .same) ∙ c .before .before .before .before .loop .inv .0, omega arith, omega arith)
+loop-again c = let l = next c in (
+  sym (l .same) ∙ c .before .before .before .before .loop .inv .0,
+  omega arith,
+  omega arith,
+)
 
 enum-told-2 : tie.Need-enum-told-2 Inv-loop μ-loop
 enum-told-2 c = search needs
 
 returns : tie.Need-returns Inv-loop μ-loop
-returns c = sym (left-bad _ _ _ (sym (c .enum-told2 .given .1) ∙ c .before .before .line-at .ensures)) ∙ c .before .before .before .before .loop .inv .0
+returns c = sym (left-bad _ _ _ (sym (c .enum-told2 .given .1) ∙ c .before .before .line-at .ensures))
+    ∙ c .before .before .before .before .loop .inv .0
 
 enum-told-3 : tie.Need-enum-told-3 Inv-loop μ-loop
 enum-told-3 c = search needs
 
 returns-2 : tie.Need-returns-2 Inv-loop μ-loop
-returns-2 c = sym (left-end _ _ _ (sym (c .enum-told3 .given .1) ∙ c .before .before .line-at .ensures)) ∙ c .before .before .before .before .loop .inv .0
+returns-2 c = sym (left-end _ _ _ (sym (c .enum-told3 .given .1) ∙ c .before .before .line-at .ensures))
+    ∙ c .before .before .before .before .loop .inv .0
 
 returns-3 : tie.Need-returns-3 Inv-loop μ-loop
 returns-3 c = sym (left-end _ _ _ (line-end _ _ (c .loop-test .left))) ∙ c .before .loop .inv .0
@@ -60,18 +68,5 @@ returns-3 c = sym (left-end _ _ _ (line-end _ _ (c .loop-test .left))) ∙ c .be
 pub count-spec : {M : Type 1} → statement M
 count-spec =
     tie.close
-    (tie.spec
-    Inv-loop
-    μ-loop
-    loop-holds
-    line-at-requires
-    enum-told
-    add-at
-    add-n
-    loop-less
-    loop-again
-    enum-told-2
-    returns
-    enum-told-3
-    returns-2
-    returns-3)
+    (tie.spec Inv-loop μ-loop loop-holds line-at-requires enum-told add-at add-n loop-less loop-again enum-told-2
+    returns enum-told-3 returns-2 returns-3)

@@ -1,4 +1,5 @@
--- `trace::hex_value` meets its contract: at each return the tests that led there say whether the byte is a digit, and which.
+-- `trace::hex_value` meets its contract: at each return the tests that led there say whether the byte is a digit, and
+-- which.
 use native.Mathlib.Omega.{arith}
 use mathlib.Core.Logic.{⊎-elim}
 use borrow.Author.Tests.{leb-true, leb-false}

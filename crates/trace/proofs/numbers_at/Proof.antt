@@ -1,4 +1,5 @@
--- `trace::numbers_at` meets its contract: past the last line that fits all is 0, else the bytes' values are the definition's.
+-- `trace::numbers_at` meets its contract: past the last line that fits all is 0, else the bytes' values are the
+-- definition's.
 use native.Mathlib.Omega.{arith}
 use mathlib.Core.Logic.{⊎-elim}
 use borrow.Author.Tests.{ltb-true, ltb-false}
@@ -55,26 +56,16 @@ shared-slice-read-t23 c = omega (arith, ltb-false)
 returns-2 : tie.Need-returns-2
 returns-2 c =
     let three = c .before in
-    rw (three .digit3 .ensures .0, three .before .before .digit2 .ensures .0, three .before .before .before .before .digit .ensures .0)
+    rw (
+      three .digit3 .ensures .0,
+      three .before .before .digit2 .ensures .0,
+      three .before .before .before .before .digit .ensures .0,
+    )
     (numbers-there _ _ (omega (arith, ltb-false)))
 
 pub numbers-at-spec : {M : Type 1} → statement M
 numbers-at-spec =
     tie.close
-    (tie.spec
-    sub-if2
-    returns
-    add-digit
-    shared-slice-read-digit
-    digit-requires
-    add-digit-2
-    shared-slice-read-digit-2
-    digit-requires-2
-    mul-t15
-    add-digit-3
-    shared-slice-read-digit-3
-    digit-requires-3
-    add-t20
-    add-t21
-    shared-slice-read-t23
-    returns-2)
+    (tie.spec sub-if2 returns add-digit shared-slice-read-digit digit-requires add-digit-2 shared-slice-read-digit-2
+    digit-requires-2 mul-t15 add-digit-3 shared-slice-read-digit-3 digit-requires-3 add-t20 add-t21
+    shared-slice-read-t23 returns-2)

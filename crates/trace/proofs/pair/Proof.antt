@@ -43,12 +43,4 @@ returns-2 c =
 pub pair-spec : {M : Type 1} → statement M
 pair-spec =
     tie.close
-    (tie.spec
-    hex-value-requires
-    hex-value-requires-2
-    returns
-    cast-result
-    mul-result
-    cast-result-2
-    add-result
-    returns-2)
+    (tie.spec hex-value-requires hex-value-requires-2 returns cast-result mul-result cast-result-2 add-result returns-2)
