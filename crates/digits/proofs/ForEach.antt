@@ -1,4 +1,5 @@
--- `forEach`, which joins what a function gives for 0, 1, ..: one number more at the end, its length, and functions that give the same.
+-- `forEach`, which joins what a function gives for 0, 1, ..: one number more at the end, its length, and functions that
+-- give the same.
 use Prim.Native.Nat.{ℕ, zero, suc, _+_, _*_, _<_, _≤_}
 use mathlib.Core.Path.{_≡_, refl}
 use mathlib.Core.Logic.{⊎-elim}

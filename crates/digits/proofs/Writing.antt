@@ -1,5 +1,5 @@
--- One list written behind another: stores from a place on, two and four lists in turn, and a loop that writes what a function gives
--- for 0, 1, ..
+-- One list written behind another: stores from a place on, two and four lists in turn, and a loop that writes what a
+-- function gives for 0, 1, ..
 use Prim.Native.Nat.{ℕ, suc, _+_, _*_, _/_, _%_, _<_, _≤_}
 use mathlib.Core.Path.{_≡_, refl, ap, _∙_}
 use mathlib.Core.List.{List, [], _∷_, _++_, append-assoc}
@@ -85,8 +85,8 @@ written-four one two three four fits =
     written-more one (omega arith)
     (written-more two (omega (arith, one .behind)) (written-more three (omega (arith, one .behind, two .behind)) four))
 
--- A loop that writes what f gives for 0, 1, .. n - 1 over d from a place on, one behind the other: e is the list after k turns
--- and p the place behind them
+-- A loop that writes what f gives for 0, 1, .. n - 1 over d from a place on, one behind the other: e is the list after
+-- k turns and p the place behind them
 module _ (n : ℕ) (f : ℕ → List ℕ) {d e : List ℕ} {at p : ℕ} (fits : at + length (forEach n 0 f) ≤ length d) (k : ℕ)
     (done : Writes (forEach k 0 f) d at p e) where
   pub turn-length : k ≤ n → length e ≡ length d

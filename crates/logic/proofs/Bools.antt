@@ -1,5 +1,5 @@
--- Tests taken apart: the two cases of a test, what a true or false conjunction, disjunction and negation say, and tests that
--- decide a proposition, closed under these.
+-- Tests taken apart: the two cases of a test, what a true or false conjunction, disjunction and negation say, and tests
+-- that decide a proposition, closed under these.
 use Prim.Native.Nat.{ℕ, _≤_}
 use native.Mathlib.Omega.{arith}
 use mathlib.Core.Path.{_≡_, refl, sym, ap, _∙_}

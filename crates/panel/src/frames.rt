@@ -62,7 +62,8 @@ fn print_frame(file: &[u8], sheet: Sheet, k: usize, before: Run, frame: Frame, n
     );
 }
 
-// A machine's line after a frame: its record, or why it refuses the frame. The forms are in the order of the reasons' kinds.
+// A machine's line after a frame: its record, or why it refuses the frame. The forms are in the order of the reasons'
+// kinds.
 fn print_machine(machine: u8, file: &[u8], sheet: Sheet, frame: Frame, run: Run, reason: Reason) {
     let bounds = sheet.bounds;
     let values = variables::values_of(bounds, run.state as usize);

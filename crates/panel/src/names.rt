@@ -12,8 +12,8 @@ const WAITUNTIL: u8 = 24;
 // The columns of a long guard that stand in a sentence.
 const SHORT: usize = 32;
 
-// As bytes of the file: of each region its method's name and its guard, and which region of its method it is, from 1. While it
-// is read: the method that the reading is in, and how many regions of it are passed.
+// As bytes of the file: of each region its method's name and its guard, and which region of its method it is, from 1.
+// While it is read: the method that the reading is in, and how many regions of it are passed.
 struct Regions {
     count: usize,
     names: [u16; 16],

@@ -295,8 +295,8 @@ fn print_line(answer: Answer) {
     text::print(&out, end);
 }
 
-// A refused file, with the tokens into which it is cut, if it is. The names are told for 9 alone; the body is run again to say what
-// it does.
+// A refused file, with the tokens into which it is cut, if it is. The names are told for 9 alone; the body is run again
+// to say what it does.
 pub(crate) fn show(file: &[u8], kinds: &[u8], values: &mut [u16], places: &[u16], answer: Answer) {
     let declared = variables::read(kinds, values, 3);
     let bounds = declared.bounds;

@@ -104,7 +104,8 @@ fn fits(at: usize, bytes: usize) -> bool {
     }
 }
 
-// Room for some bytes, behind a space if it is wanted: where they do not fit, the line is written and the next one begun.
+// Room for some bytes, behind a space if it is wanted: where they do not fit, the line is written and the next one
+// begun.
 pub(crate) fn room(line: Text, bytes: usize, space: bool) -> Text {
     if fits(line.at, bytes) {
         return put_if(line, b' ', space);

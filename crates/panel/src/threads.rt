@@ -6,7 +6,8 @@ use stepper::Place;
 use stepper::Run;
 use stepper::Thread;
 
-// Why a frame is refused, with the thread that is in its way and the region at which that thread, or the frame's own, stands.
+// Why a frame is refused, with the thread that is in its way and the region at which that thread, or the frame's own,
+// stands.
 pub(crate) struct Reason {
     pub(crate) kind: usize,
     pub(crate) thread: u8,
@@ -16,7 +17,8 @@ pub(crate) struct Reason {
 // The frame is taken.
 const TAKEN: usize = 0;
 
-// 13: the file has no such region; another thread is due; the region begins no method; the thread waits, or is due, elsewhere.
+// 13: the file has no such region; another thread is due; the region begins no method; the thread waits, or is due,
+// elsewhere.
 const NO_REGION: usize = 1;
 
 const OTHER_DUE: usize = 2;

@@ -1,5 +1,5 @@
-// Sentences. A form is a text with marks: a mark is @ and a letter, and stands for a name or a number. Of several forms, between
-// which # stands, one is chosen by its number.
+// Sentences. A form is a text with marks: a mark is @ and a letter, and stands for a name or a number. Of several
+// forms, between which # stands, one is chosen by its number.
 use crate::names;
 use crate::names::Sheet;
 use crate::text;
@@ -21,7 +21,8 @@ pub(crate) struct Args {
     pub(crate) guard: usize,
     // @v: a variable
     pub(crate) variable: usize,
-    // @a, @b, @c: three numbers; @x, @y, @z: the same as values that are held with 128 added; @A: the same as an answer's line
+    // @a, @b, @c: three numbers; @x, @y, @z: the same as values that are held with 128 added; @A: the same as an
+    // answer's line
     pub(crate) a: usize,
     pub(crate) b: usize,
     pub(crate) c: usize,

@@ -1,5 +1,5 @@
-// Replays the second program's cases from one data file, and prints for each what placer and runner print. A case is the length of
-// a monitor file and of a trace, four bytes each, the lowest first, and then both.
+// Replays the second program's cases from one data file, and prints for each what placer and runner print. A case is
+// the length of a monitor file and of a trace, four bytes each, the lowest first, and then both.
 ghost use Rattle.io.specs.Counts.{Counts};
 
 // The most cases that are read.

@@ -1,9 +1,10 @@
--- Laws of sets held as numbers: the members of a meet, a join, a difference, a single bit, all bits; how many; the lowest; and that a set below
--- 2 ^ 16 is known by its members. By the digits of a number, lowest first.
+-- Laws of sets held as numbers: the members of a meet, a join, a difference, a single bit, all bits; how many; the
+-- lowest; and that a set below 2 ^ 16 is known by its members. By the digits of a number, lowest first.
 use Prim.Native.Nat.{ℕ, zero, suc, _+_, _-_, _*_, _/_, _%_, _^_, _≤_, _<_, min, max}
 use mathlib.Core.Path.{_≡_, refl, sym, ap, ap₂, _∙_}
 use mathlib.Core.Bool.{Bool, true, false, not, _&&_, _||_, xor, or-comm, and-true, false≢true}
-use native.Mathlib.Nat.{zero-add, one-mul, mod-one, mod-lt, div-one, div-eq-of-lt, zero-div, pow-suc, mul-div-cancel, mul-mod-left, mod-eq-of-lt, lt-of-lt-of-le, zero-lt-suc}
+use native.Mathlib.Nat.{zero-add, one-mul, mod-one, mod-lt, div-one, div-eq-of-lt, zero-div, pow-suc, mul-div-cancel}
+use native.Mathlib.Nat.{mul-mod-left, mod-eq-of-lt, lt-of-lt-of-le, zero-lt-suc}
 use native.Mathlib.Numerals.{one-add}
 use native.Mathlib.Decide.{decLt}
 use native.Mathlib.Omega.{arith}
@@ -37,7 +38,8 @@ by-digits P a b c d zero (suc (suc y)) h k = absurd (omega arith)
 by-digits P a b c d (suc zero) (suc (suc y)) h k = absurd (omega arith)
 by-digits P a b c d (suc (suc x)) y h k = absurd (omega arith)
 
--- An operation on numbers that goes digit by digit is the test's on members: `op` is the operation, `f` its digit, `g` the test.
+-- An operation on numbers that goes digit by digit is the test's on members: `op` is the operation, `f` its digit, `g`
+-- the test.
 module _ (op f : ℕ → ℕ → ℕ) (g : Bool → Bool → Bool)
     (shr : (a b k : ℕ) → op a b / 2 ^ k ≡ op (a / 2 ^ k) (b / 2 ^ k))
     (step : (a b : ℕ) → op a b ≡ op (a / 2) (b / 2) * 2 + f (a % 2) (b % 2))
@@ -49,23 +51,28 @@ module _ (op f : ℕ → ℕ → ℕ) (g : Bool → Bool → Bool)
       let x = a / 2 ^ u in
       let y = b / 2 ^ u in
       let d : op x y % 2 ≡ f (x % 2) (y % 2) =
-      ap (λ (n : ℕ). n % 2) (step x y) ∙ digits-mod (op (x / 2) (y / 2)) (below (x % 2) (y % 2) (digit-lt x) (digit-lt y)) in
-      ap (λ (n : ℕ). eqb (n % 2) 1) (shr a b u) ∙ ap (λ (n : ℕ). eqb n 1) d ∙ test (x % 2) (y % 2) (digit-lt x) (digit-lt y)
+      ap (λ (n : ℕ). n % 2) (step x y) ∙ digits-mod (op (x / 2) (y / 2))
+      (below (x % 2) (y % 2) (digit-lt x) (digit-lt y)) in
+      ap (λ (n : ℕ). eqb (n % 2) 1) (shr a b u) ∙ ap (λ (n : ℕ). eqb n 1) d ∙ test (x % 2) (y % 2) (digit-lt x)
+      (digit-lt y)
 
 pub member-and : (a b u : ℕ) → member (bitAnd a b) u ≡ member a u && member b u
 member-and =
-    member-op bitAnd min (λ a b. a && b) and-shr and-step (by-digits (λ x y. min x y < 2) (lit< tt) (lit< tt) (lit< tt) (lit< tt))
+    member-op bitAnd min (λ a b. a && b) and-shr and-step
+    (by-digits (λ x y. min x y < 2) (lit< tt) (lit< tt) (lit< tt) (lit< tt))
     (by-digits (λ x y. eqb (min x y) 1 ≡ eqb x 1 && eqb y 1) refl refl refl refl)
 
 pub member-or : (a b u : ℕ) → member (bitOr a b) u ≡ member a u || member b u
 member-or =
-    member-op bitOr max (λ a b. a || b) or-shr or-step (by-digits (λ x y. max x y < 2) (lit< tt) (lit< tt) (lit< tt) (lit< tt))
+    member-op bitOr max (λ a b. a || b) or-shr or-step
+    (by-digits (λ x y. max x y < 2) (lit< tt) (lit< tt) (lit< tt) (lit< tt))
     (by-digits (λ x y. eqb (max x y) 1 ≡ eqb x 1 || eqb y 1) refl refl refl refl)
 
 pub member-xor : (a b u : ℕ) → member (bitXor a b) u ≡ xor (member a u) (member b u)
 unfolding xor
 member-xor =
-    member-op bitXor differ xor xor-shr xor-step (by-digits (λ x y. differ x y < 2) (lit< tt) (lit< tt) (lit< tt) (lit< tt))
+    member-op bitXor differ xor xor-shr xor-step (by-digits (λ x y. differ x y < 2) (lit< tt) (lit< tt) (lit< tt)
+    (lit< tt))
     (by-digits (λ x y. eqb (differ x y) 1 ≡ xor (eqb x 1) (eqb y 1)) refl refl refl refl)
 
 -- ---- members by halves
@@ -93,7 +100,8 @@ pub member-one : (t u : ℕ) → member (2 ^ t) u ≡ eqb u t
 member-one zero zero = member-zero 1
 member-one zero (suc u) = member-suc 1 u ∙ member-none u ∙ sym (eqb·suc-zero u)
 member-one (suc t) zero =
-    member-zero (2 ^ suc t) ∙ ap (λ (n : ℕ). eqb n 1) (ap (λ (n : ℕ). n % 2) (pow-suc 2 t) ∙ mul-mod-left (2 ^ t) 2) ∙ sym (eqb·zero-suc t)
+    member-zero (2 ^ suc t) ∙ ap (λ (n : ℕ). eqb n 1) (ap (λ (n : ℕ). n % 2) (pow-suc 2 t) ∙ mul-mod-left (2 ^ t) 2)
+    ∙ sym (eqb·zero-suc t)
 member-one (suc t) (suc u) =
     member-suc (2 ^ suc t) u
     ∙ ap (λ (n : ℕ). member n u) (ap (λ (n : ℕ). n / 2) (pow-suc 2 t) ∙ mul-div-cancel (2 ^ t) (zero-lt-suc 1))
@@ -116,14 +124,17 @@ member-full (suc k) (suc u) h =
 
 same-digit : (x y : ℕ) → x < 2 → y < 2 → eqb x 1 ≡ eqb y 1 → x ≡ y
 same-digit =
-    by-digits (λ x y. eqb x 1 ≡ eqb y 1 → x ≡ y) (λ e. refl) (λ e. eqb-true 0 1 e) (λ e. sym (eqb-true 0 1 (sym e))) (λ e. refl)
+    by-digits (λ x y. eqb x 1 ≡ eqb y 1 → x ≡ y) (λ e. refl) (λ e. eqb-true 0 1 e) (λ e. sym (eqb-true 0 1 (sym e)))
+    (λ e. refl)
 
 pub same-members : (k a b : ℕ) → a < 2 ^ k → b < 2 ^ k → ((u : ℕ) → member a u ≡ member b u) → a ≡ b
 same-members zero a b h l e = lt-one h ∙ sym (lt-one l)
 same-members (suc k) a b h l e =
-    let lower : a % 2 ≡ b % 2 = same-digit (a % 2) (b % 2) (digit-lt a) (digit-lt b) (sym (member-zero a) ∙ e 0 ∙ member-zero b) in
+    let lower : a % 2 ≡ b % 2 =
+    same-digit (a % 2) (b % 2) (digit-lt a) (digit-lt b) (sym (member-zero a) ∙ e 0 ∙ member-zero b) in
     let upper : a / 2 ≡ b / 2 =
-    same-members k (a / 2) (b / 2) (omega arith) (omega arith) (λ u. sym (member-suc a u) ∙ e (suc u) ∙ member-suc b u) in
+    same-members k (a / 2) (b / 2) (omega arith) (omega arith) (λ u. sym (member-suc a u) ∙ e (suc u) ∙ member-suc b u)
+    in
     omega arith
 
 -- `size` looks at members alone
@@ -186,7 +197,8 @@ at-lowest zero s h = absurd (omega arith)
 at-lowest (suc k) s h = go (at-lowest k (s / 2)) (s % 2) refl h
   where
     go : (trailingZeros k (s / 2) < k → member (s / 2) (trailingZeros k (s / 2)) ≡ true)
-        → (d : ℕ) → s % 2 ≡ d → under d (trailingZeros k (s / 2)) < suc k → member s (under d (trailingZeros k (s / 2))) ≡ true
+        → (d : ℕ) → s % 2 ≡ d → under d (trailingZeros k (s / 2)) < suc k → member s (under d (trailingZeros k (s / 2)))
+        ≡ true
     go rest zero e l = member-suc s (trailingZeros k (s / 2)) ∙ rest (omega arith)
     go rest (suc d) e l = member-zero s ∙ eq-eqb (s % 2) 1 (omega (arith, digit-lt s))
 
@@ -216,7 +228,8 @@ less true false h = sym (h refl)
 less false true h = refl
 less false false h = refl
 
-pub member-without : (s t u : ℕ) → t < 16 → member s t ≡ true → member (bitXor s (1 * 2 ^ t % 65536)) u ≡ not (eqb u t) && member s u
+pub member-without : (s t u : ℕ) → t < 16 → member s t ≡ true → member (bitXor s (1 * 2 ^ t % 65536)) u
+    ≡ not (eqb u t) && member s u
 member-without s t u h e =
     ap (λ (n : ℕ). member (bitXor s n) u) (bit-of t h) ∙ member-xor s (2 ^ t) u
     ∙ ap (λ (b : Bool). xor (member s u) b) (member-one t u)

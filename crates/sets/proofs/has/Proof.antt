@@ -1,4 +1,5 @@
--- `sets::has` meets its contract: a digit is the remainder by 2 of the number shifted, and a number below 2 ^ 16 has no member from 16 on.
+-- `sets::has` meets its contract: a digit is the remainder by 2 of the number shifted, and a number below 2 ^ 16 has no
+-- member from 16 on.
 use borrow.Author.Needs.{needs}
 use Prim.Native.Nat.{ℕ, _/_, _^_}
 use mathlib.Core.Path.{sym, ap}
@@ -20,7 +21,8 @@ unfolding member
 returns c = ap (λ (n : ℕ). eqb n 1) (and-mask (c .before .args .set / 2 ^ c .before .args .t) 1)
 
 returns-2 : tie.Need-returns-2
-returns-2 c = sym (member-past 16 (c .before .args .set) (c .before .args .t) (c .before .fits .set .fits) (c .if1 .left))
+returns-2 c =
+    sym (member-past 16 (c .before .args .set) (c .before .args .t) (c .before .fits .set .fits) (c .if1 .left))
 
 pub has-spec : {M : Type 1} → statement M
 has-spec = tie.close (tie.spec cast-result shr-result returns returns-2)

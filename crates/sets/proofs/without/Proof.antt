@@ -14,7 +14,8 @@ held c = sym (c .before .has .ensures) ∙ c .if1 .taken
 
 below : (c : tie.Then1) → c .before .before .args .t < 16
 below c =
-    member-within (c .before .before .args .set) (c .before .before .args .t) (c .before .before .fits .set .fits) (held c)
+    member-within (c .before .before .args .set) (c .before .before .args .t) (c .before .before .fits .set .fits)
+    (held c)
 
 has-requires : tie.Need-has-requires
 has-requires c κs = search needs

@@ -8,4 +8,6 @@ use Rattle.panel.proofs.text.print.Tie as tie
 pub print-spec : {M : Type 1} → statement M
 print-spec =
     tie.close
-    (tie.spec (λ c. sym (length-take-le (c .before .before .before .args .n) (c .before .before .before .args .buffer .now) (search needs))) (λ c κs. search needs) (λ c. search needs) (λ c. search needs))
+    (tie.spec
+    (λ c. sym (length-take-le (c .before .before .before .args .n) (c .before .before .before .args .buffer .now)
+    (search needs))) (λ c κs. search needs) (λ c. search needs) (λ c. search needs))
