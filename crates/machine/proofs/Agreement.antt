@@ -62,7 +62,8 @@ pub agrees : (m : Monitor) → Checked m → Agrees m
 unfolding Agrees plainRun tableRun allIdle isWaiting
 agrees m ok s k fs =
     let start = idle-agree m (broadcast m) s k in
-    let a = agree-from m ok (entryOf m) (broadcast m) (entries-placed m ok) s idleThreads (λ _. false) (λ _. false) start fs in
+    let placed = entries-placed m ok in
+    let a = agree-from m ok (entryOf m) (broadcast m) placed s idleThreads (λ _. false) (λ _. false) start fs in
     record {
       same-answer = ⊎-elim inl (λ x. inr (x .0, x .1, recheck-iff fs (x .0) .0 (x .2))) (a .same-answer);
       every-point = a .every-point;
@@ -85,7 +86,8 @@ module _ (m : Monitor) (ok : Checked m) (s : ℕ) (k : m .kept s ≡ true) (fs :
       (x .0, ap (plainRun m s) (sym (take-length fs)) ∙ x .1, x .2)
 
   -- the plain machine at each of its points, also past a recheck that the table's refuses
-  pub plain-every-point : (d : Config) → plainRun m s fs ≡ accepted d → PlainPoint m (d .state) (d .threads) (d .notified)
+  pub plain-every-point :
+      (d : Config) → plainRun m s fs ≡ accepted d → PlainPoint m (d .state) (d .threads) (d .notified)
   unfolding plainRun allIdle
   plain-every-point = run-plain m ok fs 0 s idleThreads (λ _. false) (idle-plain m s k)
 
@@ -93,7 +95,8 @@ module _ (m : Monitor) (ok : Checked m) (s : ℕ) (k : m .kept s ≡ true) (fs :
 pub recheck-is-waiting :
     (m : Monitor) → Checked m → (told : Told) (notices : Notices) → Decides m told notices
     → (s : ℕ) (front : List Frame) (c : Config) → run m told 0 (allIdle s) front ≡ accepted c → (f : Frame) (more : List Frame)
-    → Recheck (front ++ (f ∷ more)) (length front) ↔ ((f .flag ≡ false) × (isWaiting (c .threads .place (f .thread)) ≡ true))
+    → Recheck (front ++ (f ∷ more)) (length front)
+    ↔ ((f .flag ≡ false) × (isWaiting (c .threads .place (f .thread)) ≡ true))
 unfolding allIdle isWaiting
 recheck-is-waiting m ok told notices decides s front c h f more =
     Iff·trans (Iff·symm (recheck-iff (front ++ (f ∷ more)) (length front)))

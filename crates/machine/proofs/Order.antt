@@ -33,13 +33,14 @@ ahead-began p t r u v l w h k a = a
 
 -- and when a third goes on
 pub ahead-left :
-    (p : Threads) (t : ℕ) (q : Place) (u v : ℕ) → u < threads → isWaiting (p .place u) ≡ true → (u ≡ t → ⊥) → (v ≡ t → ⊥)
-    → ahead p u v ≡ true → ahead (leave p t q) u v ≡ true
+    (p : Threads) (t : ℕ) (q : Place) (u v : ℕ) → u < threads → isWaiting (p .place u) ≡ true → (u ≡ t → ⊥)
+    → (v ≡ t → ⊥) → ahead p u v ≡ true → ahead (leave p t q) u v ≡ true
 unfolding ahead
 ahead-left p t q u v l w h k a = a
 
 -- two that are alike on all threads have one line
-pub ahead-same : {p p′ : Threads} → SameThreads p p′ → (u v : ℕ) → u < threads → v < threads → ahead p u v ≡ ahead p′ u v
+pub ahead-same :
+    {p p′ : Threads} → SameThreads p p′ → (u v : ℕ) → u < threads → v < threads → ahead p u v ≡ ahead p′ u v
 unfolding ahead
 ahead-same same u v h k = refl
 
@@ -79,7 +80,8 @@ module _ (m : Monitor) where
 
   -- and what is alike stays alike
   moved-same :
-      {p p′ p₁ p₁′ : Threads} {t : ℕ} {q : Place} → SameThreads p p′ → Moved m p p₁ t q → Moved m p′ p₁′ t q → SameThreads p₁ p₁′
+      {p p′ p₁ p₁′ : Threads} {t : ℕ} {q : Place} → SameThreads p p′ → Moved m p p₁ t q → Moved m p′ p₁′ t q
+      → SameThreads p₁ p₁′
   moved-same {p} {p′} {p₁} {p₁′} {t} {q} same a b = record {
     same-place = λ u h. split-eq u t
         (λ z. ap (p₁ .place) z ∙ a .own-place ∙ sym (b .own-place) ∙ ap (p₁′ .place) (sym z))

@@ -69,7 +69,8 @@ idle-plain m s k = record {
 }
 
 -- all idle and none notified
-pub idle-agree : (m : Monitor) (bc : ℕ → Bool) (s : ℕ) → m .kept s ≡ true → Agree m bc s idleThreads (λ _. false) (λ _. false)
+pub idle-agree :
+    (m : Monitor) (bc : ℕ → Bool) (s : ℕ) → m .kept s ≡ true → Agree m bc s idleThreads (λ _. false) (λ _. false)
 unfolding Waits isWaiting
 idle-agree m bc s k = record {
   plain = idle-plain m s k;
@@ -239,7 +240,8 @@ module _ (m : Monitor) (s : ℕ) (p : Threads) (t r : ℕ) (guard : m .holds (m 
   first-before : (g u : ℕ) → (u ≡ t → ⊥) → First m q′ (Waits m q′ g) u → First m p (Waits m p g) u
   unfolding First
   first-before g u d h v l w a =
-      let k : (v ≡ t → ⊥) = λ q. clash (waits-waiting m p g v w) (ap (λ (x : ℕ). isWaiting (p .place x)) q ∙ idle-or-due) in
+      let k : (v ≡ t → ⊥) =
+      λ q. clash (waits-waiting m p g v w) (ap (λ (x : ℕ). isWaiting (p .place x)) q ∙ idle-or-due) in
       h v l (waits-at m p q′ g v (began-other p t r v k) w)
       (ahead-began p t r v u l (waits-waiting m p g v w) k d a)
 
@@ -263,7 +265,8 @@ module _ (m : Monitor) (s : ℕ) (p : Threads) (t r : ℕ) (guard : m .holds (m 
 
 -- A recheck of thread t, which waits at region r: the guard is false, and the notice is used up
 
-module _ (m : Monitor) (s : ℕ) (p : Threads) (t r : ℕ) (guard : m .holds (m .guardOf r) s ≡ false) (here : p .place t ≡ waiting r) where
+module _ (m : Monitor) (s : ℕ) (p : Threads) (t r : ℕ) (guard : m .holds (m .guardOf r) s ≡ false)
+    (here : p .place t ≡ waiting r) where
   other-waiter : (g u : ℕ) → Waits m p g u → m .holds g s ≡ true → u ≡ t → ⊥
   unfolding Waits
   other-waiter g u w h q =

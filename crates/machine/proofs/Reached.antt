@@ -43,7 +43,8 @@ unfolding allIdle
 start-reached m s k = record { is-kept = k; within = λ t. idle-within m }
 
 -- a thread that may be at a region is at one of the file
-pub may-below : (m : Monitor) (p : Threads) (f : Frame) → PlaceWithin m (p .place (f .thread)) → May m p f → f .region < m .regions
+pub may-below :
+    (m : Monitor) (p : Threads) (f : Frame) → PlaceWithin m (p .place (f .thread)) → May m p f → f .region < m .regions
 unfolding PlaceWithin MayBeAt
 may-below m p f h a = go (p .place (f .thread)) h (a .at-region)
   where
@@ -52,7 +53,9 @@ may-below m p f h a = go (p .place (f .thread)) h (a .at-region)
     go (waiting w) h e = subst (λ (r : ℕ). r < m .regions) e (h .0 w refl)
     go (due w) h e = subst (λ (r : ℕ). r < m .regions) e (h .1 w refl)
 
-moved-within : (m : Monitor) {p p′ : Threads} {t : ℕ} {q : Place} → Moved m p p′ t q → ((u : ℕ) → PlaceWithin m (p .place u)) → PlaceWithin m q
+moved-within :
+    (m : Monitor) {p p′ : Threads} {t : ℕ} {q : Place} → Moved m p p′ t q
+    → ((u : ℕ) → PlaceWithin m (p .place u)) → PlaceWithin m q
     → (u : ℕ) → PlaceWithin m (p′ .place u)
 moved-within m {p} {p′} {t} {q} x ps h u = split-eq u t
     (λ z. subst (PlaceWithin m) (sym (ap (p′ .place) z ∙ x .own-place)) h)
@@ -62,7 +65,8 @@ module _ (m : Monitor) (ok : Checked m) (notices : Notices) where
   pub rule-reached : {c c′ : Config} {f : Frame} → Rule m notices c f c′ → Reached m c → Reached m c′
   rule-reached {c} {c′} {f} (rule-1a a fl g w s p n) x = record {
     is-kept = ap (m .kept) s ∙ x .is-kept;
-    within = moved-within m p (x .within) (waiting-within m (f .region) (may-below m (c .threads) f (x .within (f .thread)) a));
+    within = moved-within m p (x .within)
+        (waiting-within m (f .region) (may-below m (c .threads) f (x .within (f .thread)) a));
   }
   rule-reached (rule-1b a fl g w k s p n) x = record {
     is-kept = ap (m .kept) s ∙ x .is-kept;

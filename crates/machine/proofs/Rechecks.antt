@@ -115,7 +115,8 @@ module _ (m : Monitor) (leaves : (r : ℕ) → isWaiting (m .follows r) ≡ fals
   rule-own : {c d : Config} {f : Frame} → Rule m notices c f d → waiters d (f .thread) ≡ not (f .flag)
   unfolding isWaiting Waiting
   rule-own {c} {d} {f} (rule-1a a fl g w s p n) = ap isWaiting (p .own-place) ∙ ap not (sym fl)
-  rule-own {c} {d} {f} (rule-1b a fl g w k s p n) = ap (λ (q : Threads). isWaiting (q .place (f .thread))) p ∙ ap isWaiting (w .1) ∙ ap not (sym fl)
+  rule-own {c} {d} {f} (rule-1b a fl g w k s p n) =
+      ap (λ (q : Threads). isWaiting (q .place (f .thread))) p ∙ ap isWaiting (w .1) ∙ ap not (sym fl)
   rule-own {c} {d} {f} (rule-2a a fl g w b) = ap isWaiting (b .places .own-place) ∙ leaves (f .region) ∙ ap not (sym fl)
   rule-own {c} {d} {f} (rule-2b a fl g w k l b) = ap isWaiting (b .places .own-place) ∙ leaves (f .region) ∙ ap not (sym fl)
 

@@ -73,7 +73,8 @@ module _ (m : Monitor) (told : Told) (notices : Notices)
     (agree : (s : ℕ) (p : Threads) (r u : ℕ) → (told s p r u ≡ true) ↔ notices s p r u) where
   -- what each kind of frame leads to is what its rule says
 
-  waited-moves : (c : Config) (f : Frame) → Moved m (c .threads) (waited m told c f .threads) (f .thread) (waiting (f .region))
+  waited-moves :
+      (c : Config) (f : Frame) → Moved m (c .threads) (waited m told c f .threads) (f .thread) (waiting (f .region))
   unfolding waited
   waited-moves c f = began-moved m (c .threads) (f .thread) (f .region)
 
@@ -129,7 +130,8 @@ module _ (m : Monitor) (told : Told) (notices : Notices)
       → step m told c f ≡ act m told c f (isWaiting (c .threads .place (f .thread))) (f .flag)
   unfolding step judged
   to-act c f a b =
-      ap₂ (judged m told c f) (may-iff m (c .threads) f .1 a) (equal-beq (f .flag) (m .holds (m .guardOf (f .region)) (c .state)) b)
+      ap₂ (judged m told c f) (may-iff m (c .threads) f .1 a)
+      (equal-beq (f .flag) (m .holds (m .guardOf (f .region)) (c .state)) b)
 
   rule-step : {c c′ : Config} {f : Frame} → Rule m notices c f c′ → step m told c f ≡ moved c′
   unfolding act allowed Waiting OthersOf
@@ -150,7 +152,8 @@ module _ (m : Monitor) (told : Told) (notices : Notices)
       to-act c f a (fl ∙ sym g)
       ∙ ap₂ (act m told c f) (waiting-iff (c .threads .place (f .thread)) .1 w) fl
       ∙ ap (λ (x : Bool). allowed m told x (ran m told c f))
-      (and-eq-true-iff (c .notified (f .thread)) (firstNotified m (c .threads) (c .notified) (m .guardOf (f .region)) (f .thread)) .1
+      (and-eq-true-iff (c .notified (f .thread))
+      (firstNotified m (c .threads) (c .notified) (m .guardOf (f .region)) (f .thread)) .1
       (k, first-notified-iff m (c .threads) (c .notified) (m .guardOf (f .region)) (f .thread) .1 l))
       ∙ ap moved (body-only (ran-body c f) b)
 
@@ -168,9 +171,11 @@ module _ (m : Monitor) (told : Told) (notices : Notices)
 
       acted : May m (c .threads) f → f .flag ≡ m .holds g (c .state) → (w : Bool) → isWaiting (c .threads .place t) ≡ w
           → (b : Bool) → f .flag ≡ b → Verdict m notices c f (act m told c f w b)
-      acted a e false w false fl = by-rule (rule-1a a fl (sym e ∙ fl) (λ x. clash (waiting-iff (c .threads .place t) .1 x) w)
+      acted a e false w false fl =
+          by-rule (rule-1a a fl (sym e ∙ fl) (λ x. clash (waiting-iff (c .threads .place t) .1 x) w)
           refl (waited-moves c f) (λ u. (λ h. h, λ h. h)))
-      acted a e false w true fl = by-rule (rule-2a a fl (sym e ∙ fl) (λ x. clash (waiting-iff (c .threads .place t) .1 x) w) (ran-body c f))
+      acted a e false w true fl =
+          by-rule (rule-2a a fl (sym e ∙ fl) (λ x. clash (waiting-iff (c .threads .place t) .1 x) w) (ran-body c f))
       acted a e true w false fl = notice (c .notified t) refl
         where
           notice : (b : Bool) → c .notified t ≡ b → Verdict m notices c f (allowed m told b (rechecked m told c f))

@@ -25,14 +25,16 @@ abbrev pub at : ℕ → Threads → (ℕ → Bool) → Config
 at s p n = record { state = s; threads = p; notified = n }
 
 -- a waiting thread names its own region
-own-region : (m : Monitor) (p : Threads) (f : Frame) → May m p f → (w : ℕ) → p .place (f .thread) ≡ waiting w → w ≡ f .region
+own-region :
+    (m : Monitor) (p : Threads) (f : Frame) → May m p f → (w : ℕ) → p .place (f .thread) ≡ waiting w → w ≡ f .region
 unfolding MayBeAt
 own-region m p f a w z = subst (λ (q : Place). MayBeAt m q (f .region)) z (a .at-region)
 
 waits-here :
     (m : Monitor) (p : Threads) (f : Frame) → May m p f → isWaiting (p .place (f .thread)) ≡ true
     → p .place (f .thread) ≡ waiting (f .region)
-waits-here m p f a h = let w = waiting-iff (p .place (f .thread)) .0 h in w .1 ∙ ap waiting (own-region m p f a (w .0) (w .1))
+waits-here m p f a h =
+    let w = waiting-iff (p .place (f .thread)) .0 h in w .1 ∙ ap waiting (own-region m p f a (w .0) (w .1))
 
 -- the plain machine's frame is refused, or leads to a point again
 data PlainGoesOn (m : Monitor) : Outcome → Type 0 where
@@ -44,7 +46,8 @@ data Match (m : Monitor) (bc : ℕ → Bool) (p : Threads) (f : Frame) : Outcome
   alike : {a : ℕ} → Match m bc p f (refused a) (refused a)
   lost : {o : Outcome} → isWaiting (p .place (f .thread)) ≡ true → f .flag ≡ false → Match m bc p f o (refused 14)
   both-move :
-      {s : ℕ} {q : Threads} {nP nT : ℕ → Bool} → Agree m bc s q nP nT → Match m bc p f (moved (at s q nP)) (moved (at s q nT))
+      {s : ℕ} {q : Threads} {nP nT : ℕ → Bool} → Agree m bc s q nP nT
+      → Match m bc p f (moved (at s q nP)) (moved (at s q nT))
 
 module _ (m : Monitor) (ok : Checked m) (s : ℕ) (p : Threads) (f : Frame) where
   step-plain : (n : ℕ → Bool) → PlainPoint m s p n → PlainGoesOn m (step m (plainTold m) (at s p n) f)
@@ -76,7 +79,8 @@ module _ (m : Monitor) (ok : Checked m) (s : ℕ) (p : Threads) (f : Frame) wher
       go : (a b : Bool) → may m p f ≡ a → Bool·beq (f .flag) (m .holds g s) ≡ b → PlainGoesOn m (judged m (plainTold m) (at s p n) f a b)
       go false b x y = ends
       go true false x y = ends
-      go true true x y = acted (may-iff m p f .0 x) (beq-equal (f .flag) (m .holds g s) y) (isWaiting (p .place t)) refl (f .flag) refl
+      go true true x y = acted (may-iff m p f .0 x) (beq-equal (f .flag) (m .holds g s) y)
+          (isWaiting (p .place t)) refl (f .flag) refl
 
   module _ (e : ℕ → ℕ → Entry) (bc : ℕ → Bool) (placed : Placed m e bc) (nP nT : ℕ → Bool) (ag : Agree m bc s p nP nT) where
     step-agree : Match m bc p f (step m (plainTold m) (at s p nP) f) (step m (tableTold m e) (at s p nT) f)
@@ -126,7 +130,8 @@ module _ (m : Monitor) (ok : Checked m) (s : ℕ) (p : Threads) (f : Frame) wher
             → Match m bc p f (judged m (plainTold m) (at s p nP) f a b) (judged m (tableTold m e) (at s p nT) f a b)
         go false b x y = alike
         go true false x y = alike
-        go true true x y = acted (may-iff m p f .0 x) (beq-equal (f .flag) (m .holds g s) y) (isWaiting (p .place t)) refl (f .flag) refl
+        go true true x y = acted (may-iff m p f .0 x) (beq-equal (f .flag) (m .holds g s) y)
+            (isWaiting (p .place t)) refl (f .flag) refl
 
 -- A list of frames, counted on from k
 
@@ -141,7 +146,8 @@ pub data Result (m : Monitor) (bc : ℕ → Bool) (began : ℕ → Bool) (fs : L
 module _ (m : Monitor) (ok : Checked m) where
   pub run-plain :
       (fs : List Frame) (k s : ℕ) (p : Threads) (n : ℕ → Bool) → PlainPoint m s p n
-      → (d : Config) → run m (plainTold m) k (at s p n) fs ≡ accepted d → PlainPoint m (d .state) (d .threads) (d .notified)
+      → (d : Config) → run m (plainTold m) k (at s p n) fs ≡ accepted d
+      → PlainPoint m (d .state) (d .threads) (d .notified)
   unfolding run
   run-plain [] k s p n pt d e =
       let z : at s p n ≡ d = cc in subst (λ (c : Config). PlainPoint m (c .state) (c .threads) (c .notified)) z pt
@@ -149,7 +155,8 @@ module _ (m : Monitor) (ok : Checked m) where
       (λ s₁ p₁ n₁ pt₁. run-plain fs (suc k) s₁ p₁ n₁ pt₁ d)
     where
       go : (o : Outcome) → step m (plainTold m) (at s p n) f ≡ o → PlainGoesOn m o
-          → ((s₁ : ℕ) (p₁ : Threads) (n₁ : ℕ → Bool) → PlainPoint m s₁ p₁ n₁ → run m (plainTold m) (suc k) (at s₁ p₁ n₁) fs ≡ accepted d
+          → ((s₁ : ℕ) (p₁ : Threads) (n₁ : ℕ → Bool) → PlainPoint m s₁ p₁ n₁
+          → run m (plainTold m) (suc k) (at s₁ p₁ n₁) fs ≡ accepted d
           → PlainPoint m (d .state) (d .threads) (d .notified))
           → PlainPoint m (d .state) (d .threads) (d .notified)
       go o q (ends {a}) rec =

@@ -36,7 +36,9 @@ module _ (m : Monitor) where
   may-iff p f =
       Iff·trans
       (decides-and (not (any threads other-due)) (mayBeAt m (p .place t) (f .region))
-      (none-iff threads other-due (λ u. decides-and (not (eqb u t)) (isDue (p .place u)) (decides-not (eqb u t) (decides-eqb u t)) (due-iff (p .place u))))
+      (none-iff threads other-due (λ u.
+      decides-and (not (eqb u t)) (isDue (p .place u)) (decides-not (eqb u t) (decides-eqb u t))
+      (due-iff (p .place u))))
       (may-be-iff (p .place t) (f .region))) (
         λ h. record { nobody-due = λ u r l d z. h .0 u l (d, (r, z)); at-region = h .1 },
         λ h. (λ u l x. h .nobody-due u (x .1 .0) l (x .0) (x .1 .1), h .at-region),
@@ -75,7 +77,8 @@ module _ (m : Monitor) where
   pub table-notices :
       (e : ℕ → ℕ → Entry) (s : ℕ) (p : Threads) (r u : ℕ) → (tableTold m e s p r u ≡ true) ↔ TableNotices m e s p r u
   unfolding tableTold TableNotices entryTold Waits
-  table-notices e s p r u = (to (p .place u) refl, λ n. from (n .0) (n .1) (n .2, n .3, n .4, n .5, ⊎-elim inl (λ x. inr (n .1, x)) (n .6)))
+  table-notices e s p r u =
+      (to (p .place u) refl, λ n. from (n .0) (n .1) (n .2, n .3, n .4, n .5, ⊎-elim inl (λ x. inr (n .1, x)) (n .6)))
     where
       Acts : ℕ → Type 0
       Acts g = (a b : Bool) × (e r g ≡ entry a b) × ((a ≡ true) ⊎ (m .holds g s ≡ true)) × ((b ≡ true) ⊎ (Waits m p g u × First m p (Waits m p g) u))

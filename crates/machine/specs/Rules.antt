@@ -45,8 +45,8 @@ module _ (m : Monitor) where
   unfoldable pub Waiting : Place → Type 0
   Waiting q = (w : ℕ) × (q ≡ waiting w)
 
-  -- after a frame of thread t, t is at q and nobody else has moved. What becomes of the line is said here and nowhere else: the order
-  -- of those who wait is that of their numbers, so there is nothing to say
+  -- after a frame of thread t, t is at q and nobody else has moved. Here, and nowhere else, a rule says what becomes of
+  -- the line: nothing, since those who wait stand by their numbers
   pub record Moved (p p′ : Threads) (t : ℕ) (q : Place) : Type 0 where
     pub own-place : p′ .place t ≡ q
     pub others : (u : ℕ) → (u ≡ t → ⊥) → p′ .place u ≡ p .place u

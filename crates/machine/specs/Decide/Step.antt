@@ -5,7 +5,8 @@ use mathlib.Core.Bool.{Bool, true, false, not, _&&_, Bool·beq, _||_}
 use mathlib.Core.List.{List, [], _∷_}
 use lib.Dec.{eqb, ltb}
 use Rattle.logic.specs.Tests.{any}
-use Rattle.machine.specs.Monitor.{Config, Frame, Monitor, Place, Run, Threads, accepted, ahead, due, idle, stopped, threads, waiting}
+use Rattle.machine.specs.Monitor.{Config, Frame, Monitor, Place, Run, Threads, accepted, ahead}
+use Rattle.machine.specs.Monitor.{due, idle, stopped, threads, waiting}
 
 -- the places with that of thread t replaced
 unfoldable pub put : (ℕ → Place) → ℕ → Place → ℕ → Place
@@ -25,7 +26,7 @@ isWaiting idle = false
 isWaiting (waiting r) = true
 isWaiting (due r) = false
 
--- a thread that begins to wait at a region, and one that goes on from a body: the only changes of places and of the line
+-- a thread that begins to wait at a region, and one that goes on from a body: all that changes places, and the line
 unfoldable pub beginWait : Threads → ℕ → ℕ → Threads
 beginWait p t r = record { place = put (p .place) t (waiting r) }
 
@@ -77,7 +78,9 @@ module _ (m : Monitor) where
 
   -- 13 where this is false: "A due thread must send the next frame"
   unfoldable pub may : Threads → Frame → Bool
-  may p f = not (any threads (λ u. not (eqb u (f .thread)) && isDue (p .place u))) && mayBeAt (p .place (f .thread)) (f .region)
+  may p f =
+      not (any threads (λ u. not (eqb u (f .thread)) && isDue (p .place u)))
+      && mayBeAt (p .place (f .thread)) (f .region)
 
   module _ (told : Told) where
     -- "After a body the thread is no waiter and not notified"; then others are notified
@@ -85,7 +88,11 @@ module _ (m : Monitor) where
     ran c f =
         let s′ = m .after (f .region) (c .state) in
         let p′ = leave (c .threads) (f .thread) (m .follows (f .region)) in
-        record { state = s′; threads = p′; notified = λ u. without (c .notified) (f .thread) u || told s′ p′ (f .region) u }
+        record {
+          state = s′;
+          threads = p′;
+          notified = λ u. without (c .notified) (f .thread) u || told s′ p′ (f .region) u;
+        }
 
     -- "With 00 a thread that was not waiting waits"
     unfoldable pub waited : Config → Frame → Config
@@ -106,7 +113,8 @@ module _ (m : Monitor) where
     act c f false true = moved (ran c f)
     act c f true false = allowed (c .notified (f .thread)) (rechecked c f)
     act c f true true =
-        allowed (c .notified (f .thread) && firstNotified (c .threads) (c .notified) (m .guardOf (f .region)) (f .thread)) (ran c f)
+        let first = firstNotified (c .threads) (c .notified) (m .guardOf (f .region)) (f .thread) in
+        allowed (c .notified (f .thread) && first) (ran c f)
 
     -- 13 first, then the flag, then the rules
     unfoldable pub judged : Config → Frame → Bool → Bool → Outcome
