@@ -44,6 +44,9 @@ pub ahead-same :
 unfolding ahead
 ahead-same same u v h k = refl
 
+pub same-trans : {p q r : Threads} → SameThreads p q → SameThreads q r → SameThreads p r
+same-trans a b = record { same-place = λ u h. a .same-place u h ∙ b .same-place u h }
+
 -- The two changes of places
 
 pub began-own : (p : Threads) (t r : ℕ) → beginWait p t r .place t ≡ waiting r

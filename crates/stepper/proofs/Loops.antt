@@ -13,15 +13,14 @@ use borrow.Author.Tests.{lt-ltb, le-ltb, eq-eqb, ne-eqb, eqb-true, eqb-false}
 use Rattle.sets.specs.Set.{member}
 use Rattle.sets.proofs.SetLaws.{member-none, eqb-sym}
 use Rattle.logic.specs.Tests.{any}
-use Rattle.machine.specs.Decide.Step.{put, onGuard, waitsOn, next}
-use Rattle.machine.specs.Monitor.{threads}
+use Rattle.machine.specs.Decide.Step.{put, onGuard, waitsOn}
 use Rattle.machine.specs.Monitor as machine
-use Rattle.machine.specs.Decide.Table.{acts as actsOf, entryTold, tableTold}
+use Rattle.machine.specs.Decide.Table.{acts as actsOf}
 use Rattle.machine.specs.Held.{followsBy}
 use Rattle.stepper.specs.declared.Place.{Place}
 use Rattle.stepper.specs.declared.Thread.{Thread}
-use Rattle.stepper.specs.Shown.{placeOf, idleThread}
-use Rattle.stepper.specs.Slices.{placesOf, guardAt, holdsAt, entryBy, entryAt, slices, guardsOnly, truths, toldBehind}
+use Rattle.stepper.specs.Shown.{placeOf, placesOf, idleThread}
+use Rattle.stepper.specs.Slices.{guardAt, entryBy, slices, guardsOnly}
 
 -- ---- some number below n passes a test
 
@@ -146,7 +145,7 @@ unfolding followsBy
 follows-due r zero n = absurd (n refl)
 follows-due r (suc k) n = refl
 
--- ---- the first waiter on a guard is the first that is met
+-- ---- the guard of a place
 
 pub guard-one : (gs : List ℕ) (w n g : ℕ) → n ≡ guardAt gs w → eqb g n && ltb n 16 ≡ eqb (guardAt gs w) g
 unfolding guardAt
@@ -162,27 +161,3 @@ unfolding onGuard
 guards-alone hs as′ gs bs os n g machine.idle = refl
 guards-alone hs as′ gs bs os n g (machine.waiting w) = refl
 guards-alone hs as′ gs bs os n g (machine.due w) = refl
-
-module _ (hs gs es : List ℕ) (s r met : ℕ) (p : ℕ → machine.Place) (u : ℕ) (h : u ≤ 16)
-    (ahead : (g : ℕ) → member met g ≡ any u (λ v. onGuard (guardsOnly gs) g (p v))) where
-  next-met : (w : ℕ) → p u ≡ machine.waiting w → not (member met (guardAt gs w)) ≡ next (truths hs gs) p (guardAt gs w) u
-  unfolding next waitsOn onGuard threads machine.ahead
-  next-met w e =
-      let g = guardAt gs w in
-      let here : onGuard (truths hs gs) g (p u) ≡ true = ap (onGuard (truths hs gs) g) e ∙ eq-eqb g g refl in
-      let before : member met g ≡ any 16 (λ v. onGuard (truths hs gs) g (p v) && ltb v u) =
-      ahead g ∙ any-same u (λ v. onGuard (guardsOnly gs) g (p v)) (λ v. onGuard (truths hs gs) g (p v)) (λ k l. sym (guards-alone hs [] gs [] [] 0 g (p k)))
-      ∙ sym (any-below 16 u (λ v. onGuard (truths hs gs) g (p v)) h) in
-      ap not before ∙ sym (ap (λ (b : Bool). b && not (any 16 (λ v. onGuard (truths hs gs) g (p v) && ltb v u))) here)
-
-  told-at : (q : machine.Place) → p u ≡ q
-      → toldBehind hs gs es s r met q ≡ entryTold (truths hs gs) (entryAt es) s p r u q
-  unfolding toldBehind entryTold
-  told-at machine.idle e = refl
-  told-at (machine.waiting w) e =
-      ap (λ (b : Bool). actsOf (entryAt es r (guardAt gs w)) (holdsAt hs (guardAt gs w) s) b) (next-met w e)
-  told-at (machine.due w) e = refl
-
-  pub told-first : toldBehind hs gs es s r met (p u) ≡ tableTold (truths hs gs) (entryAt es) s p r u
-  unfolding tableTold
-  told-first = told-at (p u) refl

@@ -12,8 +12,8 @@ ghost use Rattle.machine.specs.Decide.Step.{isDue, isWaiting, mayBeAt, onGuard,
 ghost use Rattle.machine.specs.Decide.Table.{acts as actsOf, tableTold};
 ghost use Rattle.machine.specs.Held.{Held, HeldPlaces, HeldEntries};
 ghost use Rattle.machine.proofs.Reached.{Reached};
-ghost use Rattle.stepper.specs.Shown.{Shows, Steps, stepBy, placeOf, frameOf};
-ghost use Rattle.stepper.specs.Slices.{guardAt, holdsAt, followsAt, entryBy, entryAt, slices, guardsOnly, truths, toldAt, toldBehind, placesOf, configOf};
+ghost use Rattle.stepper.specs.Shown.{Shows, Steps, stepBy, placeOf, placesOf, threadsOf, frameOf};
+ghost use Rattle.stepper.specs.Slices.{guardAt, holdsAt, followsAt, entryBy, entryAt, slices, guardsOnly, truths, toldAt, toldBehind, configOf};
 ghost use Rattle.stepper.specs.Parts.{verdictOf, nextOf};
 
 // Where a thread is: idle, waiting at a region, or due at a region.
@@ -138,7 +138,7 @@ fn waits_on(place: Place, guard_of: &[u8; 16], guard: u8) -> bool
 
 // The waiters on a guard, as a set.
 fn waiters(threads: [Thread; 16], guard_of: &[u8; 16], guard: u8) -> u16
-    ensures { λ r. ⌜ ((u : ℕ) → u < 16 → member r u ≡ waitsOn (guardsOnly (now («guard_of» .entry))) (placesOf threads) guard u) ⌝ }
+    ensures { λ r. ⌜ ((u : ℕ) → u < 16 → member r u ≡ waitsOn (guardsOnly (now («guard_of» .entry))) (threadsOf threads) guard u) ⌝ }
 {
     let mut set: u16 = 0;
     let mut u: usize = 0;
@@ -250,7 +250,7 @@ fn told_table(
 ) -> u16
     ensures { λ r. ⌜ ((u : ℕ) → u < 16 → member r u
         ≡ tableTold (truths (now (holds .entry)) (now («guard_of» .entry))) (entryAt (now (entries .entry))) state
-        (placesOf threads) region u) ⌝ }
+        (threadsOf threads) region u) ⌝ }
 {
     let mut set: u16 = 0;
     let mut met: u16 = 0;
@@ -278,7 +278,7 @@ fn told(
     region: u8,
 ) -> u16
     ensures { λ r. ⌜ ((u : ℕ) → u < 16 → member r u
-        ≡ toldAt (now (holds .entry)) (now («guard_of» .entry)) (now (entries .entry)) table state (placesOf threads) region u) ⌝ }
+        ≡ toldAt (now (holds .entry)) (now («guard_of» .entry)) (now (entries .entry)) table state (threadsOf threads) region u) ⌝ }
 {
     if table {
         told_table(threads, guard_of, holds, state, entries, region)

@@ -2,10 +2,10 @@
 use mathlib.Core.Path.{refl, sym, _∙_, subst}
 use mathlib.Core.Bool.{Bool, false}
 use mathlib.Core.List.{[]}
-use Rattle.machine.specs.Monitor.{Monitor, Config}
+use Rattle.machine.specs.Monitor.{Monitor, Config, threads}
 use Rattle.machine.specs.Decide.Step.{Told, isWaiting, waited, rechecked, beginWait, put, without}
-use Rattle.stepper.specs.Shown.{Shows, placeOf, idleThread, frameOf}
-use Rattle.stepper.specs.Slices.{slices, placesOf, toldAt, configOf}
+use Rattle.stepper.specs.Shown.{Shows, placeOf, placesOf, idleThread, frameOf}
+use Rattle.stepper.specs.Slices.{slices, toldAt, configOf}
 use Rattle.stepper.specs.Parts.{nextBy, nextOf}
 use borrow.Author.Needs.{needs}
 use Rattle.stepper.proofs.advance.Statement.{statement}
@@ -28,7 +28,7 @@ returns : tie.Need-returns
 unfolding nextOf nextBy frameOf
 returns c =
     let s = c .before .before in
-    subst (λ (f : Bool). Shows (c .ran .result) (next s f (isWaiting (configOf (s .args .run) .place (frameOf (s .args .frame) .thread)))))
+    subst (λ (f : Bool). Shows (c .ran .result) (next s f (isWaiting (configOf (s .args .run) .threads .place (frameOf (s .args .frame) .thread)))))
     (sym (c .before .if1 .taken)) (c .ran .ensures)
 
 cast-thread : tie.Need-cast-thread
@@ -59,7 +59,7 @@ returns-2 c =
     (sym (c .before .before .before .before .before .if1 .left))
     (subst (λ (w : Bool). Shows (record { state = run .state; threads = run .threads; notified = c .without .result }) (next s false w)) (sym waits) (record {
       state = refl;
-      places = λ u h. refl;
+      threads = record { same-place = λ u h. refl };
       notices = λ u h. c .without .ensures u;
     }))
 
@@ -70,7 +70,7 @@ put-requires : tie.Need-put-requires
 put-requires c κs = search needs
 
 returns-3 : tie.Need-returns-3
-unfolding nextOf nextBy frameOf configOf placesOf idleThread waited beginWait placeOf
+unfolding nextOf nextBy frameOf configOf placesOf idleThread waited beginWait placeOf threads
 returns-3 c =
     let s = c .before .before .before .before .before .before in
     let run = s .args .run in
@@ -79,7 +79,7 @@ returns-3 c =
     (sym (c .before .before .before .before .before .if1 .left))
     (subst (λ (w : Bool). Shows (record { state = run .state; threads = c .put .result; notified = run .notified }) (next s false w)) (sym waits) (record {
       state = refl;
-      places = λ u h. c .put .ensures u h;
+      threads = record { same-place = λ u h. c .put .ensures u h };
       notices = λ u h. refl;
     }))
 

@@ -1,12 +1,11 @@
 -- `stepper::ran` meets its contract: the look-ups and the calls are the parts of the point after a body.
-use Prim.Native.Nat.{ℕ, _<_}
-use mathlib.Core.Path.{_≡_, refl, ap, ap₂, _∙_}
+use mathlib.Core.Path.{refl, ap, ap₂, _∙_}
 use mathlib.Core.Bool.{Bool, _||_}
-use Rattle.machine.specs.Monitor.{Place}
+use Rattle.machine.specs.Monitor.{Place, Threads, SameThreads, threads}
 use Rattle.machine.specs.Decide.Step.{ran, leave, put, without}
-use Rattle.stepper.specs.Shown.{frameOf}
-use Rattle.stepper.specs.Slices.{placesOf, afterAt, followsAt, configOf}
-use Rattle.stepper.proofs.Agree.{told-places}
+use Rattle.stepper.specs.Shown.{threadsOf, frameOf}
+use Rattle.stepper.specs.Slices.{afterAt, followsAt, configOf}
+use Rattle.stepper.proofs.Agree.{told-alike}
 use borrow.Author.Needs.{needs}
 use Rattle.stepper.proofs.ran.Statement.{statement}
 use Rattle.stepper.proofs.ran.Tie as tie
@@ -51,23 +50,25 @@ union-requires : tie.Need-union-requires
 union-requires c κs = search needs
 
 returns : tie.Need-returns
-unfolding ran leave without afterAt configOf frameOf placesOf
+unfolding ran leave without afterAt configOf frameOf threads
 returns c =
     let a = c .before .before .before .before .before .before .before .before .args in
     let d = c .before .before .before .before .before in
-    let before : ℕ → Place = placesOf (a .run .threads) in
-    let after : ℕ → Place = put before (a .frame .thread) (followsAt (a .goes-on .now) (a .frame .region)) in
+    let before : Threads = threadsOf (a .run .threads) in
+    let after : Threads = leave before (a .frame .thread) (followsAt (a .goes-on .now) (a .frame .region)) in
     let to = afterAt (a .after .now) (a .frame .region) (a .run .state) in
-    let moved : (u : ℕ) → u < 16 → placesOf (d .put .result) u ≡ after u =
-    λ u h. d .put .ensures u h ∙ ap (λ (q : Place). put before (a .frame .thread) q u) (d .before .behind .ensures) in
+    let moved : SameThreads (threadsOf (d .put .result)) after =
+    record {
+      same-place = λ u h. d .put .ensures u h ∙ ap (λ (q : Place). put (before .place) (a .frame .thread) q u) (d .before .behind .ensures);
+    } in
     record {
       state = refl;
-      places = moved;
+      threads = moved;
       notices = λ u h.
           c .union .ensures u
           ∙ ap₂ (λ (x y : Bool). x || y) (c .before .without .ensures u)
           (c .before .before .told .ensures u h
-          ∙ told-places (a .holds .now) (a .guard-of .now) (a .entries .now) (a .table) to (placesOf (d .put .result)) after moved (a .frame .region) u h);
+          ∙ told-alike (a .holds .now) (a .guard-of .now) (a .entries .now) (a .table) to (threadsOf (d .put .result)) after moved (a .frame .region) u h);
     }
 
 pub ran-spec : {M : Type 1} → statement M

@@ -3,7 +3,8 @@ use borrow.Author.Needs.{needs}
 use mathlib.Core.Path.{_∙_, sym, ap}
 use mathlib.Core.Bool.{Bool}
 use Rattle.machine.specs.Decide.Step.{plainTold}
-use Rattle.stepper.specs.Slices.{toldAt, placesOf}
+use Rattle.stepper.specs.Shown.{threadsOf}
+use Rattle.stepper.specs.Slices.{toldAt}
 use Rattle.stepper.proofs.told.Statement.{statement}
 use Rattle.stepper.proofs.told.Tie as tie
 
@@ -19,7 +20,7 @@ returns c = λ u h.
     let a = c .before .before .args in
     c .told-table .ensures u h
     ∙ sym
-    (ap (λ (b : Bool). toldAt (a .holds .now) (a .guard-of .now) (a .entries .now) b (a .state) (placesOf (a .threads)) (a .region) u)
+    (ap (λ (b : Bool). toldAt (a .holds .now) (a .guard-of .now) (a .entries .now) b (a .state) (threadsOf (a .threads)) (a .region) u)
     (c .before .if1 .taken))
 
 returns-2 : tie.Need-returns-2
@@ -28,7 +29,7 @@ returns-2 c = λ u h.
     let a = c .before .before .args in
     c .told-plain .ensures u h
     ∙ sym
-    (ap (λ (b : Bool). toldAt (a .holds .now) (a .guard-of .now) (a .entries .now) b (a .state) (placesOf (a .threads)) (a .region) u)
+    (ap (λ (b : Bool). toldAt (a .holds .now) (a .guard-of .now) (a .entries .now) b (a .state) (threadsOf (a .threads)) (a .region) u)
     (c .before .if1 .left))
 
 pub told-spec : {M : Type 1} → statement M

@@ -6,8 +6,8 @@ use mathlib.Core.Logic.{⊎-elim}
 use native.Mathlib.Omega.{arith}
 use Rattle.sets.specs.Set.{member}
 use Rattle.machine.specs.Decide.Step.{own}
-use Rattle.stepper.specs.Slices.{placesOf, truths}
-use Rattle.stepper.specs.Shown.{idleThread}
+use Rattle.stepper.specs.Slices.{truths}
+use Rattle.stepper.specs.Shown.{placesOf, idleThread}
 use Rattle.stepper.proofs.Loops.{Gathered, gather-none, gather-in, gather-out, gather-all}
 use Rattle.stepper.proofs.told_plain.Statement.{statement}
 use Rattle.stepper.proofs.told_plain.Tie as tie

@@ -1,5 +1,5 @@
 -- `stepper::told_table` meets its contract. The invariant: of the threads below u the set has those whom the entries notify, and `met` has
--- the guards that some thread below u waits on, so "not met" is "no waiter ahead".
+-- the guards that some thread below u waits on, so a waiter whose guard is not met is next in line.
 use Prim.Native.Nat.{ℕ, _+_, _-_, _≤_}
 use mathlib.Core.Path.{_≡_, _∙_, sym, ap, subst}
 use mathlib.Core.Bool.{Bool, _||_}
@@ -8,20 +8,21 @@ use native.Mathlib.Numerals.{add-one}
 use native.Mathlib.Omega.{arith}
 use Rattle.sets.specs.Set.{member}
 use Rattle.sets.proofs.SetLaws.{member-none}
-use Rattle.machine.specs.Monitor.{Place}
+use Rattle.machine.specs.Monitor.{Threads}
 use Rattle.logic.specs.Tests.{any}
 use Rattle.machine.specs.Decide.Step.{onGuard}
 use Rattle.machine.specs.Decide.Table.{tableTold}
-use Rattle.stepper.specs.Shown.{idleThread}
-use Rattle.stepper.specs.Slices.{placesOf, entryAt, guardsOnly, truths}
-use Rattle.stepper.proofs.Loops.{Gathered, gather-none, gather-in, gather-out, gather-all, told-first}
+use Rattle.stepper.specs.Shown.{placesOf, threadsOf, idleThread}
+use Rattle.stepper.specs.Slices.{entryAt, guardsOnly, truths}
+use Rattle.stepper.proofs.Loops.{Gathered, gather-none, gather-in, gather-out, gather-all}
+use Rattle.stepper.proofs.Front.{told-met}
 use Rattle.stepper.proofs.told_table.Statement.{statement}
 use Rattle.stepper.proofs.told_table.Tie as tie
 
 abbrev Inv-loop : tie.InvT-loop
 Inv-loop guard-of holds state entries region threads set₀ met₀ u₀ set met u =
     (u ≤ 16)
-    × Gathered set u (λ v. tableTold (truths holds guard-of) (entryAt entries) state (placesOf threads) region v)
+    × Gathered set u (λ v. tableTold (truths holds guard-of) (entryAt entries) state (threadsOf threads) region v)
     × ((g : ℕ) → member met g ≡ any u (λ v. onGuard (guardsOnly guard-of) g (placesOf threads v)))
 
 abbrev μ-loop : tie.MeasureT-loop
@@ -63,12 +64,12 @@ loop-again c =
     let set = c .before .before .before .before .before .loop .set in
     let met = c .before .before .before .before .before .loop .met in
     let inv = c .before .before .before .before .before .loop .inv in
-    let places : ℕ → Place = placesOf (a .t1) in
-    let test : ℕ → Bool = λ v. tableTold (truths (a .holds .now) (a .guard-of .now)) (entryAt (a .entries .now)) (a .state) places (a .region) v in
-    let waits : ℕ → ℕ → Bool = λ g v. onGuard (guardsOnly (a .guard-of .now)) g (places v) in
+    let known : Threads = threadsOf (a .t1) in
+    let test : ℕ → Bool = λ v. tableTold (truths (a .holds .now) (a .guard-of .now)) (entryAt (a .entries .now)) (a .state) known (a .region) v in
+    let waits : ℕ → ℕ → Bool = λ g v. onGuard (guardsOnly (a .guard-of .now)) g (known .place v) in
     let here : c .before .before .entry-acts .result ≡ test u =
     c .before .before .entry-acts .ensures
-    ∙ told-first (a .holds .now) (a .guard-of .now) (a .entries .now) (a .state) (a .region) met places u (omega arith) (inv .2) in (
+    ∙ told-met (a .holds .now) (a .guard-of .now) (a .entries .now) (a .state) (a .region) met known u (omega arith) (inv .2) in (
       omega arith,
       ⊎-elim
           (λ w. gather-in set (c .before .if1 .set) u test (inv .1) (omega arith) (sym here ∙ w .0 .taken) (λ v. ap (λ (n : ℕ). member n v) (w .2) ∙ w .1 .ensures v))
@@ -81,7 +82,7 @@ returns : tie.Need-returns Inv-loop μ-loop
 returns c =
     let a = c .before .before .args in
     gather-all (c .before .loop .set) (c .before .loop .u)
-    (λ v. tableTold (truths (a .holds .now) (a .guard-of .now)) (entryAt (a .entries .now)) (a .state) (placesOf (a .t1)) (a .region) v)
+    (λ v. tableTold (truths (a .holds .now) (a .guard-of .now)) (entryAt (a .entries .now)) (a .state) (threadsOf (a .t1)) (a .region) v)
     (c .before .loop .inv .1) (omega arith)
 
 pub told-table-spec : {M : Type 1} → statement M

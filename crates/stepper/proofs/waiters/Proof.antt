@@ -6,8 +6,8 @@ use mathlib.Core.Logic.{⊎-elim}
 use native.Mathlib.Omega.{arith}
 use Rattle.sets.specs.Set.{member}
 use Rattle.machine.specs.Decide.Step.{onGuard, waitsOn}
-use Rattle.stepper.specs.Slices.{placesOf, guardsOnly}
-use Rattle.stepper.specs.Shown.{idleThread}
+use Rattle.stepper.specs.Slices.{guardsOnly}
+use Rattle.stepper.specs.Shown.{placesOf, idleThread}
 use Rattle.stepper.proofs.Loops.{Gathered, gather-none, gather-in, gather-out, gather-all}
 use Rattle.stepper.proofs.waiters.Statement.{statement}
 use Rattle.stepper.proofs.waiters.Tie as tie
