@@ -10,8 +10,7 @@ use Rattle.meaning.specs.Hex.{hex2}
 use Rattle.meaning.specs.Decide.Table.{forEach}
 use Rattle.meaning.specs.Calls as calls
 use Rattle.demands.specs.Widths.{RecordFits}
-use Rattle.stepper.specs.Shown.{placeOf}
-use Rattle.stepper.specs.Shown.{placesOf}
+use Rattle.stepper.specs.Shown.{placeOf, placesOf}
 use Rattle.stepper.specs.declared.Thread.{Thread}
 
 -- the line stands at a place, the bytes before and behind are as they were, and the next place is behind it

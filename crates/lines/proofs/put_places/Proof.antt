@@ -3,8 +3,7 @@ use Prim.Native.Nat.{_-_, _≤_}
 use native.Mathlib.Omega.{arith}
 use mathlib.Core.Path.{_≡_}
 use Rattle.meaning.specs.Decide.Table.{forEach}
-use Rattle.stepper.specs.Shown.{idleThread}
-use Rattle.stepper.specs.Shown.{placesOf}
+use Rattle.stepper.specs.Shown.{idleThread, placesOf}
 use Rattle.lines.specs.Written.{Writes, placeAt, placesAt}
 use Rattle.lines.proofs.Writing.{written-none, place-two, turn-place, turn-length, turn}
 use Rattle.lines.proofs.put_places.Statement.{statement}
