@@ -51,10 +51,12 @@ unfolding threads placesOf
 places-shown ts c l h =
     let f : Thread → machine.Place = λ t. placeOf (t .place) in
     let n = length-map ts f in
-    ext-getD (f idleThread) (map f ts) (eachThread 16 0 (c .threads .place)) (n ∙ l ∙ sym (each-length 16 0 (c .threads .place)))
+    ext-getD (f idleThread) (map f ts) (eachThread 16 0 (c .threads .place))
+    (n ∙ l ∙ sym (each-length 16 0 (c .threads .place)))
     (λ i b.
     let low : i < 16 = omega arith in
-    List·getD-map f ts i idleThread ∙ h .same-place i low ∙ ap (c .threads .place) (omega arith) ∙ sym (each-read 16 0 (c .threads .place) (f idleThread) i low))
+    List·getD-map f ts i idleThread ∙ h .same-place i low
+    ∙ ap (c .threads .place) (omega arith) ∙ sym (each-read 16 0 (c .threads .place) (f idleThread) i low))
 
 -- a number below 2 ^ n whose members are given thread by thread is the bits of the list, and has as many ones
 pub set-shown : (n t s : ℕ) (f : ℕ → Bool) → s < 2 ^ n → ((u : ℕ) → u < n → member s u ≡ f (t + u))

@@ -1,4 +1,4 @@
--- Two monitors that agree where threads wait, with threads that are alike on all sixteen, wait, notify and answer alike.
+-- Two monitors that agree where threads wait, with threads alike on all sixteen, wait, notify and answer alike.
 use Prim.Native.Nat.{ℕ, _<_}
 use mathlib.Core.Path.{_≡_, refl, ap, ap₂, _∙_}
 use mathlib.Core.Bool.{Bool, true, false, not, _&&_}
@@ -13,7 +13,8 @@ use Rattle.stepper.specs.Slices.{entryAt, truths, toldAt}
 use Rattle.stepper.proofs.Loops.{any-same}
 
 module _ (m′ m : Monitor) where
-  on-same : (g : ℕ) (q : Place) → ((w : ℕ) → q ≡ waiting w → m′ .guardOf w ≡ m .guardOf w) → onGuard m′ g q ≡ onGuard m g q
+  on-same :
+      (g : ℕ) (q : Place) → ((w : ℕ) → q ≡ waiting w → m′ .guardOf w ≡ m .guardOf w) → onGuard m′ g q ≡ onGuard m g q
   unfolding onGuard
   on-same g idle e = refl
   on-same g (waiting w) e = ap (λ (k : ℕ). eqb k g) (e w refl)
@@ -39,15 +40,20 @@ module _ (m′ m : Monitor) (p′ p : Threads) (same : SameThreads p′ p)
       (any-same 16 (λ v. waitsOn m′ p′ g v && ahead p′ v u) (λ v. waitsOn m p g v && ahead p v u)
       (λ v l. ap₂ (λ (x y : Bool). x && y) (waits-same g v l) (ahead-same same v u l h)))
 
-  pub first-same : (n′ n : ℕ → Bool) → ((u : ℕ) → u < 16 → n′ u ≡ n u) → (g t : ℕ) → t < 16 → firstNotified m′ p′ n′ g t ≡ firstNotified m p n g t
+  pub first-same :
+      (n′ n : ℕ → Bool) → ((u : ℕ) → u < 16 → n′ u ≡ n u) → (g t : ℕ) → t < 16
+      → firstNotified m′ p′ n′ g t ≡ firstNotified m p n g t
   unfolding firstNotified threads
   first-same n′ n e g t h =
       ap not
       (any-same 16 (λ v. waitsOn m′ p′ g v && n′ v && ahead p′ v t) (λ v. waitsOn m p g v && n v && ahead p v t)
-      (λ v l. ap₂ (λ (x y : Bool). x && y) (ap₂ (λ (x y : Bool). x && y) (waits-same g v l) (e v l)) (ahead-same same v t l h)))
+      (λ v l.
+      ap₂ (λ (x y : Bool). x && y) (ap₂ (λ (x y : Bool). x && y) (waits-same g v l) (e v l)) (ahead-same same v t l h)))
 
   -- at the state after a body the guards of the waiters have one truth
-  module _ (s : ℕ) (truth : (u w : ℕ) → u < 16 → p .place u ≡ waiting w → m′ .holds (m .guardOf w) s ≡ m .holds (m .guardOf w) s) where
+  module _ (s : ℕ)
+      (truth : (u w : ℕ) → u < 16 → p .place u ≡ waiting w
+      → m′ .holds (m .guardOf w) s ≡ m .holds (m .guardOf w) s) where
     truth-same : (u w : ℕ) → u < 16 → p .place u ≡ waiting w → m′ .holds (m′ .guardOf w) s ≡ m .holds (m .guardOf w) s
     truth-same u w h e = ap (λ (g : ℕ). m′ .holds g s) (guards u w h e) ∙ truth u w h e
 
@@ -77,6 +83,7 @@ pub told-alike : (hs gs es : List ℕ) (table : Bool) (s : ℕ) (p′ p : Thread
     → (r u : ℕ) → u < 16 → toldAt hs gs es table s p′ r u ≡ toldAt hs gs es table s p r u
 unfolding toldAt
 told-alike hs gs es true s p′ p e r u h =
-    table-same (truths hs gs) (truths hs gs) p′ p e (λ v w l q. refl) s (λ v w l q. refl) (entryAt es) (entryAt es) r (λ v w l q. refl) u h
+    table-same (truths hs gs) (truths hs gs) p′ p e (λ v w l q. refl) s (λ v w l q. refl)
+    (entryAt es) (entryAt es) r (λ v w l q. refl) u h
 told-alike hs gs es false s p′ p e r u h =
     plain-same (truths hs gs) (truths hs gs) p′ p e (λ v w l q. refl) s (λ v w l q. refl) r u h

@@ -11,14 +11,16 @@ use lib.ListN.{getD}
 use borrow.Author.Tests.{le-ltb}
 use Rattle.sets.specs.Set.{member}
 use Rattle.machine.specs.Monitor.{Place, idle, waiting, due, Threads, SameThreads, Monitor, Config, Frame, threads}
-use Rattle.machine.specs.Decide.Step.{Outcome, leave, without, isDue, isWaiting, mayBeAt, may, firstNotified, ran, waited, rechecked, step}
+use Rattle.machine.specs.Decide.Step.{Outcome, leave, without, isDue, isWaiting, mayBeAt, may, firstNotified}
+use Rattle.machine.specs.Decide.Step.{ran, waited, rechecked, step}
 use Rattle.machine.specs.Algorithm1.{Entry, none, entry}
 use Rattle.machine.specs.Decide.Table.{runs, entryOf}
 use Rattle.logic.specs.Tests.{bit}
 use Rattle.machine.specs.Held.{followsBy, codeOf, Held, HeldPlaces, HeldEntries}
 use Rattle.stepper.specs.declared.Run.{Run}
 use Rattle.stepper.specs.Shown.{Shows, Steps, toldOn}
-use Rattle.stepper.specs.Slices.{guardAt, holdsAt, afterAt, beginsAt, followsAt, entryBy, entryAt, slices, truths, toldAt, configOf}
+use Rattle.stepper.specs.Slices.{guardAt, holdsAt, afterAt, beginsAt, followsAt, entryBy, entryAt}
+use Rattle.stepper.specs.Slices.{slices, truths, toldAt, configOf}
 use Rattle.stepper.specs.Parts.{verdictOf, nextBy, nextOf, outcome, step-parts}
 use Rattle.stepper.proofs.Taken as taken-frame
 use Rattle.stepper.proofs.Taken.{taken-there, taken-runs, there-below}
@@ -152,9 +154,11 @@ module _ (m : Monitor) (kept hs as′ gs : List ℕ) (held : Held m kept hs as�
         unfolding may threads
         there-same =
             ap₂ (λ (x y : Bool). not x && y)
-            (any-same 16 (λ u. not (eqb u (f .thread)) && isDue (configOf run .threads .place u)) (λ u. not (eqb u (f .thread)) && isDue (c .threads .place u))
+            (any-same 16 (λ u. not (eqb u (f .thread)) && isDue (configOf run .threads .place u))
+            (λ u. not (eqb u (f .thread)) && isDue (c .threads .place u))
             (λ u h. ap (λ (q : Place). not (eqb u (f .thread)) && isDue q) (place-same u h)))
-            (ap (λ (q : Place). mayBeAt read q (f .region)) (place-same (f .thread) thread) ∙ at-same n e (c .threads .place (f .thread)) (f .region))
+            (ap (λ (q : Place). mayBeAt read q (f .region)) (place-same (f .thread) thread)
+            ∙ at-same n e (c .threads .place (f .thread)) (f .region))
 
         taken-alike : f .region < m .regions → verdictOf read (configOf run) f ≡ verdictOf m c f
         unfolding verdictOf
@@ -166,8 +170,9 @@ module _ (m : Monitor) (kept hs as′ gs : List ℕ) (held : Held m kept hs as�
             same-verdict there-same (ap (Bool·beq (f .flag)) truth) (ap isWaiting (place-same (f .thread) thread)) refl
             (notice-same (f .thread) thread)
             (ap (λ (g : ℕ). firstNotified read (configOf run .threads) (configOf run .notified) g (f .thread)) guard
-            ∙ first-same read m (configOf run .threads) (c .threads) threads-same (λ u w h q. guard-held w (waiter-below u w q))
-            (configOf run .notified) (c .notified) notice-same (m .guardOf (f .region)) (f .thread) thread)
+            ∙ first-same read m (configOf run .threads) (c .threads) threads-same
+            (λ u w h q. guard-held w (waiter-below u w q)) (configOf run .notified) (c .notified) notice-same
+            (m .guardOf (f .region)) (f .thread) thread)
 
         pub verdict-held : verdictOf read (configOf run) f ≡ verdictOf m c f
         verdict-held = go (may m (c .threads) f) refl
@@ -251,7 +256,8 @@ module _ (m : Monitor) (kept hs as′ gs : List ℕ) (held : Held m kept hs as�
         unfolding nextOf
         next-held =
             subst (λ (w : Bool). Alike (nextBy moves (toldAt hs gs es table) (configOf run) f (f .flag) w) (nextOf m (toldOn m table) c f))
-            (sym (ap isWaiting (place-same (f .thread) thread))) (alike (f .flag) (isWaiting (c .threads .place (f .thread))) refl)
+            (sym (ap isWaiting (place-same (f .thread) thread)))
+            (alike (f .flag) (isWaiting (c .threads .place (f .thread))) refl)
 
       -- ---- the code's two answers against the machine's step
       module _ (n : ℕ) (e : m .regions ≡ n) (es : List ℕ) (table : Bool) (entries : table ≡ true → HeldEntries m es) where

@@ -1,5 +1,6 @@
--- Who stands at the front, as the code finds it: those who wait stand by their numbers, so the lowest of a set is the one that none of
--- the set stands ahead of, and the first waiter on a guard is the first that is met. `lower-ahead` alone knows the order.
+-- Who stands at the front, as the code finds it: those who wait stand by their numbers, so the lowest of a set is the
+-- one that none of the set stands ahead of, and the first waiter on a guard is the first that is met. `lower-ahead`
+-- alone knows the order.
 use Prim.Native.Nat.{ℕ, _≤_, _<_}
 use mathlib.Core.Path.{_≡_, refl, sym, ap, _∙_}
 use mathlib.Core.Bool.{Bool, true, false, not, _&&_}
@@ -72,7 +73,8 @@ module _ (hs gs es : List ℕ) (s r met : ℕ) (p : Threads) (u : ℕ) (h : u �
       let here : on u ≡ true = ap (onGuard (truths hs gs) g) e ∙ eq-eqb g g refl in
       let before : member met g ≡ any threads (λ v. on v && ahead p v u) =
       met-below g
-      ∙ any-same u (λ v. onGuard (guardsOnly gs) g (p .place v)) on (λ k l. sym (guards-alone hs [] gs [] [] 0 g (p .place k)))
+      ∙ any-same u (λ v. onGuard (guardsOnly gs) g (p .place v)) on
+      (λ k l. sym (guards-alone hs [] gs [] [] 0 g (p .place k)))
       ∙ sym (below-ahead p on u h) in
       ap not before ∙ sym (ap (λ (b : Bool). b && not (any threads (λ v. on v && ahead p v u))) here)
 

@@ -48,7 +48,9 @@ module _ (m : Monitor) (c : Config) (f : Frame) where
         → (u w : ℕ) → leave (c .threads) (f .thread) (m .follows (f .region)) .place u ≡ waiting w → w < m .regions
     unfolding followsBy PlaceWithin
     left-below bs os h l u w e = split-eq u (f .thread)
-        (λ z. absurd (never (getD os (f .region) 0) (sym (h .by-follows (f .region) l) ∙ sym (left-own p t q) ∙ ap (leave p t q .place) (sym z) ∙ e)))
+        (λ z.
+        let own = sym (left-own p t q) ∙ ap (leave p t q .place) (sym z) ∙ e in
+        absurd (never (getD os (f .region) 0) (sym (h .by-follows (f .region) l) ∙ own)))
         (λ z. x .within u .0 w (sym (left-other p t q u z) ∙ e))
       where
         p : Threads

@@ -55,8 +55,10 @@ module _ (m : Monitor) (told : Told) (c : Config) (f : Frame) where
   unfolding act outcome verdict nextBy
   act-parts false false = refl
   act-parts false true = refl
-  act-parts true false = rechecked-parts (c .notified (f .thread)) (firstNotified m (c .threads) (c .notified) (m .guardOf (f .region)) (f .thread))
-  act-parts true true = allowed-parts (c .notified (f .thread)) (firstNotified m (c .threads) (c .notified) (m .guardOf (f .region)) (f .thread))
+  act-parts true false = rechecked-parts (c .notified (f .thread))
+      (firstNotified m (c .threads) (c .notified) (m .guardOf (f .region)) (f .thread))
+  act-parts true true = allowed-parts (c .notified (f .thread))
+      (firstNotified m (c .threads) (c .notified) (m .guardOf (f .region)) (f .thread))
 
   judged-parts : (there same : Bool) →
       let first = firstNotified m (c .threads) (c .notified) (m .guardOf (f .region)) (f .thread) in

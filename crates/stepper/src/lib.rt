@@ -8,12 +8,14 @@ ghost use lib.Dec.{eqb};
 ghost use Rattle.sets.specs.Set.{member};
 ghost use Rattle.machine.specs.Monitor.{Monitor, Config, allIdle};
 ghost use Rattle.logic.specs.Tests.{any};
-ghost use Rattle.machine.specs.Decide.Step.{Told, isDue, isWaiting, mayBeAt, onGuard, waitsOn, own, put as putAt, ran as ranTo};
+ghost use Rattle.machine.specs.Decide.Step.{Told, isDue, isWaiting, mayBeAt, onGuard, waitsOn, own};
+ghost use Rattle.machine.specs.Decide.Step.{put as putAt, ran as ranTo};
 ghost use Rattle.machine.specs.Decide.Table.{acts as actsOf, tableTold};
 ghost use Rattle.machine.specs.Held.{Held, HeldPlaces, HeldEntries};
 ghost use Rattle.machine.proofs.Reached.{Reached};
 ghost use Rattle.stepper.specs.Shown.{Shows, Steps, stepBy, placeOf, placesOf, threadsOf, frameOf};
-ghost use Rattle.stepper.specs.Slices.{guardAt, holdsAt, followsAt, entryBy, entryAt, slices, guardsOnly, truths, toldAt, toldBehind, configOf};
+ghost use Rattle.stepper.specs.Slices.{guardAt, holdsAt, followsAt, entryBy, entryAt, slices, guardsOnly, truths};
+ghost use Rattle.stepper.specs.Slices.{toldAt, toldBehind, configOf};
 ghost use Rattle.stepper.specs.Parts.{verdictOf, nextBy};
 
 // Where a thread is: idle, waiting at a region, or due at a region.
@@ -138,7 +140,8 @@ fn waits_on(place: Place, guard_of: &[u8; 16], guard: u8) -> bool
 
 // The waiters on a guard, as a set.
 fn waiters(threads: [Thread; 16], guard_of: &[u8; 16], guard: u8) -> u16
-    ensures { λ r. ⌜ ((u : ℕ) → u < 16 → member r u ≡ waitsOn (guardsOnly (now («guard_of» .entry))) (threadsOf threads) guard u) ⌝ }
+    ensures { λ r. ⌜ ((u : ℕ) → u < 16 → member r u
+        ≡ waitsOn (guardsOnly (now («guard_of» .entry))) (threadsOf threads) guard u) ⌝ }
 {
     let mut set: u16 = 0;
     let mut u: usize = 0;

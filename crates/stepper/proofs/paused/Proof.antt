@@ -3,6 +3,7 @@ use mathlib.Core.Path.{refl, sym, _∙_, subst}
 use mathlib.Core.Bool.{Bool, false}
 use Rattle.machine.specs.Monitor.{Monitor, Config, threads}
 use Rattle.machine.specs.Decide.Step.{Told, waited, rechecked, beginWait, without}
+use Rattle.stepper.specs.declared.Run.{Run}
 use Rattle.stepper.specs.Shown.{Shows, placeOf, placesOf, idleThread, frameOf}
 use Rattle.stepper.specs.Slices.{configOf}
 use Rattle.stepper.specs.Parts.{nextBy}
@@ -19,9 +20,9 @@ unfolding nextBy frameOf configOf placesOf idleThread rechecked without
 returns c m told =
     let s = c .before .before .before .before .before in
     let run = s .args .run in
+    let after : Run = record { state = run .state; threads = run .threads; notified = c .without .result } in
     let waits = sym (c .before .before .is-waiting .ensures) ∙ c .before .if1 .taken in
-    subst (λ (w : Bool).
-    Shows (record { state = run .state; threads = run .threads; notified = c .without .result }) (next s m told w)) (sym waits)
+    subst (λ (w : Bool). Shows after (next s m told w)) (sym waits)
     (record {
       state = refl;
       threads = record { same-place = λ u h. refl };
@@ -33,9 +34,9 @@ unfolding nextBy frameOf configOf placesOf idleThread waited beginWait placeOf t
 returns-2 c m told =
     let s = c .before .before .before .before .before in
     let run = s .args .run in
+    let after : Run = record { state = run .state; threads = c .put .result; notified = run .notified } in
     let waits = sym (c .before .before .is-waiting .ensures) ∙ c .before .if1 .left in
-    subst (λ (w : Bool).
-    Shows (record { state = run .state; threads = c .put .result; notified = run .notified }) (next s m told w)) (sym waits)
+    subst (λ (w : Bool). Shows after (next s m told w)) (sym waits)
     (record {
       state = refl;
       threads = record { same-place = λ u h. c .put .ensures u h };
@@ -45,14 +46,5 @@ returns-2 c m told =
 pub paused-spec : {M : Type 1} → statement M
 paused-spec =
     tie.close
-    (tie.spec
-    (λ c. search needs)
-    (λ c. search needs)
-    (λ c. search needs)
-    (λ c κs. search needs)
-    (λ c. search needs)
-    (λ c κs. search needs)
-    returns
-    (λ c. search needs)
-    (λ c κs. search needs)
-    returns-2)
+    (tie.spec (λ c. search needs) (λ c. search needs) (λ c. search needs) (λ c κs. search needs) (λ c. search needs)
+    (λ c κs. search needs) returns (λ c. search needs) (λ c κs. search needs) returns-2)

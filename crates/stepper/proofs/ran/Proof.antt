@@ -24,10 +24,12 @@ returns c =
     let left : SameThreads (threadsOf (d .put .result)) after =
     record {
       same-place = λ u h.
-          d .put .ensures u h ∙ ap (λ (q : Place). put (before .place) (a .frame .thread) q u) (d .before .behind .ensures);
+          d .put .ensures u h
+          ∙ ap (λ (q : Place). put (before .place) (a .frame .thread) q u) (d .before .behind .ensures);
     } in
     let telling : Bool → ℕ → Bool = λ b u.
-    toldAt (a .holds .now) (a .guard-of .now) (a .entries .now) b to (threadsOf (d .put .result)) (a .frame .region) u in
+    toldAt (a .holds .now) (a .guard-of .now) (a .entries .now) b to (threadsOf (d .put .result))
+    (a .frame .region) u in
     let told : (u : ℕ) → u < 16 → member (c .before .before .if1 .told) u ≡ telling (a .table) u =
     λ u h. ⊎-elim
     (λ w. ap (λ (n : ℕ). member n u) (w .2) ∙ w .1 .ensures u h ∙ sym (ap (λ (b : Bool). telling b u) (w .0 .taken)))
@@ -40,26 +42,13 @@ returns c =
           c .union .ensures u
           ∙ ap₂ (λ (x y : Bool). x || y) (c .before .without .ensures u)
           (told u h
-          ∙ told-alike (a .holds .now) (a .guard-of .now) (a .entries .now) (a .table) to (threadsOf (d .put .result)) after left
-          (a .frame .region) u h);
+          ∙ told-alike (a .holds .now) (a .guard-of .now) (a .entries .now) (a .table) to
+          (threadsOf (d .put .result)) after left (a .frame .region) u h);
     }
 
 pub ran-spec : {M : Type 1} → statement M
 ran-spec =
     tie.close
-    (tie.spec
-    (λ c. search needs)
-    (λ c κs. search needs)
-    (λ c κs. search needs)
-    (λ c. search needs)
-    (λ c. search needs)
-    (λ c. search needs)
-    (λ c. search needs)
-    (λ c. search needs)
-    (λ c. search needs)
-    (λ c κs. search needs)
-    (λ c κs. search needs)
-    (λ c. search needs)
-    (λ c κs. search needs)
-    (λ c κs. search needs)
-    returns)
+    (tie.spec (λ c. search needs) (λ c κs. search needs) (λ c κs. search needs) (λ c. search needs) (λ c. search needs)
+    (λ c. search needs) (λ c. search needs) (λ c. search needs) (λ c. search needs) (λ c κs. search needs)
+    (λ c κs. search needs) (λ c. search needs) (λ c κs. search needs) (λ c κs. search needs) returns)

@@ -1,5 +1,5 @@
--- `stepper::step` meets its contract: the number and the next point of the slices' monitor are those of the monitor that
--- they hold, and the two parts make the machine's step.
+-- `stepper::step` meets its contract: the number and the next point of the slices' monitor are those of the monitor
+-- that they hold, and the two parts make the machine's step.
 use Prim.Native.Nat.{ℕ, _%_, _<_}
 use mathlib.Core.Path.{_≡_, sym, ap, _∙_, subst}
 use mathlib.Core.Bool.{Bool, true, false}
@@ -28,7 +28,8 @@ same-frame f h = ap (λ (t : ℕ). frameOf (record { thread = t; region = f .reg
 
 number : (c : tie.After-judge) → let a = c .before .before .args in a .frame .thread < 16
     → c .judge .result
-    ≡ verdictOf (slices (a .holds .now) [] (a .guard-of .now) (a .begins .now) [] (a .regions)) (configOf (a .run)) (frameOf (a .frame))
+    ≡ verdictOf (slices (a .holds .now) [] (a .guard-of .now) (a .begins .now) [] (a .regions)) (configOf (a .run))
+    (frameOf (a .frame))
 number c h =
     let a = c .before .before .args in
     c .judge .ensures
@@ -41,7 +42,8 @@ module _ (m : Monitor) (told : Told) (c : Config) (f : Frame) where
   unfolding nextOf nextBy
   next-ran e = sym (ap (λ (b : Bool). nextBy m told c f b (isWaiting (c .threads .place (f .thread)))) e)
 
-  next-paused : f .flag ≡ false → nextBy m told c f false (isWaiting (c .threads .place (f .thread))) ≡ nextOf m told c f
+  next-paused :
+      f .flag ≡ false → nextBy m told c f false (isWaiting (c .threads .place (f .thread))) ≡ nextOf m told c f
   unfolding nextOf
   next-paused e = sym (ap (λ (b : Bool). nextBy m told c f b (isWaiting (c .threads .place (f .thread)))) e)
 
@@ -58,7 +60,8 @@ next-at s f = nextOf (moves s) (telling s) (configOf (s .args .run)) (frameOf f)
 shown : (s : tie.Start) (next : Run) {x : Config} → x ≡ next-at s (known (s .args .frame)) → Shows next x
     → s .args .frame .thread < 16 → Shows next (next-at s (s .args .frame))
 shown s next e h thread =
-    subst (Shows next) (e ∙ ap (nextOf (moves s) (telling s) (configOf (s .args .run))) (same-frame (s .args .frame) thread)) h
+    subst (Shows next)
+    (e ∙ ap (nextOf (moves s) (telling s) (configOf (s .args .run))) (same-frame (s .args .frame) thread)) h
 
 returns : tie.Need-returns
 unfolding stepBy frameOf configOf
@@ -73,7 +76,8 @@ unfolding stepBy frameOf configOf
 returns-2 c m d kept e held places entries thread reached shows =
     let s = c .before .before .before .before .before in
     let a = s .args in
-    let next = next-ran (moves s) (telling s) (configOf (a .run)) (frameOf (known (a .frame))) (c .before .if2 .taken) in
+    let from = configOf (a .run) in
+    let next = next-ran (moves s) (telling s) from (frameOf (known (a .frame))) (c .before .if2 .taken) in
     takes m kept (a .holds .now) (a .after .now) (a .guard-of .now) held (a .begins .now) (a .goes-on .now) places
     d (frameOf (a .frame)) (a .run) thread reached shows (a .regions) e (a .entries .now) (a .table) entries
     (c .before .before .before .judge .result) (c .ran .result) (number (c .before .before .before) thread)
@@ -84,7 +88,8 @@ unfolding stepBy frameOf configOf
 returns-3 c m d kept e held places entries thread reached shows =
     let s = c .before .before .before .before .before in
     let a = s .args in
-    let next = next-paused (moves s) (telling s) (configOf (a .run)) (frameOf (known (a .frame))) (c .before .if2 .left) in
+    let from = configOf (a .run) in
+    let next = next-paused (moves s) (telling s) from (frameOf (known (a .frame))) (c .before .if2 .left) in
     takes m kept (a .holds .now) (a .after .now) (a .guard-of .now) held (a .begins .now) (a .goes-on .now) places
     d (frameOf (a .frame)) (a .run) thread reached shows (a .regions) e (a .entries .now) (a .table) entries
     (c .before .before .before .judge .result) (c .paused .result) (number (c .before .before .before) thread)
@@ -93,10 +98,4 @@ returns-3 c m d kept e held places entries thread reached shows =
 pub step-spec : {M : Type 1} → statement M
 step-spec =
     tie.close
-    (tie.spec
-    (λ c κs. search needs)
-    returns
-    (λ c κs. search needs)
-    (λ c κs. search needs)
-    returns-2
-    returns-3)
+    (tie.spec (λ c κs. search needs) returns (λ c κs. search needs) (λ c κs. search needs) returns-2 returns-3)

@@ -1,4 +1,5 @@
--- `stepper::told_plain` meets its contract. The invariant: of the threads below u the set has the waiters whose guard holds.
+-- `stepper::told_plain` meets its contract. The invariant: of the threads below u the set has the waiters whose guard
+-- holds.
 use Prim.Native.Nat.{ℕ, _-_, _≤_}
 use mathlib.Core.Path.{_∙_, ap}
 use mathlib.Core.Logic.{inl, inr, ⊎-elim}
@@ -24,23 +25,13 @@ loop-again c =
     let loop = c .before .before .before .before .loop in (
       omega arith,
       gather-turn (loop .inv .1) (omega arith) (c .before .own-holds .ensures)
-          (⊎-elim (λ w. inl (w .0 .taken, λ v. ap (λ (n : ℕ). member n v) (w .2) ∙ w .1 .ensures v)) (λ w. inr (w .0 .left, w .1))
-          (c .if1 .came)),
+          (⊎-elim (λ w. inl (w .0 .taken, λ v. ap (λ (n : ℕ). member n v) (w .2) ∙ w .1 .ensures v))
+          (λ w. inr (w .0 .left, w .1)) (c .if1 .came)),
     )
 
 pub told-plain-spec : {M : Type 1} → statement M
 told-plain-spec =
     tie.close
-    (tie.spec
-    Inv-loop
-    μ-loop
-    (λ c. (omega arith, gather-none))
-    (λ c. omega arith)
-    (λ c. omega arith)
-    (λ c κs. tt)
-    (λ c. record { fits = omega arith })
-    (λ c κs. tt)
-    (λ c. omega arith)
-    (λ c. omega arith)
-    loop-again
+    (tie.spec Inv-loop μ-loop (λ c. (omega arith, gather-none)) (λ c. omega arith) (λ c. omega arith) (λ c κs. tt)
+    (λ c. record { fits = omega arith }) (λ c κs. tt) (λ c. omega arith) (λ c. omega arith) loop-again
     (λ c. gather-all (c .before .loop .inv .1) (omega arith)))

@@ -1,5 +1,6 @@
--- `stepper::told_table` meets its contract. The invariant: of the threads below u the set has those whom the entries notify, and
--- `met` has the guards that some thread below u waits on, so a waiter whose guard is not met is next in line.
+-- `stepper::told_table` meets its contract. The invariant: of the threads below u the set has those whom the entries
+-- notify, and `met` has the guards that some thread below u waits on, so a waiter whose guard is not met is
+-- next in line.
 use Prim.Native.Nat.{ℕ, _-_, _≤_}
 use mathlib.Core.Path.{_≡_, _∙_, sym, ap}
 use mathlib.Core.Bool.{Bool, _||_}
@@ -43,8 +44,8 @@ loop-again c =
     (loop .u) (omega arith) (loop .inv .2) in (
       omega arith,
       gather-turn (loop .inv .1) (omega arith) (c .before .before .entry-acts .ensures ∙ told)
-          (⊎-elim (λ w. inl (w .0 .taken, λ v. ap (λ (n : ℕ). member n v) (w .2) ∙ w .1 .ensures v)) (λ w. inr (w .0 .left, w .1))
-          (c .before .if1 .came)),
+          (⊎-elim (λ w. inl (w .0 .taken, λ v. ap (λ (n : ℕ). member n v) (w .2) ∙ w .1 .ensures v))
+          (λ w. inr (w .0 .left, w .1)) (c .before .if1 .came)),
       λ g. c .met-with .ensures g ∙ ap (λ (b : Bool). waits g (loop .u) || b) (loop .inv .2 g)
           ∙ ap (λ (k : ℕ). any k (waits g)) (sym (add-one (loop .u))),
     )
@@ -52,17 +53,6 @@ loop-again c =
 pub told-table-spec : {M : Type 1} → statement M
 told-table-spec =
     tie.close
-    (tie.spec
-    Inv-loop
-    μ-loop
-    loop-holds
-    (λ c. omega arith)
-    (λ c. omega arith)
-    (λ c κs. tt)
-    (λ c. record { fits = omega arith })
-    (λ c κs. tt)
-    (λ c κs. tt)
-    (λ c. omega arith)
-    (λ c. omega arith)
-    loop-again
+    (tie.spec Inv-loop μ-loop loop-holds (λ c. omega arith) (λ c. omega arith) (λ c κs. tt)
+    (λ c. record { fits = omega arith }) (λ c κs. tt) (λ c κs. tt) (λ c. omega arith) (λ c. omega arith) loop-again
     (λ c. gather-all (c .before .loop .inv .1) (omega arith)))

@@ -12,7 +12,8 @@ use Rattle.stepper.proofs.waiters.Statement.{statement}
 use Rattle.stepper.proofs.waiters.Tie as tie
 
 abbrev Inv-loop : tie.InvT-loop
-Inv-loop guard-of guard threads set₀ u₀ set u = (u ≤ 16) × Gathered set u (waitsOn (guardsOnly guard-of) (threadsOf threads) guard)
+Inv-loop guard-of guard threads set₀ u₀ set u =
+    (u ≤ 16) × Gathered set u (waitsOn (guardsOnly guard-of) (threadsOf threads) guard)
 
 abbrev μ-loop : tie.MeasureT-loop
 μ-loop guard-of guard threads set₀ u₀ set u = 16 - u
@@ -23,23 +24,13 @@ loop-again c =
     let loop = c .before .before .before .before .loop in (
       omega arith,
       gather-turn (loop .inv .1) (omega arith) (c .before .waits-on .ensures)
-          (⊎-elim (λ w. inl (w .0 .taken, λ v. ap (λ (n : ℕ). member n v) (w .2) ∙ w .1 .ensures v)) (λ w. inr (w .0 .left, w .1))
-          (c .if1 .came)),
+          (⊎-elim (λ w. inl (w .0 .taken, λ v. ap (λ (n : ℕ). member n v) (w .2) ∙ w .1 .ensures v))
+          (λ w. inr (w .0 .left, w .1)) (c .if1 .came)),
     )
 
 pub waiters-spec : {M : Type 1} → statement M
 waiters-spec =
     tie.close
-    (tie.spec
-    Inv-loop
-    μ-loop
-    (λ c. (omega arith, gather-none))
-    (λ c. omega arith)
-    (λ c. omega arith)
-    (λ c κs. tt)
-    (λ c. record { fits = omega arith })
-    (λ c κs. tt)
-    (λ c. omega arith)
-    (λ c. omega arith)
-    loop-again
+    (tie.spec Inv-loop μ-loop (λ c. (omega arith, gather-none)) (λ c. omega arith) (λ c. omega arith) (λ c κs. tt)
+    (λ c. record { fits = omega arith }) (λ c κs. tt) (λ c. omega arith) (λ c. omega arith) loop-again
     (λ c. gather-all (c .before .loop .inv .1) (omega arith)))
