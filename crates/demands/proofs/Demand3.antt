@@ -3,16 +3,16 @@ use Rattle.machine.specs.Monitor as machine
 use Rattle.machine.specs.Agreement as agreement
 use Prim.Native.Nat.{ℕ, _<_, zero, suc, _+_, _*_, _/_, _%_}
 use native.Mathlib.Omega.{arith}
-use mathlib.Core.Path.{_≡_, refl, sym, subst, ap, _∙_, fun-ext}
+use mathlib.Core.Path.{_≡_, refl, sym, subst, ap, _∙_}
 use mathlib.Core.Bool.{Bool, true, false}
 use mathlib.Core.Logic.{_⊎_, inl, inr, ⊎-elim, _↔_}
 use mathlib.Core.List.{List, _∷_, []}
-use lib.ListN.{getElem?}
-use borrow.Author.Tests.{ltb-true}
+use lib.ListN.{getD, getElem?}
 use Rattle.syntax.specs.Tree.{Monitor}
 use Rattle.syntax.proofs.Grammar.{one-cond}
-use Rattle.machine.specs.Monitor.{Frame, Config, Run, stopped, threads, Place, waiting, ahead}
+use Rattle.machine.specs.Monitor.{Frame, Config, Run, stopped, threads, Place, idle, waiting, Threads, SameThreads}
 use Rattle.machine.specs.Rules.{Waits, First}
+use Rattle.machine.proofs.Order.{ahead-same}
 use Rattle.machine.proofs.RulesDecided.{refuses-number}
 use Rattle.logic.proofs.Bools.{no-some}
 use Rattle.machine.specs.Agreement.{SamePoint, Agrees, plainRun, tableRun}
@@ -22,7 +22,8 @@ use Rattle.meaning.specs.State.{stateAt}
 use Rattle.meaning.specs.Answer.{answer, accepted}
 use Rattle.meaning.specs.Decide.Check.{check}
 use Rattle.meaning.specs.Model.{vars, kept, model, guardOf, holds}
-use Rattle.meaning.specs.Calls.{Machine, plain-machine, table-machine, eachThread, Record, recordOf, Running, ran, not-run, bits, Startable}
+use Rattle.meaning.specs.Calls.{Machine, plain-machine, table-machine, eachThread, bits, Startable}
+use Rattle.meaning.specs.Calls.{Record, threadsOf, recordOf, Running, ran, not-run}
 use Rattle.meaning.specs.Decide.Calls.{place, toldBy, runningOf, runList, running}
 use Rattle.meaning.specs.Accepted.{Accepted}
 use Rattle.meaning.proofs.ModelLaws.{holds-guard, startable-iff}
@@ -77,7 +78,10 @@ answer-of m (stopped a k) = refl
 same-records : (m : Monitor) (c d : Config) → SamePoint (model m) d c
     → (recordOf m d .values ≡ recordOf m c .values) × (recordOf m d .places ≡ recordOf m c .places)
 unfolding recordOf
-same-records m c d p = (ap (stateAt (vars m)) (p .same-state), ap (eachThread threads 0) (fun-ext (p .same-places)))
+same-records m c d p = (
+  ap (stateAt (vars m)) (p .same-state),
+  ap (λ (q : Threads). eachThread threads 0 (q .place)) (p .same-threads),
+)
 
 module _ (file bytes : List ℕ) (s : ℕ) where
   abbrev plain : Running
@@ -127,6 +131,12 @@ module _ (file bytes : List ℕ) (s : ℕ) where
 
 -- Lists of all threads
 
+pub each-read : {A : Type 0} (n t : ℕ) (f : ℕ → A) (d : A) (u : ℕ) → u < n → getD (eachThread n t f) u d ≡ f (t + u)
+unfolding eachThread
+each-read zero t f d u h = absurd (omega arith)
+each-read (suc n) t f d zero h = ap f (omega arith)
+each-read (suc n) t f d (suc u) h = each-read n (t + 1) f d u (omega arith) ∙ ap f (omega arith)
+
 each-at : {A : Type 0} (n t : ℕ) (f : ℕ → A) (u : ℕ) → u < n → getElem? (eachThread n t f) u ≡ some (f (t + u))
 unfolding eachThread
 each-at zero t f u h = absurd (omega arith)
@@ -162,14 +172,15 @@ bit-at (false ∷ bs) (suc u) b e = rw (member-suc, high (bits bs)) (bit-at bs u
 -- From a point to its record
 
 module _ (m : Monitor) (c : Config) where
-  thread-place : (u : ℕ) (q : Place) → getElem? (recordOf m c .places) u ≡ some q → (u < threads) × (c .place u ≡ q)
+  thread-place :
+      (u : ℕ) (q : Place) → getElem? (recordOf m c .places) u ≡ some q → (u < threads) × (c .threads .place u ≡ q)
   unfolding recordOf
   thread-place u q e =
-      let x = each-is threads 0 (c .place) u q e in (x .0, ap (c .place) (omega arith) ∙ x .1)
+      let x = each-is threads 0 (c .threads .place) u q e in (x .0, ap (c .threads .place) (omega arith) ∙ x .1)
 
-  place-listed : (u : ℕ) → u < threads → getElem? (recordOf m c .places) u ≡ some (c .place u)
+  place-listed : (u : ℕ) → u < threads → getElem? (recordOf m c .places) u ≡ some (c .threads .place u)
   unfolding recordOf
-  place-listed u h = each-at threads 0 (c .place) u h ∙ ap some (ap (c .place) (omega arith))
+  place-listed u h = each-at threads 0 (c .threads .place) u h ∙ ap some (ap (c .threads .place) (omega arith))
 
   pub in-set : (u : ℕ) → u < threads → member (recordOf m c .notified) u ≡ c .notified u
   unfolding recordOf
@@ -177,15 +188,25 @@ module _ (m : Monitor) (c : Config) where
       bit-at (eachThread threads 0 (c .notified)) u (c .notified u)
       (each-at threads 0 (c .notified) u h ∙ ap some (ap (c .notified) (omega arith)))
 
+  -- the record says of all threads what the point does
+  record-threads : SameThreads (threadsOf (recordOf m c)) (c .threads)
+  unfolding recordOf
+  record-threads = record {
+    same-place = λ u h. each-read threads 0 (c .threads .place) idle u h ∙ ap (c .threads .place) (omega arith);
+  }
+
   is-next : (u r : ℕ) → FirstWaiter m (recordOf m c) u r
-      → (u < threads) × Waits (model m) (c .place) (guardOf m r) u
-      × First (model m) (c .place) (Waits (model m) (c .place) (guardOf m r)) u × (holds m (guardOf m r) (c .state) ≡ true)
-  unfolding Waits First ahead model recordOf
+      → (u < threads) × Waits (model m) (c .threads) (guardOf m r) u
+      × First (model m) (c .threads) (Waits (model m) (c .threads) (guardOf m r)) u
+      × (holds m (guardOf m r) (c .state) ≡ true)
+  unfolding Waits First model recordOf
   is-next u r w =
       let x = thread-place u (waiting r) (w .waits) in (
         x .0,
         (r, x .1, refl),
-        λ v l y a. w .none-lower v (y .0) (ltb-true v u a) (place-listed v l ∙ ap some (y .1)) (y .2),
+        λ v l y a.
+            let first = ahead-same record-threads v u l (x .0) ∙ a in
+            w .none-ahead v (y .0) first (place-listed v l ∙ ap some (y .1)) (y .2),
         holds-guard m one-cond r (c .state) ∙ w .guard,
       )
 

@@ -119,11 +119,11 @@ record-fits {file} {m} {c} a s x =
     let few-regions = n .regions in
     let few-vars = n .vars in
     let l = state-length s in
-    let place = each-has (PlaceWithin (model m)) 16 0 (c .place) (idle-within (model m)) (x .within) in
+    let place = each-has (PlaceWithin (model m)) 16 0 (c .threads .place) (idle-within (model m)) (x .within) in
     record {
       few = omega arith;
       values = values-fit (a .sound .ranges) s;
-      sixteen = each-length 16 0 (c .place);
+      sixteen = each-length 16 0 (c .threads .place);
       waits = λ t w e. let low = place t .0 w e in omega arith;
       dues = λ t w e. let low = place t .1 w e in omega arith;
     }

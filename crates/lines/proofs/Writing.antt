@@ -12,8 +12,7 @@ use Rattle.meaning.specs.Calls as calls
 use Rattle.meaning.specs.Hex.{hex2}
 use Rattle.meaning.specs.Decide.Table.{forEach}
 use Rattle.meaning.specs.Lines.{placeByte, valueDigits, placeDigits}
-use Rattle.stepper.specs.Shown.{placeOf, idleThread}
-use Rattle.stepper.specs.Slices.{placesOf}
+use Rattle.stepper.specs.Shown.{placeOf, idleThread, placesOf}
 use Rattle.stepper.specs.declared.Thread.{Thread}
 use Rattle.digits.proofs.ForEach.{forEach-length}
 use Rattle.lines.specs.Written.{Fits, byteOf, valueAt, placeAt, valuesAt, placesAt}

@@ -10,8 +10,7 @@ use Rattle.meaning.specs.Hex.{hex2}
 use Rattle.meaning.specs.Decide.Table.{forEach}
 use Rattle.meaning.specs.Calls as calls
 use Rattle.demands.specs.Widths.{RecordFits}
-use Rattle.stepper.specs.Shown.{placeOf}
-use Rattle.stepper.specs.Slices.{placesOf}
+use Rattle.stepper.specs.Shown.{placeOf, placesOf}
 use Rattle.stepper.specs.declared.Thread.{Thread}
 
 -- each value with 128 added, and the threads' places; the record's numbers fit their digits

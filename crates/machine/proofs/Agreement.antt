@@ -8,7 +8,7 @@ use mathlib.Core.Logic.{_⊎_, inl, inr, _↔_, ⊎-elim, Iff·trans, Iff·symm}
 use mathlib.Core.List.{List, _∷_, _++_}
 use lib.ListN.{length, take}
 use lib.Seq.{take-length}
-use Rattle.machine.specs.Monitor.{Place, idle, Monitor, Frame, Config, allIdle, Run, accepted, stopped}
+use Rattle.machine.specs.Monitor.{Threads, idleThreads, Monitor, Frame, Config, allIdle, Run, accepted, stopped}
 use Rattle.machine.specs.Decide.Step.{Told, isWaiting, plainTold, run}
 use Rattle.machine.specs.Algorithm1.{Entry}
 use Rattle.machine.specs.Decide.Table.{tableTold, entryOf, broadcast}
@@ -22,11 +22,11 @@ use Rattle.machine.proofs.Simulation.{Result, same-refusal, at-recheck,
 use Rattle.machine.specs.Agreement.{AgreeOn, Agrees, SamePoint, answer, plainRun, tableRun}
 
 agree-point :
-    {m : Monitor} {bc : ℕ → Bool} {s : ℕ} {p : ℕ → Place} {nP nT : ℕ → Bool} → Agree m bc s p nP nT
+    {m : Monitor} {bc : ℕ → Bool} {s : ℕ} {p : Threads} {nP nT : ℕ → Bool} → Agree m bc s p nP nT
     → SamePoint m (at s p nP) (at s p nT)
 agree-point {m} {bc} {s} {p} {nP} {nT} ag = record {
   same-state = refl;
-  same-places = λ u. refl;
+  same-threads = refl;
   is-kept = ag .plain .is-kept;
   all-notified = λ g u h w. ag .plain .all g u w h;
   next-notified = λ g u h w f. ag .first g u w h f;
@@ -51,7 +51,7 @@ result-point {m} (same-point {s} {p} {nP} {nT} ag) c e =
 -- from any two points in the relation, and for any table that is so placed
 pub agree-from :
     (m : Monitor) → Checked m → (e : ℕ → ℕ → Entry) (bc : ℕ → Bool) → Placed m e bc
-    → (s : ℕ) (p : ℕ → Place) (nP nT : ℕ → Bool) → Agree m bc s p nP nT → (fs : List Frame)
+    → (s : ℕ) (p : Threads) (nP nT : ℕ → Bool) → Agree m bc s p nP nT → (fs : List Frame)
     → AgreeOn m (run m (plainTold m) 0 (at s p nP)) (run m (tableTold m e) 0 (at s p nT)) (RecheckFrom (waiters (at s p nT))) fs
 agree-from m ok e bc placed s p nP nT ag fs = record {
   same-answer = result-answer (run-agree m ok e bc placed fs 0 s p nP nT ag);
@@ -62,7 +62,8 @@ pub agrees : (m : Monitor) → Checked m → Agrees m
 unfolding Agrees plainRun tableRun allIdle isWaiting
 agrees m ok s k fs =
     let start = idle-agree m (broadcast m) s k in
-    let a = agree-from m ok (entryOf m) (broadcast m) (entries-placed m ok) s (λ _. idle) (λ _. false) (λ _. false) start fs in
+    let placed = entries-placed m ok in
+    let a = agree-from m ok (entryOf m) (broadcast m) placed s idleThreads (λ _. false) (λ _. false) start fs in
     record {
       same-answer = ⊎-elim inl (λ x. inr (x .0, x .1, recheck-iff fs (x .0) .0 (x .2))) (a .same-answer);
       every-point = a .every-point;
@@ -85,15 +86,17 @@ module _ (m : Monitor) (ok : Checked m) (s : ℕ) (k : m .kept s ≡ true) (fs :
       (x .0, ap (plainRun m s) (sym (take-length fs)) ∙ x .1, x .2)
 
   -- the plain machine at each of its points, also past a recheck that the table's refuses
-  pub plain-every-point : (d : Config) → plainRun m s fs ≡ accepted d → PlainPoint m (d .state) (d .place) (d .notified)
+  pub plain-every-point :
+      (d : Config) → plainRun m s fs ≡ accepted d → PlainPoint m (d .state) (d .threads) (d .notified)
   unfolding plainRun allIdle
-  plain-every-point = run-plain m ok fs 0 s (λ _. idle) (λ _. false) (idle-plain m s k)
+  plain-every-point = run-plain m ok fs 0 s idleThreads (λ _. false) (idle-plain m s k)
 
 -- A recheck told from the frames alone is a waiting thread's frame with 00, after frames that a machine accepts
 pub recheck-is-waiting :
     (m : Monitor) → Checked m → (told : Told) (notices : Notices) → Decides m told notices
     → (s : ℕ) (front : List Frame) (c : Config) → run m told 0 (allIdle s) front ≡ accepted c → (f : Frame) (more : List Frame)
-    → Recheck (front ++ (f ∷ more)) (length front) ↔ ((f .flag ≡ false) × (isWaiting (c .place (f .thread)) ≡ true))
+    → Recheck (front ++ (f ∷ more)) (length front)
+    ↔ ((f .flag ≡ false) × (isWaiting (c .threads .place (f .thread)) ≡ true))
 unfolding allIdle isWaiting
 recheck-is-waiting m ok told notices decides s front c h f more =
     Iff·trans (Iff·symm (recheck-iff (front ++ (f ∷ more)) (length front)))

@@ -6,7 +6,7 @@ use mathlib.Core.Bool.{Bool, true, false, _&&_, _||_}
 use mathlib.Core.Logic.{_⊎_, inl, inr, ⊎-elim, _↔_, Iff·rfl}
 use lib.Dec.{ltb}
 use borrow.Author.Tests.{ltb-true, ltb-false}
-use Rattle.machine.specs.Monitor.{Place, idle, waiting, Monitor}
+use Rattle.machine.specs.Monitor.{Threads, idleThreads, waiting, Monitor}
 use Rattle.machine.specs.Decide.Step.{without, isWaiting, beginWait, leave, next, firstNotified, plainTold}
 use Rattle.machine.specs.Algorithm1.{Entry, entry}
 use Rattle.machine.specs.Decide.Table.{tableTold, unconditional, broadcast, entryOf}
@@ -48,19 +48,19 @@ entries-placed m ok = record {
 -- Points
 
 -- what holds at each point of the plain machine: notices are for waiters, and a waiter whose guard holds has one
-pub record PlainPoint (m : Monitor) (s : ℕ) (p : ℕ → Place) (n : ℕ → Bool) : Type 0 where
+pub record PlainPoint (m : Monitor) (s : ℕ) (p : Threads) (n : ℕ → Bool) : Type 0 where
   pub is-kept : m .kept s ≡ true
-  pub waits : (u : ℕ) → n u ≡ true → isWaiting (p u) ≡ true
+  pub waits : (u : ℕ) → n u ≡ true → isWaiting (p .place u) ≡ true
   pub all : (g u : ℕ) → Waits m p g u → m .holds g s ≡ true → n u ≡ true
 
 -- what holds between the two machines' notices at a common state and common places
-pub record Agree (m : Monitor) (bc : ℕ → Bool) (s : ℕ) (p : ℕ → Place) (nP nT : ℕ → Bool) : Type 0 where
+pub record Agree (m : Monitor) (bc : ℕ → Bool) (s : ℕ) (p : Threads) (nP nT : ℕ → Bool) : Type 0 where
   pub plain : PlainPoint m s p nP
   pub within : (u : ℕ) → nT u ≡ true → nP u ≡ true
   pub first : (g u : ℕ) → Waits m p g u → m .holds g s ≡ true → First m p (Waits m p g) u → nT u ≡ true
   pub every : (g u : ℕ) → Waits m p g u → m .holds g s ≡ true → bc g ≡ true → nT u ≡ true
 
-pub idle-plain : (m : Monitor) (s : ℕ) → m .kept s ≡ true → PlainPoint m s (λ _. idle) (λ _. false)
+pub idle-plain : (m : Monitor) (s : ℕ) → m .kept s ≡ true → PlainPoint m s idleThreads (λ _. false)
 unfolding Waits isWaiting
 idle-plain m s k = record {
   is-kept = k;
@@ -69,7 +69,8 @@ idle-plain m s k = record {
 }
 
 -- all idle and none notified
-pub idle-agree : (m : Monitor) (bc : ℕ → Bool) (s : ℕ) → m .kept s ≡ true → Agree m bc s (λ _. idle) (λ _. false) (λ _. false)
+pub idle-agree :
+    (m : Monitor) (bc : ℕ → Bool) (s : ℕ) → m .kept s ≡ true → Agree m bc s idleThreads (λ _. false) (λ _. false)
 unfolding Waits isWaiting
 idle-agree m bc s k = record {
   plain = idle-plain m s k;
@@ -80,17 +81,17 @@ idle-agree m bc s k = record {
 
 -- Waiting, before and after
 
-waits-at : (m : Monitor) (p q : ℕ → Place) (g u : ℕ) → q u ≡ p u → Waits m p g u → Waits m q g u
+waits-at : (m : Monitor) (p q : Threads) (g u : ℕ) → q .place u ≡ p .place u → Waits m p g u → Waits m q g u
 unfolding Waits
 waits-at m p q g u e w = (w .0, e ∙ w .1, w .2)
 
-waits-waiting : (m : Monitor) (p : ℕ → Place) (g u : ℕ) → Waits m p g u → isWaiting (p u) ≡ true
+waits-waiting : (m : Monitor) (p : Threads) (g u : ℕ) → Waits m p g u → isWaiting (p .place u) ≡ true
 unfolding Waits isWaiting
 waits-waiting m p g u w = ap isWaiting (w .1)
 
 -- a waiter that is notified if it is next in line may resume exactly if it is next in line
 pub resumes :
-    (m : Monitor) (p : ℕ → Place) (n : ℕ → Bool) (g t : ℕ) → Waits m p g t
+    (m : Monitor) (p : Threads) (n : ℕ → Bool) (g t : ℕ) → Waits m p g t
     → ((u : ℕ) → Waits m p g u → First m p (Waits m p g) u → n u ≡ true)
     → n t && firstNotified m p n g t ≡ next m p g t
 unfolding First
@@ -114,19 +115,19 @@ resumes m p n g t here told = tests-equal (n t && firstNotified m p n g t) (next
 
 -- A body of region r ran, by thread t: it is no waiter any more, and the others keep their places
 
-module _ (m : Monitor) (ok : Checked m) (s : ℕ) (p : ℕ → Place) (t r : ℕ) (guard : m .holds (m .guardOf r) s ≡ true) where
+module _ (m : Monitor) (ok : Checked m) (s : ℕ) (p : Threads) (t r : ℕ) (guard : m .holds (m .guardOf r) s ≡ true) where
   abbrev s′ : ℕ
   s′ = m .after r s
 
-  abbrev p′ : ℕ → Place
+  abbrev p′ : Threads
   p′ = leave p t (m .follows r)
 
   left-waits : (g u : ℕ) → Waits m p′ g u → (u ≡ t → ⊥) × Waits m p g u
   left-waits g u w =
-      split-eq u t (λ q. clash (waits-waiting m p′ g u w) (ap (λ (v : ℕ). isWaiting (p′ v)) q ∙ no-waiter))
+      split-eq u t (λ q. clash (waits-waiting m p′ g u w) (ap (λ (v : ℕ). isWaiting (p′ .place v)) q ∙ no-waiter))
       (λ q. (q, waits-at m p′ p g u (sym (left-other p t (m .follows r) u q)) w))
     where
-      no-waiter : isWaiting (p′ t) ≡ false
+      no-waiter : isWaiting (p′ .place t) ≡ false
       no-waiter = ap isWaiting (left-own p t (m .follows r)) ∙ ok .leaves r
 
   -- the notices of the others stay
@@ -149,7 +150,7 @@ module _ (m : Monitor) (ok : Checked m) (s : ℕ) (p : ℕ → Place) (t r : ℕ
   }
 
   module _ (e : ℕ → ℕ → Entry) (bc : ℕ → Bool) (placed : Placed m e bc) (nP nT : ℕ → Bool) (ag : Agree m bc s p nP nT)
-      (own : (w : ℕ) → p t ≡ waiting w → w ≡ r) where
+      (own : (w : ℕ) → p .place t ≡ waiting w → w ≡ r) where
     abbrev nP′ : ℕ → Bool
     nP′ u = without nP t u || plainTold m s′ p′ r u
 
@@ -199,8 +200,9 @@ module _ (m : Monitor) (ok : Checked m) (s : ℕ) (p : ℕ → Place) (t r : ℕ
     was-first : (g u : ℕ) → (m .guardOf r ≡ g → ⊥) → (u ≡ t → ⊥) → First m p′ (Waits m p′ g) u → First m p (Waits m p g) u
     unfolding First Waits
     was-first g u other d h v l w a =
-        let k : (v ≡ t → ⊥) = λ q. other (ap (m .guardOf) (sym (own (w .0) (ap p (sym q) ∙ w .1))) ∙ w .2) in
-        h v l (waits-at m p p′ g v (left-other p t (m .follows r) v k) w) (ahead-left p t (m .follows r) v u k d ∙ a)
+        let k : (v ≡ t → ⊥) = λ q. other (ap (m .guardOf) (sym (own (w .0) (ap (p .place) (sym q) ∙ w .1))) ∙ w .2) in
+        h v l (waits-at m p p′ g v (left-other p t (m .follows r) v k) w)
+        (ahead-left p t (m .follows r) v u l (waits-waiting m p g v w) k d a)
 
     -- a guard with signals that held before and after the body is not the region's
     not-own : (g : ℕ) → m .holds g s′ ≡ true → bc g ≡ false → m .guardOf r ≡ g → ⊥
@@ -221,16 +223,16 @@ module _ (m : Monitor) (ok : Checked m) (s : ℕ) (p : ℕ → Place) (t r : ℕ
 
 -- Thread t begins to wait at region r: the guard is false, so nothing is asked of it
 
-module _ (m : Monitor) (s : ℕ) (p : ℕ → Place) (t r : ℕ) (guard : m .holds (m .guardOf r) s ≡ false)
-    (idle-or-due : isWaiting (p t) ≡ false) where
-  abbrev q′ : ℕ → Place
+module _ (m : Monitor) (s : ℕ) (p : Threads) (t r : ℕ) (guard : m .holds (m .guardOf r) s ≡ false)
+    (idle-or-due : isWaiting (p .place t) ≡ false) where
+  abbrev q′ : Threads
   q′ = beginWait p t r
 
   -- a waiter whose guard holds waited before
   waited-before : (g u : ℕ) → Waits m q′ g u → m .holds g s ≡ true → (u ≡ t → ⊥) × Waits m p g u
   unfolding Waits
   waited-before g u w h = split-eq u t
-      (λ q. let z : waiting r ≡ waiting (w .0) = sym (began-own p t r) ∙ ap q′ (sym q) ∙ w .1 in
+      (λ q. let z : waiting r ≡ waiting (w .0) = sym (began-own p t r) ∙ ap (q′ .place) (sym q) ∙ w .1 in
       let k : r ≡ w .0 = cc in
       clash h (ap (λ (x : ℕ). m .holds x s) (sym (w .2) ∙ ap (m .guardOf) (sym k)) ∙ guard))
       (λ q. (q, waits-at m q′ p g u (sym (began-other p t r u q)) w))
@@ -238,15 +240,17 @@ module _ (m : Monitor) (s : ℕ) (p : ℕ → Place) (t r : ℕ) (guard : m .hol
   first-before : (g u : ℕ) → (u ≡ t → ⊥) → First m q′ (Waits m q′ g) u → First m p (Waits m p g) u
   unfolding First
   first-before g u d h v l w a =
-      let k : (v ≡ t → ⊥) = λ q. clash (waits-waiting m p g v w) (ap (λ (x : ℕ). isWaiting (p x)) q ∙ idle-or-due) in
-      h v l (waits-at m p q′ g v (began-other p t r v k) w) (ahead-began p t r v u k d ∙ a)
+      let k : (v ≡ t → ⊥) =
+      λ q. clash (waits-waiting m p g v w) (ap (λ (x : ℕ). isWaiting (p .place x)) q ∙ idle-or-due) in
+      h v l (waits-at m p q′ g v (began-other p t r v k) w)
+      (ahead-began p t r v u l (waits-waiting m p g v w) k d a)
 
   pub waited-plain : (n : ℕ → Bool) → PlainPoint m s p n → PlainPoint m s q′ n
   unfolding isWaiting
   waited-plain n pt = record {
     is-kept = pt .is-kept;
     waits = λ u h. split-eq u t
-        (λ q. ap (λ (v : ℕ). isWaiting (q′ v)) q ∙ ap isWaiting (began-own p t r))
+        (λ q. ap (λ (v : ℕ). isWaiting (q′ .place v)) q ∙ ap isWaiting (began-own p t r))
         (λ q. ap isWaiting (began-other p t r u q) ∙ pt .waits u h);
     all = λ g u w h. pt .all g u (waited-before g u w h .1) h;
   }
@@ -261,11 +265,12 @@ module _ (m : Monitor) (s : ℕ) (p : ℕ → Place) (t r : ℕ) (guard : m .hol
 
 -- A recheck of thread t, which waits at region r: the guard is false, and the notice is used up
 
-module _ (m : Monitor) (s : ℕ) (p : ℕ → Place) (t r : ℕ) (guard : m .holds (m .guardOf r) s ≡ false) (here : p t ≡ waiting r) where
+module _ (m : Monitor) (s : ℕ) (p : Threads) (t r : ℕ) (guard : m .holds (m .guardOf r) s ≡ false)
+    (here : p .place t ≡ waiting r) where
   other-waiter : (g u : ℕ) → Waits m p g u → m .holds g s ≡ true → u ≡ t → ⊥
   unfolding Waits
   other-waiter g u w h q =
-      let z : waiting r ≡ waiting (w .0) = sym here ∙ ap p (sym q) ∙ w .1 in
+      let z : waiting r ≡ waiting (w .0) = sym here ∙ ap (p .place) (sym q) ∙ w .1 in
       let k : r ≡ w .0 = cc in
       clash h (ap (λ (x : ℕ). m .holds x s) (sym (w .2) ∙ ap (m .guardOf) (sym k)) ∙ guard)
 

@@ -5,7 +5,7 @@ use native.Mathlib.Omega.{arith}
 use mathlib.Core.Path.{_≡_, refl, sym, ap, _∙_, subst}
 use mathlib.Core.Bool.{true}
 use mathlib.Core.List.{List}
-use Rattle.machine.specs.Monitor.{Place, idle, waiting, due, Monitor, Frame, Config, allIdle}
+use Rattle.machine.specs.Monitor.{Place, idle, waiting, due, Threads, Monitor, Frame, Config, allIdle}
 use Rattle.machine.specs.Decide.Step.{moved, Told, isWaiting, step}
 use Rattle.machine.specs.Rules.{Notices, May, MayBeAt, Moved, Rule, rule-1a, rule-1b, rule-2a, rule-2b, Rules, no-more, one-more}
 use Rattle.machine.proofs.RulesDecided.{told-decides}
@@ -18,7 +18,7 @@ PlaceWithin m q = ((w : ℕ) → q ≡ waiting w → w < m .regions) × ((w : �
 
 pub record Reached (m : Monitor) (c : Config) : Type 0 where
   pub is-kept : m .kept (c .state) ≡ true
-  pub within : (t : ℕ) → PlaceWithin m (c .place t)
+  pub within : (t : ℕ) → PlaceWithin m (c .threads .place t)
 
 pub idle-within : (m : Monitor) → PlaceWithin m idle
 unfolding PlaceWithin
@@ -43,30 +43,34 @@ unfolding allIdle
 start-reached m s k = record { is-kept = k; within = λ t. idle-within m }
 
 -- a thread that may be at a region is at one of the file
-pub may-below : (m : Monitor) (p : ℕ → Place) (f : Frame) → PlaceWithin m (p (f .thread)) → May m p f → f .region < m .regions
+pub may-below :
+    (m : Monitor) (p : Threads) (f : Frame) → PlaceWithin m (p .place (f .thread)) → May m p f → f .region < m .regions
 unfolding PlaceWithin MayBeAt
-may-below m p f h a = go (p (f .thread)) h (a .at-region)
+may-below m p f h a = go (p .place (f .thread)) h (a .at-region)
   where
     go : (q : Place) → PlaceWithin m q → MayBeAt m q (f .region) → f .region < m .regions
     go idle h b = b .0
     go (waiting w) h e = subst (λ (r : ℕ). r < m .regions) e (h .0 w refl)
     go (due w) h e = subst (λ (r : ℕ). r < m .regions) e (h .1 w refl)
 
-moved-within : (m : Monitor) {p p′ : ℕ → Place} {t : ℕ} {q : Place} → Moved m p p′ t q → ((u : ℕ) → PlaceWithin m (p u)) → PlaceWithin m q
-    → (u : ℕ) → PlaceWithin m (p′ u)
+moved-within :
+    (m : Monitor) {p p′ : Threads} {t : ℕ} {q : Place} → Moved m p p′ t q
+    → ((u : ℕ) → PlaceWithin m (p .place u)) → PlaceWithin m q
+    → (u : ℕ) → PlaceWithin m (p′ .place u)
 moved-within m {p} {p′} {t} {q} x ps h u = split-eq u t
-    (λ z. subst (PlaceWithin m) (sym (ap p′ z ∙ x .own-place)) h)
+    (λ z. subst (PlaceWithin m) (sym (ap (p′ .place) z ∙ x .own-place)) h)
     (λ z. subst (PlaceWithin m) (sym (x .others u z)) (ps u))
 
 module _ (m : Monitor) (ok : Checked m) (notices : Notices) where
   pub rule-reached : {c c′ : Config} {f : Frame} → Rule m notices c f c′ → Reached m c → Reached m c′
   rule-reached {c} {c′} {f} (rule-1a a fl g w s p n) x = record {
     is-kept = ap (m .kept) s ∙ x .is-kept;
-    within = moved-within m p (x .within) (waiting-within m (f .region) (may-below m (c .place) f (x .within (f .thread)) a));
+    within = moved-within m p (x .within)
+        (waiting-within m (f .region) (may-below m (c .threads) f (x .within (f .thread)) a));
   }
   rule-reached (rule-1b a fl g w k s p n) x = record {
     is-kept = ap (m .kept) s ∙ x .is-kept;
-    within = λ u. subst (PlaceWithin m) (sym (p u)) (x .within u);
+    within = λ u. subst (λ (q : Threads). PlaceWithin m (q .place u)) (sym p) (x .within u);
   }
   rule-reached {c} {c′} {f} (rule-2a a fl g w b) x = record {
     is-kept = ap (m .kept) (b .state) ∙ ok .keeps (f .region) (c .state) (x .is-kept) g;

@@ -9,7 +9,7 @@ use mathlib.Core.List.{List, [], _∷_, _++_}
 use borrow.Author.Tests.{not-true}
 use lib.ListN.{length, take, drop}
 use lib.Seq.{take-at, drop-at}
-use Rattle.machine.specs.Monitor.{Monitor, Frame, Config}
+use Rattle.machine.specs.Monitor.{Threads, Monitor, Frame, Config}
 use Rattle.machine.specs.Decide.Step.{isWaiting}
 use Rattle.machine.specs.Rules.{Notices, Waiting, Rule, rule-1a, rule-1b, rule-2a, rule-2b, Rules, no-more, one-more}
 use Rattle.logic.proofs.Bools.{clash, split-eq}
@@ -36,7 +36,7 @@ recheck-iff fs k = (
 
 -- who waits at a point
 abbrev pub waiters : Config → ℕ → Bool
-waiters c u = isWaiting (c .place u)
+waiters c u = isWaiting (c .threads .place u)
 
 -- a waiting thread's frame with 00
 pub recheck-now :
@@ -115,13 +115,14 @@ module _ (m : Monitor) (leaves : (r : ℕ) → isWaiting (m .follows r) ≡ fals
   rule-own : {c d : Config} {f : Frame} → Rule m notices c f d → waiters d (f .thread) ≡ not (f .flag)
   unfolding isWaiting Waiting
   rule-own {c} {d} {f} (rule-1a a fl g w s p n) = ap isWaiting (p .own-place) ∙ ap not (sym fl)
-  rule-own {c} {d} {f} (rule-1b a fl g w k s p n) = ap isWaiting (p (f .thread) ∙ w .1) ∙ ap not (sym fl)
+  rule-own {c} {d} {f} (rule-1b a fl g w k s p n) =
+      ap (λ (q : Threads). isWaiting (q .place (f .thread))) p ∙ ap isWaiting (w .1) ∙ ap not (sym fl)
   rule-own {c} {d} {f} (rule-2a a fl g w b) = ap isWaiting (b .places .own-place) ∙ leaves (f .region) ∙ ap not (sym fl)
   rule-own {c} {d} {f} (rule-2b a fl g w k l b) = ap isWaiting (b .places .own-place) ∙ leaves (f .region) ∙ ap not (sym fl)
 
   rule-others : {c d : Config} {f : Frame} → Rule m notices c f d → (u : ℕ) → (u ≡ f .thread → ⊥) → waiters d u ≡ waiters c u
   rule-others (rule-1a a fl g w s p n) u q = ap isWaiting (p .others u q)
-  rule-others (rule-1b a fl g w k s p n) u q = ap isWaiting (p u)
+  rule-others (rule-1b a fl g w k s p n) u q = ap (λ (x : Threads). isWaiting (x .place u)) p
   rule-others (rule-2a a fl g w b) u q = ap isWaiting (b .places .others u q)
   rule-others (rule-2b a fl g w k l b) u q = ap isWaiting (b .places .others u q)
 

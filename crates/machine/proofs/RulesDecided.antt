@@ -7,15 +7,15 @@ use mathlib.Core.Bool.{Bool, true, false, _&&_, Bool·beq, and-eq-true-iff}
 use mathlib.Core.Logic.{_⊎_, inl, inr, ⊎-elim, _↔_, Iff·rfl}
 use mathlib.Core.List.{List, [], _∷_, _++_}
 use lib.ListN.{length}
-use Rattle.machine.specs.Monitor.{Place, waiting, Monitor, Frame, Config, accepted, stopped}
+use Rattle.machine.specs.Monitor.{Place, waiting, Threads, Monitor, Frame, Config, accepted, stopped}
 use Rattle.machine.specs.Decide.Step.{without, isWaiting, leave, Outcome, moved, refused, Told, firstNotified, plainTold, may, ran, waited, rechecked, allowed, act, judged, step, run}
 use Rattle.machine.specs.Algorithm1.{Entry}
 use Rattle.machine.specs.Decide.Table.{tableTold}
 use Rattle.machine.specs.Rules.{Notices, PlainNotices, TableNotices, May, Waiting, Moved, NotifiedAre, OthersOf, Body, Rule, rule-1a, rule-1b, rule-2a, rule-2b, Rules, no-more, one-more}
-use Rattle.logic.proofs.Bools.{clash, split-eq, is-false, tests-equal, beq-equal, equal-beq, decides-or}
+use Rattle.logic.proofs.Bools.{clash, is-false, tests-equal, beq-equal, equal-beq, decides-or}
 use Rattle.machine.proofs.Places.{without-iff}
 use Rattle.machine.proofs.Tests.{may-iff, plain-notices, table-notices}
-use Rattle.machine.proofs.Order.{began-own, began-other, left-own, left-other, waiting-iff, first-notified-iff}
+use Rattle.machine.proofs.Order.{began-moved, left-moved, moved-one, waiting-iff, first-notified-iff}
 use Rattle.machine.specs.Rules.{Refuses, Stops, may-not, no-rule}
 
 pub refuses-number : {m : Monitor} {notices : Notices} {c : Config} {f : Frame} {a : ℕ} → Refuses m notices c f a → (13 ≤ a) × (a ≤ 14)
@@ -26,10 +26,10 @@ refuses-number (no-rule k h) = (omega arith, omega arith)
 pub record Decides (m : Monitor) (told : Told) (notices : Notices) : Type 0 where
   pub moves : (c : Config) (f : Frame) (c′ : Config) → (step m told c f ≡ moved c′) ↔ Rule m notices c f c′
   pub one-move : (c : Config) (f : Frame) (c₁ c₂ : Config) → Rule m notices c f c₁ → Rule m notices c f c₂ → c₁ ≡ c₂
-  pub refuses-as-13 : (c : Config) (f : Frame) → (step m told c f ≡ refused 13) ↔ (May m (c .place) f → ⊥)
+  pub refuses-as-13 : (c : Config) (f : Frame) → (step m told c f ≡ refused 13) ↔ (May m (c .threads) f → ⊥)
   pub refuses-as-14 :
       (c : Config) (f : Frame)
-      → (step m told c f ≡ refused 14) ↔ (May m (c .place) f × ((c′ : Config) → Rule m notices c f c′ → ⊥))
+      → (step m told c f ≡ refused 14) ↔ (May m (c .threads) f × ((c′ : Config) → Rule m notices c f c′ → ⊥))
   pub nothing-else :
       (c : Config) (f : Frame)
       → ((c′ : Config) × (step m told c f ≡ moved c′)) ⊎ (step m told c f ≡ refused 13) ⊎ (step m told c f ≡ refused 14)
@@ -46,8 +46,8 @@ refused-number d c f a e = ⊎-elim (λ x. let q = x .1 in let z : _≡_ {A = �
 -- What the step's tests have found
 data Verdict (m : Monitor) (notices : Notices) (c : Config) (f : Frame) : Outcome → Type 0 where
   by-rule : {c′ : Config} → Rule m notices c f c′ → Verdict m notices c f (moved c′)
-  not-there : (May m (c .place) f → ⊥) → Verdict m notices c f (refused 13)
-  not-allowed : May m (c .place) f → Verdict m notices c f (refused 14)
+  not-there : (May m (c .threads) f → ⊥) → Verdict m notices c f (refused 13)
+  not-allowed : May m (c .threads) f → Verdict m notices c f (refused 14)
 
 -- A run by its first step
 
@@ -65,20 +65,18 @@ run-stop m told k c f fs a e = rw (e, run)
 
 -- Two points with equal parts are equal
 config-equal :
-    {c d : Config} → c .state ≡ d .state → ((u : ℕ) → c .place u ≡ d .place u)
+    {c d : Config} → c .state ≡ d .state → c .threads ≡ d .threads
     → ((u : ℕ) → c .notified u ≡ d .notified u) → c ≡ d
-config-equal s p n = λ i. record { state = s i; place = fun-ext p i; notified = fun-ext n i }
+config-equal s p n = λ i. record { state = s i; threads = p i; notified = fun-ext n i }
 
 module _ (m : Monitor) (told : Told) (notices : Notices)
-    (agree : (s : ℕ) (p : ℕ → Place) (r u : ℕ) → (told s p r u ≡ true) ↔ notices s p r u) where
+    (agree : (s : ℕ) (p : Threads) (r u : ℕ) → (told s p r u ≡ true) ↔ notices s p r u) where
   -- what each kind of frame leads to is what its rule says
 
-  waited-moves : (c : Config) (f : Frame) → Moved m (c .place) (waited m told c f .place) (f .thread) (waiting (f .region))
+  waited-moves :
+      (c : Config) (f : Frame) → Moved m (c .threads) (waited m told c f .threads) (f .thread) (waiting (f .region))
   unfolding waited
-  waited-moves c f = record {
-    own-place = began-own (c .place) (f .thread) (f .region);
-    others = began-other (c .place) (f .thread) (f .region);
-  }
+  waited-moves c f = began-moved m (c .threads) (f .thread) (f .region)
 
   ran-body : (c : Config) (f : Frame) → Body m notices c f (ran m told c f)
   unfolding ran NotifiedAre OthersOf
@@ -86,20 +84,15 @@ module _ (m : Monitor) (told : Told) (notices : Notices)
       let t : ℕ = f .thread in
       let q : Place = m .follows (f .region) in
       let s′ : ℕ = m .after (f .region) (c .state) in
-      let p′ : ℕ → Place = leave (c .place) t q in
+      let p′ : Threads = leave (c .threads) t q in
       record {
         state = refl;
-        places = record { own-place = left-own (c .place) t q; others = left-other (c .place) t q };
+        places = left-moved m (c .threads) t q;
         notified = λ u.
             decides-or (without (c .notified) t u) (told s′ p′ (f .region) u) (without-iff (c .notified) t u) (agree s′ p′ (f .region) u);
       }
 
   -- and nothing else is
-
-  moved-only : {p p₁ p₂ : ℕ → Place} {t : ℕ} {q : Place} → Moved m p p₁ t q → Moved m p p₂ t q → (u : ℕ) → p₁ u ≡ p₂ u
-  moved-only {p} {p₁} {p₂} {t} {q} a b u = split-eq u t
-      (λ z. ap p₁ z ∙ a .own-place ∙ sym (b .own-place) ∙ ap p₂ (sym z))
-      (λ z. a .others u z ∙ sym (b .others u z))
 
   notified-only : (n₁ n₂ : ℕ → Bool) (who : ℕ → Type 0) → NotifiedAre m n₁ who → NotifiedAre m n₂ who → (u : ℕ) → n₁ u ≡ n₂ u
   unfolding NotifiedAre
@@ -108,65 +101,67 @@ module _ (m : Monitor) (told : Told) (notices : Notices)
   body-only : {c c₁ c₂ : Config} {f : Frame} → Body m notices c f c₁ → Body m notices c f c₂ → c₁ ≡ c₂
   body-only {c} {c₁} {c₂} {f} a b =
       let s : c₁ .state ≡ c₂ .state = a .state ∙ sym (b .state) in
-      let p : (u : ℕ) → c₁ .place u ≡ c₂ .place u = moved-only (a .places) (b .places) in
-      let n : NotifiedAre m (c₁ .notified) (who (c₂ .state) (c₂ .place)) =
-      subst₂ (λ (x : ℕ) (y : ℕ → Place). NotifiedAre m (c₁ .notified) (who x y)) s (fun-ext p) (a .notified) in
-      config-equal s p (notified-only (c₁ .notified) (c₂ .notified) (who (c₂ .state) (c₂ .place)) n (b .notified))
+      let p : c₁ .threads ≡ c₂ .threads = moved-one m (a .places) (b .places) in
+      let n : NotifiedAre m (c₁ .notified) (who (c₂ .state) (c₂ .threads)) =
+      subst₂ (λ (x : ℕ) (y : Threads). NotifiedAre m (c₁ .notified) (who x y)) s p (a .notified) in
+      config-equal s p (notified-only (c₁ .notified) (c₂ .notified) (who (c₂ .state) (c₂ .threads)) n (b .notified))
     where
-      who : ℕ → (ℕ → Place) → ℕ → Type 0
+      who : ℕ → Threads → ℕ → Type 0
       who x y u = OthersOf m (c .notified) (f .thread) u ⊎ notices x y (f .region) u
 
   waited-only :
       (c : Config) (f : Frame) {c′ : Config} → c′ .state ≡ c .state
-      → Moved m (c .place) (c′ .place) (f .thread) (waiting (f .region))
+      → Moved m (c .threads) (c′ .threads) (f .thread) (waiting (f .region))
       → NotifiedAre m (c′ .notified) (λ u. c .notified u ≡ true) → waited m told c f ≡ c′
   unfolding waited NotifiedAre
-  waited-only c f {c′} s p n = config-equal (sym s) (moved-only (waited-moves c f) p)
+  waited-only c f {c′} s p n = config-equal (sym s) (moved-one m (waited-moves c f) p)
       (notified-only (c .notified) (c′ .notified) (λ u. c .notified u ≡ true) (λ u. (λ h. h, λ h. h)) n)
 
-  rechecked-only : (c : Config) (f : Frame) {c′ : Config} → c′ .state ≡ c .state → ((u : ℕ) → c′ .place u ≡ c .place u)
+  rechecked-only : (c : Config) (f : Frame) {c′ : Config} → c′ .state ≡ c .state → c′ .threads ≡ c .threads
       → NotifiedAre m (c′ .notified) (OthersOf m (c .notified) (f .thread)) → rechecked m told c f ≡ c′
   unfolding rechecked NotifiedAre OthersOf
-  rechecked-only c f {c′} s p n = config-equal (sym s) (λ u. sym (p u))
+  rechecked-only c f {c′} s p n = config-equal (sym s) (sym p)
       (notified-only (without (c .notified) (f .thread)) (c′ .notified) (OthersOf m (c .notified) (f .thread))
       (without-iff (c .notified) (f .thread)) n)
 
   -- Every rule's move is the step's
 
-  to-act : (c : Config) (f : Frame) → May m (c .place) f → f .flag ≡ m .holds (m .guardOf (f .region)) (c .state)
-      → step m told c f ≡ act m told c f (isWaiting (c .place (f .thread))) (f .flag)
+  to-act : (c : Config) (f : Frame) → May m (c .threads) f → f .flag ≡ m .holds (m .guardOf (f .region)) (c .state)
+      → step m told c f ≡ act m told c f (isWaiting (c .threads .place (f .thread))) (f .flag)
   unfolding step judged
   to-act c f a b =
-      ap₂ (judged m told c f) (may-iff m (c .place) f .1 a) (equal-beq (f .flag) (m .holds (m .guardOf (f .region)) (c .state)) b)
+      ap₂ (judged m told c f) (may-iff m (c .threads) f .1 a)
+      (equal-beq (f .flag) (m .holds (m .guardOf (f .region)) (c .state)) b)
 
   rule-step : {c c′ : Config} {f : Frame} → Rule m notices c f c′ → step m told c f ≡ moved c′
   unfolding act allowed Waiting OthersOf
   rule-step {c} {c′} {f} (rule-1a a fl g w s p n) =
       to-act c f a (fl ∙ sym g)
-      ∙ ap₂ (act m told c f) (is-false (λ h. w (waiting-iff (c .place (f .thread)) .0 h))) fl
+      ∙ ap₂ (act m told c f) (is-false (λ h. w (waiting-iff (c .threads .place (f .thread)) .0 h))) fl
       ∙ ap moved (waited-only c f s p n)
   rule-step {c} {c′} {f} (rule-1b a fl g w k s p n) =
       to-act c f a (fl ∙ sym g)
-      ∙ ap₂ (act m told c f) (waiting-iff (c .place (f .thread)) .1 w) fl
+      ∙ ap₂ (act m told c f) (waiting-iff (c .threads .place (f .thread)) .1 w) fl
       ∙ ap (λ (b : Bool). allowed m told b (rechecked m told c f)) k
       ∙ ap moved (rechecked-only c f s p n)
   rule-step {c} {c′} {f} (rule-2a a fl g w b) =
       to-act c f a (fl ∙ sym g)
-      ∙ ap₂ (act m told c f) (is-false (λ h. w (waiting-iff (c .place (f .thread)) .0 h))) fl
+      ∙ ap₂ (act m told c f) (is-false (λ h. w (waiting-iff (c .threads .place (f .thread)) .0 h))) fl
       ∙ ap moved (body-only (ran-body c f) b)
   rule-step {c} {c′} {f} (rule-2b a fl g w k l b) =
       to-act c f a (fl ∙ sym g)
-      ∙ ap₂ (act m told c f) (waiting-iff (c .place (f .thread)) .1 w) fl
+      ∙ ap₂ (act m told c f) (waiting-iff (c .threads .place (f .thread)) .1 w) fl
       ∙ ap (λ (x : Bool). allowed m told x (ran m told c f))
-      (and-eq-true-iff (c .notified (f .thread)) (firstNotified m (c .place) (c .notified) (m .guardOf (f .region)) (f .thread)) .1
-      (k, first-notified-iff m (c .place) (c .notified) (m .guardOf (f .region)) (f .thread) .1 l))
+      (and-eq-true-iff (c .notified (f .thread))
+      (firstNotified m (c .threads) (c .notified) (m .guardOf (f .region)) (f .thread)) .1
+      (k, first-notified-iff m (c .threads) (c .notified) (m .guardOf (f .region)) (f .thread) .1 l))
       ∙ ap moved (body-only (ran-body c f) b)
 
   -- Every step is a rule's, or 13, or 14
 
   verdict : (c : Config) (f : Frame) → Verdict m notices c f (step m told c f)
   unfolding step judged act allowed waited rechecked ran NotifiedAre OthersOf Waiting
-  verdict c f = go (may m (c .place) f) (Bool·beq (f .flag) (m .holds (m .guardOf (f .region)) (c .state))) refl refl
+  verdict c f = go (may m (c .threads) f) (Bool·beq (f .flag) (m .holds (m .guardOf (f .region)) (c .state))) refl refl
     where
       t : ℕ
       t = f .thread
@@ -174,36 +169,38 @@ module _ (m : Monitor) (told : Told) (notices : Notices)
       g : ℕ
       g = m .guardOf (f .region)
 
-      acted : May m (c .place) f → f .flag ≡ m .holds g (c .state) → (w : Bool) → isWaiting (c .place t) ≡ w
+      acted : May m (c .threads) f → f .flag ≡ m .holds g (c .state) → (w : Bool) → isWaiting (c .threads .place t) ≡ w
           → (b : Bool) → f .flag ≡ b → Verdict m notices c f (act m told c f w b)
-      acted a e false w false fl = by-rule (rule-1a a fl (sym e ∙ fl) (λ x. clash (waiting-iff (c .place t) .1 x) w)
+      acted a e false w false fl =
+          by-rule (rule-1a a fl (sym e ∙ fl) (λ x. clash (waiting-iff (c .threads .place t) .1 x) w)
           refl (waited-moves c f) (λ u. (λ h. h, λ h. h)))
-      acted a e false w true fl = by-rule (rule-2a a fl (sym e ∙ fl) (λ x. clash (waiting-iff (c .place t) .1 x) w) (ran-body c f))
+      acted a e false w true fl =
+          by-rule (rule-2a a fl (sym e ∙ fl) (λ x. clash (waiting-iff (c .threads .place t) .1 x) w) (ran-body c f))
       acted a e true w false fl = notice (c .notified t) refl
         where
           notice : (b : Bool) → c .notified t ≡ b → Verdict m notices c f (allowed m told b (rechecked m told c f))
-          notice true k = by-rule (rule-1b a fl (sym e ∙ fl) (waiting-iff (c .place t) .0 w) k
-              refl (λ u. refl) (without-iff (c .notified) t))
+          notice true k = by-rule (rule-1b a fl (sym e ∙ fl) (waiting-iff (c .threads .place t) .0 w) k
+              refl refl (without-iff (c .notified) t))
           notice false k = not-allowed a
-      acted a e true w true fl = turn (c .notified t && firstNotified m (c .place) (c .notified) g t) refl
+      acted a e true w true fl = turn (c .notified t && firstNotified m (c .threads) (c .notified) g t) refl
         where
-          turn : (b : Bool) → c .notified t && firstNotified m (c .place) (c .notified) g t ≡ b
+          turn : (b : Bool) → c .notified t && firstNotified m (c .threads) (c .notified) g t ≡ b
               → Verdict m notices c f (allowed m told b (ran m told c f))
           turn true k =
-              let n = and-eq-true-iff (c .notified t) (firstNotified m (c .place) (c .notified) g t) .0 k in
-              by-rule (rule-2b a fl (sym e ∙ fl) (waiting-iff (c .place t) .0 w) (n .0)
-              (first-notified-iff m (c .place) (c .notified) g t .0 (n .1)) (ran-body c f))
+              let n = and-eq-true-iff (c .notified t) (firstNotified m (c .threads) (c .notified) g t) .0 k in
+              by-rule (rule-2b a fl (sym e ∙ fl) (waiting-iff (c .threads .place t) .0 w) (n .0)
+              (first-notified-iff m (c .threads) (c .notified) g t .0 (n .1)) (ran-body c f))
           turn false k = not-allowed a
 
-      go : (a b : Bool) → may m (c .place) f ≡ a → Bool·beq (f .flag) (m .holds g (c .state)) ≡ b
+      go : (a b : Bool) → may m (c .threads) f ≡ a → Bool·beq (f .flag) (m .holds g (c .state)) ≡ b
           → Verdict m notices c f (judged m told c f a b)
-      go false b x y = not-there (λ h. clash (may-iff m (c .place) f .1 h) x)
-      go true false x y = not-allowed (may-iff m (c .place) f .0 x)
+      go false b x y = not-there (λ h. clash (may-iff m (c .threads) f .1 h) x)
+      go true false x y = not-allowed (may-iff m (c .threads) f .0 x)
       go true true x y =
           let e = beq-equal (f .flag) (m .holds g (c .state)) y in
-          acted (may-iff m (c .place) f .0 x) e (isWaiting (c .place t)) refl (f .flag) refl
+          acted (may-iff m (c .threads) f .0 x) e (isWaiting (c .threads .place t)) refl (f .flag) refl
 
-  rule-may : {c c′ : Config} {f : Frame} → Rule m notices c f c′ → May m (c .place) f
+  rule-may : {c c′ : Config} {f : Frame} → Rule m notices c f c′ → May m (c .threads) f
   rule-may (rule-1a a fl g w s p n) = a
   rule-may (rule-1b a fl g w k s p n) = a
   rule-may (rule-2a a fl g w b) = a
@@ -322,12 +319,12 @@ module _ (m : Monitor) (told : Told) (notices : Notices)
       go c f o (not-there k) = inr (inl refl)
       go c f o (not-allowed k) = inr (inr refl)
 
-      refuses-13 : {c : Config} {f : Frame} {a : ℕ} → Refuses m notices c f a → a ≡ 13 → May m (c .place) f → ⊥
+      refuses-13 : {c : Config} {f : Frame} {a : ℕ} → Refuses m notices c f a → a ≡ 13 → May m (c .threads) f → ⊥
       refuses-13 (may-not h) e = h
       refuses-13 (no-rule k h) e = absurd (omega arith)
 
       refuses-14 : {c : Config} {f : Frame} {a : ℕ} → Refuses m notices c f a → a ≡ 14
-          → May m (c .place) f × ((c′ : Config) → Rule m notices c f c′ → ⊥)
+          → May m (c .threads) f × ((c′ : Config) → Rule m notices c f c′ → ⊥)
       refuses-14 (may-not h) e = absurd (omega arith)
       refuses-14 (no-rule k h) e = (k, h)
 

@@ -5,7 +5,7 @@ use native.Mathlib.Omega.{arith}
 use mathlib.Core.Path.{_≡_, refl, sym, subst, ap, _∙_}
 use mathlib.Core.Bool.{Bool, true, false, _&&_, Bool·beq, true≢false}
 use mathlib.Core.List.{List, [], _∷_}
-use Rattle.machine.specs.Monitor.{Place, waiting, Monitor, Frame, Config, Run, accepted, stopped}
+use Rattle.machine.specs.Monitor.{Place, waiting, Threads, Monitor, Frame, Config, Run, accepted, stopped}
 use Rattle.machine.specs.Decide.Step.{isWaiting, Outcome, moved, refused, firstNotified, plainTold, may, ran, waited, rechecked, allowed, act, judged, step, run}
 use Rattle.machine.specs.Algorithm1.{Entry}
 use Rattle.machine.specs.Decide.Table.{tableTold}
@@ -21,32 +21,35 @@ use Rattle.machine.proofs.Points.{Placed, PlainPoint, Agree, resumes, r
 
 -- One frame
 
-abbrev pub at : ℕ → (ℕ → Place) → (ℕ → Bool) → Config
-at s p n = record { state = s; place = p; notified = n }
+abbrev pub at : ℕ → Threads → (ℕ → Bool) → Config
+at s p n = record { state = s; threads = p; notified = n }
 
 -- a waiting thread names its own region
-own-region : (m : Monitor) (p : ℕ → Place) (f : Frame) → May m p f → (w : ℕ) → p (f .thread) ≡ waiting w → w ≡ f .region
+own-region :
+    (m : Monitor) (p : Threads) (f : Frame) → May m p f → (w : ℕ) → p .place (f .thread) ≡ waiting w → w ≡ f .region
 unfolding MayBeAt
 own-region m p f a w z = subst (λ (q : Place). MayBeAt m q (f .region)) z (a .at-region)
 
 waits-here :
-    (m : Monitor) (p : ℕ → Place) (f : Frame) → May m p f → isWaiting (p (f .thread)) ≡ true
-    → p (f .thread) ≡ waiting (f .region)
-waits-here m p f a h = let w = waiting-iff (p (f .thread)) .0 h in w .1 ∙ ap waiting (own-region m p f a (w .0) (w .1))
+    (m : Monitor) (p : Threads) (f : Frame) → May m p f → isWaiting (p .place (f .thread)) ≡ true
+    → p .place (f .thread) ≡ waiting (f .region)
+waits-here m p f a h =
+    let w = waiting-iff (p .place (f .thread)) .0 h in w .1 ∙ ap waiting (own-region m p f a (w .0) (w .1))
 
 -- the plain machine's frame is refused, or leads to a point again
 data PlainGoesOn (m : Monitor) : Outcome → Type 0 where
   ends : {a : ℕ} → PlainGoesOn m (refused a)
-  goes-on : {s : ℕ} {p : ℕ → Place} {n : ℕ → Bool} → PlainPoint m s p n → PlainGoesOn m (moved (at s p n))
+  goes-on : {s : ℕ} {p : Threads} {n : ℕ → Bool} → PlainPoint m s p n → PlainGoesOn m (moved (at s p n))
 
 -- Both refuse alike; or the table's refuses a recheck; or both move to points that agree
-data Match (m : Monitor) (bc : ℕ → Bool) (p : ℕ → Place) (f : Frame) : Outcome → Outcome → Type 0 where
+data Match (m : Monitor) (bc : ℕ → Bool) (p : Threads) (f : Frame) : Outcome → Outcome → Type 0 where
   alike : {a : ℕ} → Match m bc p f (refused a) (refused a)
-  lost : {o : Outcome} → isWaiting (p (f .thread)) ≡ true → f .flag ≡ false → Match m bc p f o (refused 14)
+  lost : {o : Outcome} → isWaiting (p .place (f .thread)) ≡ true → f .flag ≡ false → Match m bc p f o (refused 14)
   both-move :
-      {s : ℕ} {q : ℕ → Place} {nP nT : ℕ → Bool} → Agree m bc s q nP nT → Match m bc p f (moved (at s q nP)) (moved (at s q nT))
+      {s : ℕ} {q : Threads} {nP nT : ℕ → Bool} → Agree m bc s q nP nT
+      → Match m bc p f (moved (at s q nP)) (moved (at s q nT))
 
-module _ (m : Monitor) (ok : Checked m) (s : ℕ) (p : ℕ → Place) (f : Frame) where
+module _ (m : Monitor) (ok : Checked m) (s : ℕ) (p : Threads) (f : Frame) where
   step-plain : (n : ℕ → Bool) → PlainPoint m s p n → PlainGoesOn m (step m (plainTold m) (at s p n) f)
   unfolding step judged act allowed ran waited rechecked
   step-plain n pt = go (may m p f) (Bool·beq (f .flag) (m .holds (m .guardOf (f .region)) s)) refl refl
@@ -64,7 +67,7 @@ module _ (m : Monitor) (ok : Checked m) (s : ℕ) (p : ℕ → Place) (f : Frame
       now true c h = h
       now false c h = ends
 
-      acted : May m p f → f .flag ≡ m .holds g s → (w : Bool) → isWaiting (p t) ≡ w → (b : Bool) → f .flag ≡ b
+      acted : May m p f → f .flag ≡ m .holds g s → (w : Bool) → isWaiting (p .place t) ≡ w → (b : Bool) → f .flag ≡ b
           → PlainGoesOn m (act m (plainTold m) (at s p n) f w b)
       acted a e false w false fl = goes-on (waited-plain m s p t r (sym e ∙ fl) w n pt)
       acted a e false w true fl = goes-on (ran-plain m ok s p t r (sym e ∙ fl) n pt)
@@ -76,7 +79,8 @@ module _ (m : Monitor) (ok : Checked m) (s : ℕ) (p : ℕ → Place) (f : Frame
       go : (a b : Bool) → may m p f ≡ a → Bool·beq (f .flag) (m .holds g s) ≡ b → PlainGoesOn m (judged m (plainTold m) (at s p n) f a b)
       go false b x y = ends
       go true false x y = ends
-      go true true x y = acted (may-iff m p f .0 x) (beq-equal (f .flag) (m .holds g s) y) (isWaiting (p t)) refl (f .flag) refl
+      go true true x y = acted (may-iff m p f .0 x) (beq-equal (f .flag) (m .holds g s) y)
+          (isWaiting (p .place t)) refl (f .flag) refl
 
   module _ (e : ℕ → ℕ → Entry) (bc : ℕ → Bool) (placed : Placed m e bc) (nP nT : ℕ → Bool) (ag : Agree m bc s p nP nT) where
     step-agree : Match m bc p f (step m (plainTold m) (at s p nP) f) (step m (tableTold m e) (at s p nT) f)
@@ -92,7 +96,7 @@ module _ (m : Monitor) (ok : Checked m) (s : ℕ) (p : ℕ → Place) (f : Frame
         g : ℕ
         g = m .guardOf r
 
-        acted : May m p f → f .flag ≡ m .holds g s → (w : Bool) → isWaiting (p t) ≡ w → (b : Bool) → f .flag ≡ b
+        acted : May m p f → f .flag ≡ m .holds g s → (w : Bool) → isWaiting (p .place t) ≡ w → (b : Bool) → f .flag ≡ b
             → Match m bc p f (act m (plainTold m) (at s p nP) f w b) (act m (tableTold m e) (at s p nT) f w b)
         acted a k false w false fl = both-move (waited-agree m s p t r (sym k ∙ fl) w bc nP nT ag)
         acted a k false w true fl = both-move (ran-agree m ok s p t r (sym k ∙ fl) e bc placed nP nT ag (own-region m p f a))
@@ -126,7 +130,8 @@ module _ (m : Monitor) (ok : Checked m) (s : ℕ) (p : ℕ → Place) (f : Frame
             → Match m bc p f (judged m (plainTold m) (at s p nP) f a b) (judged m (tableTold m e) (at s p nT) f a b)
         go false b x y = alike
         go true false x y = alike
-        go true true x y = acted (may-iff m p f .0 x) (beq-equal (f .flag) (m .holds g s) y) (isWaiting (p t)) refl (f .flag) refl
+        go true true x y = acted (may-iff m p f .0 x) (beq-equal (f .flag) (m .holds g s) y)
+            (isWaiting (p .place t)) refl (f .flag) refl
 
 -- A list of frames, counted on from k
 
@@ -135,23 +140,25 @@ pub data Result (m : Monitor) (bc : ℕ → Bool) (began : ℕ → Bool) (fs : L
   same-refusal : {a j : ℕ} → Result m bc began fs k (stopped a j) (stopped a j)
   at-recheck : {o : Run} {j : ℕ} (i : ℕ) → j ≡ k + i → RecheckFrom began fs i → Result m bc began fs k o (stopped 14 j)
   same-point :
-      {s : ℕ} {p : ℕ → Place} {nP nT : ℕ → Bool} → Agree m bc s p nP nT
+      {s : ℕ} {p : Threads} {nP nT : ℕ → Bool} → Agree m bc s p nP nT
       → Result m bc began fs k (accepted (at s p nP)) (accepted (at s p nT))
 
 module _ (m : Monitor) (ok : Checked m) where
   pub run-plain :
-      (fs : List Frame) (k s : ℕ) (p : ℕ → Place) (n : ℕ → Bool) → PlainPoint m s p n
-      → (d : Config) → run m (plainTold m) k (at s p n) fs ≡ accepted d → PlainPoint m (d .state) (d .place) (d .notified)
+      (fs : List Frame) (k s : ℕ) (p : Threads) (n : ℕ → Bool) → PlainPoint m s p n
+      → (d : Config) → run m (plainTold m) k (at s p n) fs ≡ accepted d
+      → PlainPoint m (d .state) (d .threads) (d .notified)
   unfolding run
   run-plain [] k s p n pt d e =
-      let z : at s p n ≡ d = cc in subst (λ (c : Config). PlainPoint m (c .state) (c .place) (c .notified)) z pt
+      let z : at s p n ≡ d = cc in subst (λ (c : Config). PlainPoint m (c .state) (c .threads) (c .notified)) z pt
   run-plain (f ∷ fs) k s p n pt d e = go (step m (plainTold m) (at s p n) f) refl (step-plain m ok s p f n pt)
       (λ s₁ p₁ n₁ pt₁. run-plain fs (suc k) s₁ p₁ n₁ pt₁ d)
     where
       go : (o : Outcome) → step m (plainTold m) (at s p n) f ≡ o → PlainGoesOn m o
-          → ((s₁ : ℕ) (p₁ : ℕ → Place) (n₁ : ℕ → Bool) → PlainPoint m s₁ p₁ n₁ → run m (plainTold m) (suc k) (at s₁ p₁ n₁) fs ≡ accepted d
-          → PlainPoint m (d .state) (d .place) (d .notified))
-          → PlainPoint m (d .state) (d .place) (d .notified)
+          → ((s₁ : ℕ) (p₁ : Threads) (n₁ : ℕ → Bool) → PlainPoint m s₁ p₁ n₁
+          → run m (plainTold m) (suc k) (at s₁ p₁ n₁) fs ≡ accepted d
+          → PlainPoint m (d .state) (d .threads) (d .notified))
+          → PlainPoint m (d .state) (d .threads) (d .notified)
       go o q (ends {a}) rec =
           let z : _≡_ {A = ℕ} 0 1 = cc (run-stop m (plainTold m) k (at s p n) f fs a q) in absurd (omega arith)
       go o q (goes-on {s = s₁} {p = p₁} {n = n₁} pt₁) rec =
@@ -167,7 +174,7 @@ module _ (m : Monitor) (ok : Checked m) where
     later c d f fs k rule (same-point ag) = same-point ag
 
     pub run-agree :
-        (fs : List Frame) (k s : ℕ) (p : ℕ → Place) (nP nT : ℕ → Bool) → Agree m bc s p nP nT
+        (fs : List Frame) (k s : ℕ) (p : Threads) (nP nT : ℕ → Bool) → Agree m bc s p nP nT
         → Result m bc (waiters (at s p nT)) fs k (run m (plainTold m) k (at s p nP) fs) (run m (tableTold m e) k (at s p nT) fs)
     unfolding run
     run-agree [] k s p nP nT ag = same-point ag
@@ -176,7 +183,7 @@ module _ (m : Monitor) (ok : Checked m) where
         (λ s₁ p₁ nP₁ nT₁ ag₁. run-agree fs (suc k) s₁ p₁ nP₁ nT₁ ag₁)
       where
         go : (oP oT : Outcome) → step m (tableTold m e) (at s p nT) f ≡ oT → Match m bc p f oP oT
-            → ((s₁ : ℕ) (p₁ : ℕ → Place) (nP₁ nT₁ : ℕ → Bool) → Agree m bc s₁ p₁ nP₁ nT₁
+            → ((s₁ : ℕ) (p₁ : Threads) (nP₁ nT₁ : ℕ → Bool) → Agree m bc s₁ p₁ nP₁ nT₁
             → Result m bc (waiters (at s₁ p₁ nT₁)) fs (suc k)
             (run m (plainTold m) (suc k) (at s₁ p₁ nP₁) fs) (run m (tableTold m e) (suc k) (at s₁ p₁ nT₁) fs))
             → Result m bc (waiters (at s p nT)) (f ∷ fs) k

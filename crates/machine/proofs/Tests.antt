@@ -6,7 +6,7 @@ use mathlib.Core.Bool.{Bool, true, not, _&&_, _||_, false≢true}
 use mathlib.Core.Logic.{_⊎_, inl, inr, _↔_, ⊎-elim, Iff·rfl, Iff·trans}
 use lib.Dec.{eqb, ltb}
 use borrow.Author.Tests.{ltb-true, lt-ltb}
-use Rattle.machine.specs.Monitor.{Place, idle, waiting, due, Monitor, Frame, threads}
+use Rattle.machine.specs.Monitor.{Place, idle, waiting, due, Threads, Monitor, Frame, threads}
 use Rattle.logic.specs.Tests.{any}
 use Rattle.machine.specs.Decide.Step.{isDue, next, own, plainTold, mayBeAt, may}
 use Rattle.machine.specs.Algorithm1.{Entry, none, entry}
@@ -31,13 +31,15 @@ module _ (m : Monitor) where
   may-be-iff (waiting w) r = decides-eqb w r
   may-be-iff (due w) r = decides-eqb w r
 
-  pub may-iff : (p : ℕ → Place) (f : Frame) → (may m p f ≡ true) ↔ May m p f
+  pub may-iff : (p : Threads) (f : Frame) → (may m p f ≡ true) ↔ May m p f
   unfolding may
   may-iff p f =
       Iff·trans
-      (decides-and (not (any threads other-due)) (mayBeAt m (p t) (f .region))
-      (none-iff threads other-due (λ u. decides-and (not (eqb u t)) (isDue (p u)) (decides-not (eqb u t) (decides-eqb u t)) (due-iff (p u))))
-      (may-be-iff (p t) (f .region))) (
+      (decides-and (not (any threads other-due)) (mayBeAt m (p .place t) (f .region))
+      (none-iff threads other-due (λ u.
+      decides-and (not (eqb u t)) (isDue (p .place u)) (decides-not (eqb u t) (decides-eqb u t))
+      (due-iff (p .place u))))
+      (may-be-iff (p .place t) (f .region))) (
         λ h. record { nobody-due = λ u r l d z. h .0 u l (d, (r, z)); at-region = h .1 },
         λ h. (λ u l x. h .nobody-due u (x .1 .0) l (x .0) (x .1 .1), h .at-region),
       )
@@ -46,16 +48,16 @@ module _ (m : Monitor) where
       t = f .thread
 
       other-due : ℕ → Bool
-      other-due u = not (eqb u t) && isDue (p u)
+      other-due u = not (eqb u t) && isDue (p .place u)
 
   -- Whom the two machines notify
 
-  pub plain-notices : (s : ℕ) (p : ℕ → Place) (r u : ℕ) → (plainTold m s p r u ≡ true) ↔ PlainNotices m s p r u
+  pub plain-notices : (s : ℕ) (p : Threads) (r u : ℕ) → (plainTold m s p r u ≡ true) ↔ PlainNotices m s p r u
   unfolding plainTold PlainNotices own Waits
   plain-notices s p r u =
-      (to (p u) refl, λ n. ap (own m s) (n .1 .1) ∙ ap (λ (g : ℕ). m .holds g s) (n .1 .2) ∙ n .2)
+      (to (p .place u) refl, λ n. ap (own m s) (n .1 .1) ∙ ap (λ (g : ℕ). m .holds g s) (n .1 .2) ∙ n .2)
     where
-      to : (q : Place) → p u ≡ q → own m s q ≡ true → PlainNotices m s p r u
+      to : (q : Place) → p .place u ≡ q → own m s q ≡ true → PlainNotices m s p r u
       to idle z h = absurd (false≢true h)
       to (waiting w) z h = (m .guardOf w, (w, z, refl), h)
       to (due w) z h = absurd (false≢true h)
@@ -73,9 +75,10 @@ module _ (m : Monitor) where
       to (entry a b) z e = let n = parts a b .0 e in (a, b, z, n .0, n .1)
 
   pub table-notices :
-      (e : ℕ → ℕ → Entry) (s : ℕ) (p : ℕ → Place) (r u : ℕ) → (tableTold m e s p r u ≡ true) ↔ TableNotices m e s p r u
+      (e : ℕ → ℕ → Entry) (s : ℕ) (p : Threads) (r u : ℕ) → (tableTold m e s p r u ≡ true) ↔ TableNotices m e s p r u
   unfolding tableTold TableNotices entryTold Waits
-  table-notices e s p r u = (to (p u) refl, λ n. from (n .0) (n .1) (n .2, n .3, n .4, n .5, ⊎-elim inl (λ x. inr (n .1, x)) (n .6)))
+  table-notices e s p r u =
+      (to (p .place u) refl, λ n. from (n .0) (n .1) (n .2, n .3, n .4, n .5, ⊎-elim inl (λ x. inr (n .1, x)) (n .6)))
     where
       Acts : ℕ → Type 0
       Acts g = (a b : Bool) × (e r g ≡ entry a b) × ((a ≡ true) ⊎ (m .holds g s ≡ true)) × ((b ≡ true) ⊎ (Waits m p g u × First m p (Waits m p g) u))
@@ -83,12 +86,12 @@ module _ (m : Monitor) where
       by-entry : (g : ℕ) → (acts (e r g) (m .holds g s) (next m p g u) ≡ true) ↔ Acts g
       by-entry g = acts-iff (e r g) (m .holds g s) (next m p g u) (next-iff m p g u)
 
-      to : (q : Place) → p u ≡ q → entryTold m e s p r u q ≡ true → TableNotices m e s p r u
+      to : (q : Place) → p .place u ≡ q → entryTold m e s p r u q ≡ true → TableNotices m e s p r u
       to idle z h = absurd (false≢true h)
       to (waiting w) z h =
           let n = by-entry (m .guardOf w) .0 h in
           (m .guardOf w, (w, z, refl), n .0, n .1, n .2, n .3, ⊎-elim inl (λ x. inr (x .1)) (n .4))
       to (due w) z h = absurd (false≢true h)
 
-      from : (g : ℕ) → Waits m p g u → Acts g → entryTold m e s p r u (p u) ≡ true
+      from : (g : ℕ) → Waits m p g u → Acts g → entryTold m e s p r u (p .place u) ≡ true
       from g w n = ap (entryTold m e s p r u) (w .1) ∙ by-entry (m .guardOf (w .0)) .1 (subst Acts (sym (w .2)) n)

@@ -19,14 +19,15 @@ answer (stopped a k) = (a, k)
 -- What is compared at a point, and which waiters are notified there
 pub record SamePoint (m : Monitor) (plain table : Config) : Type 0 where
   pub same-state : plain .state ≡ table .state
-  pub same-places : (u : ℕ) → plain .place u ≡ table .place u
+  -- each thread at the same place, and one line
+  pub same-threads : plain .threads ≡ table .threads
   pub is-kept : m .kept (table .state) ≡ true
   -- by the plain machine every waiter whose guard holds, by the table's the one next in line
   pub all-notified :
-      (g u : ℕ) → m .holds g (plain .state) ≡ true → Waits m (plain .place) g u → plain .notified u ≡ true
+      (g u : ℕ) → m .holds g (plain .state) ≡ true → Waits m (plain .threads) g u → plain .notified u ≡ true
   pub next-notified :
-      (g u : ℕ) → m .holds g (table .state) ≡ true → Waits m (table .place) g u
-      → First m (table .place) (Waits m (table .place) g) u → table .notified u ≡ true
+      (g u : ℕ) → m .holds g (table .state) ≡ true → Waits m (table .threads) g u
+      → First m (table .threads) (Waits m (table .threads) g) u → table .notified u ≡ true
 
 -- Two machines, as runs of a list of frames, agree on a list; `recheck` says which of its frames are rechecks
 pub record AgreeOn

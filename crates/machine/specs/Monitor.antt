@@ -1,5 +1,6 @@
 -- A monitor freed from its syntax, and a point of a run: what the table and the two machines speak of ("Frames and the two machines").
-use Prim.Native.Nat.{ℕ}
+use Prim.Native.Nat.{ℕ, _<_}
+use mathlib.Core.Path.{_≡_}
 use mathlib.Core.Bool.{Bool, false}
 use lib.Dec.{ltb}
 
@@ -34,19 +35,30 @@ pub record Frame : Type 0 where
 unfoldable pub threads : ℕ
 threads = 16
 
--- The line of those who wait: u stands ahead of v. "the lowest-numbered"
-unfoldable pub ahead : (ℕ → Place) → ℕ → ℕ → Bool
+-- what is known of all threads: where each is
+pub record Threads : Type 0 where
+  pub place : ℕ → Place
+
+-- two that are alike on the sixteen threads
+pub record SameThreads (p p′ : Threads) : Type 0 where
+  pub same-place : (u : ℕ) → u < threads → p .place u ≡ p′ .place u
+
+-- The line of those who wait, read off what is known of all threads: u stands ahead of v. "the lowest-numbered"
+unfoldable pub ahead : Threads → ℕ → ℕ → Bool
 ahead p u v = ltb u v
 
--- a point of a run: the state, the place of each thread, and who has a notice that is not used up
+-- a point of a run: the state, what is known of all threads, and who has a notice that is not used up
 pub record Config : Type 0 where
   pub state : ℕ
-  pub place : ℕ → Place
+  pub threads : Threads
   pub notified : ℕ → Bool
+
+abbrev pub idleThreads : Threads
+idleThreads = record { place = λ _. idle }
 
 -- "At the start all are idle and none notified"
 unfoldable pub allIdle : ℕ → Config
-allIdle s = record { state = s; place = λ _. idle; notified = λ _. false }
+allIdle s = record { state = s; threads = idleThreads; notified = λ _. false }
 
 -- the end of a run of a list: its last point, or a refusal's number and the frame
 pub data Run : Type 0 where

@@ -6,20 +6,20 @@ use mathlib.Core.Bool.{Bool, true, false}
 use mathlib.Core.Logic.{_⊎_, _↔_}
 use mathlib.Core.List.{List, [], _∷_, _++_}
 use lib.ListN.{length}
-use Rattle.machine.specs.Monitor.{Place, idle, waiting, due, Monitor, Frame, Config, threads, ahead}
+use Rattle.machine.specs.Monitor.{Place, idle, waiting, due, Threads, Monitor, Frame, Config, threads, ahead}
 use Rattle.machine.specs.Algorithm1.{Entry, entry}
 
--- a set of threads to notify: by the state after a body, the places then and the region that ran
+-- a set of threads to notify: by the state after a body, the threads then and the region that ran
 abbrev pub Notices : Type 1
-Notices = ℕ → (ℕ → Place) → ℕ → ℕ → Type 0
+Notices = ℕ → Threads → ℕ → ℕ → Type 0
 
 module _ (m : Monitor) where
   -- thread u waits at a region whose guard is g: in the source, one of Events(B, g)
-  unfoldable pub Waits : (ℕ → Place) → ℕ → ℕ → Type 0
-  Waits p g u = (w : ℕ) × (p u ≡ waiting w) × (m .guardOf w ≡ g)
+  unfoldable pub Waits : Threads → ℕ → ℕ → Type 0
+  Waits p g u = (w : ℕ) × (p .place u ≡ waiting w) × (m .guardOf w ≡ g)
 
   -- no thread of a set stands ahead of t: the source's min, among those of one guard
-  unfoldable pub First : (ℕ → Place) → (ℕ → Type 0) → ℕ → Type 0
+  unfoldable pub First : Threads → (ℕ → Type 0) → ℕ → Type 0
   First p among t = (u : ℕ) → u < threads → among u → ahead p u t ≡ true → ⊥
 
   -- Figure 4: whom the plain machine notifies
@@ -38,17 +38,18 @@ module _ (m : Monitor) where
   MayBeAt (waiting w) r = w ≡ r
   MayBeAt (due w) r = w ≡ r
 
-  pub record May (p : ℕ → Place) (f : Frame) : Type 0 where
-    pub nobody-due : (u r : ℕ) → u < threads → (u ≡ f .thread → ⊥) → p u ≡ due r → ⊥
-    pub at-region : MayBeAt (p (f .thread)) (f .region)
+  pub record May (p : Threads) (f : Frame) : Type 0 where
+    pub nobody-due : (u r : ℕ) → u < threads → (u ≡ f .thread → ⊥) → p .place u ≡ due r → ⊥
+    pub at-region : MayBeAt (p .place (f .thread)) (f .region)
 
   unfoldable pub Waiting : Place → Type 0
   Waiting q = (w : ℕ) × (q ≡ waiting w)
 
-  -- after a frame of thread t, t is at q and nobody else has moved
-  pub record Moved (p p′ : ℕ → Place) (t : ℕ) (q : Place) : Type 0 where
-    pub own-place : p′ t ≡ q
-    pub others : (u : ℕ) → (u ≡ t → ⊥) → p′ u ≡ p u
+  -- after a frame of thread t, t is at q and nobody else has moved. Here, and nowhere else, a rule says what becomes of
+  -- the line: nothing, since those who wait stand by their numbers
+  pub record Moved (p p′ : Threads) (t : ℕ) (q : Place) : Type 0 where
+    pub own-place : p′ .place t ≡ q
+    pub others : (u : ℕ) → (u ≡ t → ⊥) → p′ .place u ≡ p .place u
 
   -- exactly those of a set are notified
   unfoldable pub NotifiedAre : (ℕ → Bool) → (ℕ → Type 0) → Type 0
@@ -62,29 +63,29 @@ module _ (m : Monitor) where
     -- what a body's frame leads to, in 2a and 2b
     pub record Body (c : Config) (f : Frame) (c′ : Config) : Type 0 where
       pub state : c′ .state ≡ m .after (f .region) (c .state)
-      pub places : Moved (c .place) (c′ .place) (f .thread) (m .follows (f .region))
+      pub places : Moved (c .threads) (c′ .threads) (f .thread) (m .follows (f .region))
       pub notified :
           NotifiedAre (c′ .notified)
-          (λ u. OthersOf (c .notified) (f .thread) u ⊎ notices (c′ .state) (c′ .place) (f .region) u)
+          (λ u. OthersOf (c .notified) (f .thread) u ⊎ notices (c′ .state) (c′ .threads) (f .region) u)
 
     pub data Rule (c : Config) (f : Frame) (c′ : Config) : Type 0 where
       rule-1a :
-          May (c .place) f → f .flag ≡ false → m .holds (m .guardOf (f .region)) (c .state) ≡ false
-          → (Waiting (c .place (f .thread)) → ⊥)
-          → c′ .state ≡ c .state → Moved (c .place) (c′ .place) (f .thread) (waiting (f .region))
+          May (c .threads) f → f .flag ≡ false → m .holds (m .guardOf (f .region)) (c .state) ≡ false
+          → (Waiting (c .threads .place (f .thread)) → ⊥)
+          → c′ .state ≡ c .state → Moved (c .threads) (c′ .threads) (f .thread) (waiting (f .region))
           → NotifiedAre (c′ .notified) (λ u. c .notified u ≡ true) → Rule c f c′
       rule-1b :
-          May (c .place) f → f .flag ≡ false → m .holds (m .guardOf (f .region)) (c .state) ≡ false
-          → Waiting (c .place (f .thread)) → c .notified (f .thread) ≡ true
-          → c′ .state ≡ c .state → ((u : ℕ) → c′ .place u ≡ c .place u)
+          May (c .threads) f → f .flag ≡ false → m .holds (m .guardOf (f .region)) (c .state) ≡ false
+          → Waiting (c .threads .place (f .thread)) → c .notified (f .thread) ≡ true
+          → c′ .state ≡ c .state → c′ .threads ≡ c .threads
           → NotifiedAre (c′ .notified) (OthersOf (c .notified) (f .thread)) → Rule c f c′
       rule-2a :
-          May (c .place) f → f .flag ≡ true → m .holds (m .guardOf (f .region)) (c .state) ≡ true
-          → (Waiting (c .place (f .thread)) → ⊥) → Body c f c′ → Rule c f c′
+          May (c .threads) f → f .flag ≡ true → m .holds (m .guardOf (f .region)) (c .state) ≡ true
+          → (Waiting (c .threads .place (f .thread)) → ⊥) → Body c f c′ → Rule c f c′
       rule-2b :
-          May (c .place) f → f .flag ≡ true → m .holds (m .guardOf (f .region)) (c .state) ≡ true
-          → Waiting (c .place (f .thread)) → c .notified (f .thread) ≡ true
-          → First (c .place) (λ u. Waits (c .place) (m .guardOf (f .region)) u × (c .notified u ≡ true)) (f .thread)
+          May (c .threads) f → f .flag ≡ true → m .holds (m .guardOf (f .region)) (c .state) ≡ true
+          → Waiting (c .threads .place (f .thread)) → c .notified (f .thread) ≡ true
+          → First (c .threads) (λ u. Waits (c .threads) (m .guardOf (f .region)) u × (c .notified u ≡ true)) (f .thread)
           → Body c f c′ → Rule c f c′
 
     -- frames allowed one after the other (the source's rule 3 and its closure)
@@ -95,8 +96,8 @@ module _ (m : Monitor) where
 module _ (m : Monitor) (notices : Notices) where
   -- what a frame that is refused by a number breaks: "13 first"
   pub data Refuses (c : Config) (f : Frame) : ℕ → Type 0 where
-    may-not : (May m (c .place) f → ⊥) → Refuses c f 13
-    no-rule : May m (c .place) f → ((c′ : Config) → Rule m notices c f c′ → ⊥) → Refuses c f 14
+    may-not : (May m (c .threads) f → ⊥) → Refuses c f 13
+    no-rule : May m (c .threads) f → ((c′ : Config) → Rule m notices c f c′ → ⊥) → Refuses c f 14
 
   -- The frames before frame j, counted on from k, are allowed one after the other, and frame j is refused by number a
   pub record Stops (k : ℕ) (c : Config) (fs : List Frame) (a j : ℕ) : Type 0 where

@@ -3,10 +3,10 @@ use Prim.Native.Nat.{ℕ, zero, suc, _+_, _*_, _<_}
 use mathlib.Core.Path.{_≡_}
 use mathlib.Core.Bool.{Bool, true, false}
 use mathlib.Core.List.{List, [], _∷_}
-use lib.ListN.{length}
+use lib.ListN.{length, getD}
 use lib.IntN.{ℤ}
 use Rattle.syntax.specs.Tree.{Monitor}
-use Rattle.machine.specs.Monitor.{Place, Config, threads}
+use Rattle.machine.specs.Monitor.{Place, idle, Threads, Config, threads}
 use Rattle.machine.specs.Rules.{Notices, PlainNotices, TableNotices}
 use Rattle.machine.specs.Decide.Table.{entryOf}
 use Rattle.meaning.specs.Value.{truth}
@@ -53,11 +53,15 @@ pub record Record : Type 0 where
   pub notified : ℕ
   pub howMany : ℕ
 
+-- what a record says of all threads
+abbrev pub threadsOf : Record → Threads
+threadsOf r = record { place = λ u. getD (r .places) u idle }
+
 unfoldable pub recordOf : Monitor → Config → Record
 recordOf m c =
     record {
       values = stateAt (vars m) (c .state);
-      places = eachThread threads 0 (c .place);
+      places = eachThread threads 0 (c .threads .place);
       notified = bits (eachThread threads 0 (c .notified));
       howMany = ones (eachThread threads 0 (c .notified));
     }

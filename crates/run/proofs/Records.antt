@@ -14,7 +14,7 @@ use borrow.Author.Tests.{eqb-true, eqb-false}
 use Rattle.sets.specs.Set.{member, size}
 use Rattle.sets.proofs.SetLaws.{member-zero, member-suc, size-ones}
 use Rattle.syntax.specs.Tree.{Monitor}
-use Rattle.machine.specs.Monitor.{Config, Run, accepted, stopped, allIdle, threads}
+use Rattle.machine.specs.Monitor.{SameThreads, Config, Run, accepted, stopped, allIdle, threads}
 use Rattle.machine.specs.Decide.Step.{Told, run}
 use Rattle.machine.specs.Monitor as machine
 use Rattle.machine.specs.Agreement.{Checked}
@@ -32,8 +32,9 @@ use Rattle.meaning.specs.Calls.{Machine, eachThread, bits, ones, not-run, recor
 use Rattle.meaning.specs.Decide.Calls.{toldBy, runningOf, runList, runFrames, runFrom}
 use Rattle.stepper.specs.declared.Thread.{Thread}
 use Rattle.stepper.specs.declared.Run as code
-use Rattle.stepper.specs.Shown.{Shows, placeOf, idleThread, toldOn}
+use Rattle.stepper.specs.Shown.{Shows, placeOf, placesOf, threadsOf, idleThread, toldOn}
 use Rattle.demands.proofs.Demand2.{run-reached, run-stops}
+use Rattle.demands.proofs.Demand3.{each-read}
 use Rattle.demands.proofs.Widths.{each-length}
 use Rattle.run.specs.Ended.{EndsAs}
 use Rattle.run.specs.declared.frames.Ended.{Ended}
@@ -42,24 +43,20 @@ use Rattle.run.specs.declared.Running.{Running}
 
 -- ---- the record of a point
 
-each-at : {A : Type 0} (n t : ℕ) (f : ℕ → A) (d : A) (u : ℕ) → u < n → getD (eachThread n t f) u d ≡ f (t + u)
-unfolding eachThread
-each-at zero t f d u h = absurd (omega arith)
-each-at (suc n) t f d zero h = ap f (omega arith)
-each-at (suc n) t f d (suc u) h = each-at n (t + 1) f d u (omega arith) ∙ ap f (omega arith)
-
 -- sixteen threads that show the places are the list of the places
 pub places-shown : (ts : List Thread) (c : Config) → length ts ≡ 16
-    → ((t : ℕ) → t < 16 → placeOf (getD ts t idleThread .place) ≡ c .place t)
-    → map (λ (t : Thread). placeOf (t .place)) ts ≡ eachThread threads 0 (c .place)
-unfolding threads
+    → SameThreads (threadsOf ts) (c .threads)
+    → map (λ (t : Thread). placeOf (t .place)) ts ≡ eachThread threads 0 (c .threads .place)
+unfolding threads placesOf
 places-shown ts c l h =
     let f : Thread → machine.Place = λ t. placeOf (t .place) in
     let n = length-map ts f in
-    ext-getD (f idleThread) (map f ts) (eachThread 16 0 (c .place)) (n ∙ l ∙ sym (each-length 16 0 (c .place)))
+    ext-getD (f idleThread) (map f ts) (eachThread 16 0 (c .threads .place))
+    (n ∙ l ∙ sym (each-length 16 0 (c .threads .place)))
     (λ i b.
     let low : i < 16 = omega arith in
-    List·getD-map f ts i idleThread ∙ h i low ∙ ap (c .place) (omega arith) ∙ sym (each-at 16 0 (c .place) (f idleThread) i low))
+    List·getD-map f ts i idleThread ∙ h .same-place i low
+    ∙ ap (c .threads .place) (omega arith) ∙ sym (each-read 16 0 (c .threads .place) (f idleThread) i low))
 
 -- a number below 2 ^ n whose members are given thread by thread is the bits of the list, and has as many ones
 pub set-shown : (n t s : ℕ) (f : ℕ → Bool) → s < 2 ^ n → ((u : ℕ) → u < n → member s u ≡ f (t + u))
@@ -97,7 +94,7 @@ recorded m c end vs vars-held many s l small counted values sized =
       vars = counted ∙ sym n;
       values = λ k h. v .held k (omega arith);
       unused = λ k h b. v .unused k h (omega arith);
-      places = places-shown (end .threads) c l (s .places);
+      places = places-shown (end .threads) c l (s .threads);
       notified = set .0;
       how-many = sized ∙ size-ones 16 (end .notified) small ∙ set .1;
     }

@@ -10,18 +10,21 @@ use lib.Dec.{eqb, ltb}
 use lib.ListN.{getD}
 use borrow.Author.Tests.{le-ltb}
 use Rattle.sets.specs.Set.{member}
-use Rattle.machine.specs.Monitor.{Place, idle, waiting, due, Monitor, Config, Frame, threads}
-use Rattle.machine.specs.Decide.Step.{Outcome, put, leave, beginWait, without, isDue, isWaiting, mayBeAt, may, firstNotified, ran, waited, rechecked, step}
+use Rattle.machine.specs.Monitor.{Place, idle, waiting, due, Threads, SameThreads, Monitor, Config, Frame, threads}
+use Rattle.machine.specs.Decide.Step.{Outcome, leave, without, isDue, isWaiting, mayBeAt, may, firstNotified}
+use Rattle.machine.specs.Decide.Step.{ran, waited, rechecked, step}
 use Rattle.machine.specs.Algorithm1.{Entry, none, entry}
 use Rattle.machine.specs.Decide.Table.{runs, entryOf}
 use Rattle.logic.specs.Tests.{bit}
 use Rattle.machine.specs.Held.{followsBy, codeOf, Held, HeldPlaces, HeldEntries}
 use Rattle.stepper.specs.declared.Run.{Run}
 use Rattle.stepper.specs.Shown.{Shows, Steps, toldOn}
-use Rattle.stepper.specs.Slices.{guardAt, holdsAt, afterAt, beginsAt, followsAt, entryBy, entryAt, slices, truths, toldAt, placesOf, configOf}
+use Rattle.stepper.specs.Slices.{guardAt, holdsAt, afterAt, beginsAt, followsAt, entryBy, entryAt}
+use Rattle.stepper.specs.Slices.{slices, truths, toldAt, configOf}
 use Rattle.stepper.specs.Parts.{verdictOf, nextBy, nextOf, outcome, step-parts}
 use Rattle.stepper.proofs.Taken as taken-frame
 use Rattle.stepper.proofs.Taken.{taken-there, taken-runs, there-below}
+use Rattle.machine.proofs.Order.{same-trans, began-same, left-same}
 use Rattle.machine.proofs.Reached.{PlaceWithin, Reached}
 use Rattle.stepper.proofs.Loops.{any-same}
 use Rattle.stepper.proofs.Judged.{same-verdict, absent}
@@ -30,23 +33,15 @@ use Rattle.stepper.proofs.Agree.{first-same, plain-same, table-same}
 -- two points that no run tells apart
 pub record Alike (d c : Config) : Type 0 where
   pub state : d .state ≡ c .state
-  pub places : (u : ℕ) → u < 16 → d .place u ≡ c .place u
+  pub threads : SameThreads (d .threads) (c .threads)
   pub notices : (u : ℕ) → u < 16 → d .notified u ≡ c .notified u
 
 pub shows-alike : (r : Run) (d c : Config) → Alike d c → Shows r d → Shows r c
 shows-alike r d c a h = record {
   state = h .state ∙ a .state;
-  places = λ u l. h .places u l ∙ a .places u l;
+  threads = same-trans (h .threads) (a .threads);
   notices = λ u l. h .notices u l ∙ a .notices u l;
 }
-
-put-same : (p′ p : ℕ → Place) (t : ℕ) (q′ q : Place) (u : ℕ) → p′ u ≡ p u → q′ ≡ q → put p′ t q′ u ≡ put p t q u
-unfolding put
-put-same p′ p t q′ q u e d = go (eqb u t)
-  where
-    go : (b : Bool) → _≡_ {A = Place} (elim b [ true ↦ q′ | false ↦ p′ u ]) (elim b [ true ↦ q | false ↦ p u ])
-    go true = d
-    go false = e
 
 -- an outcome of the code, where the number that answers the frame is known
 steps-refused : (r : Run) (k n : ℕ) (d : Config) → k ≡ n → (k ≡ 0 → ⊥) → Steps r (record { number = k; run = r }) (outcome n d)
@@ -131,9 +126,13 @@ module _ (m : Monitor) (kept hs as′ gs : List ℕ) (held : Held m kept hs as�
       state-below : c .state < m .states
       state-below = held .kept-below (c .state) (reached .is-kept)
 
-      place-same : (u : ℕ) → u < 16 → configOf run .place u ≡ c .place u
-      unfolding configOf placesOf
-      place-same u h = shows .places u h
+      threads-same : SameThreads (configOf run .threads) (c .threads)
+      unfolding configOf
+      threads-same = shows .threads
+
+      place-same : (u : ℕ) → u < 16 → configOf run .threads .place u ≡ c .threads .place u
+      unfolding threads
+      place-same = threads-same .same-place
 
       notice-same : (u : ℕ) → u < 16 → configOf run .notified u ≡ c .notified u
       unfolding configOf
@@ -143,7 +142,7 @@ module _ (m : Monitor) (kept hs as′ gs : List ℕ) (held : Held m kept hs as�
       unfolding configOf
       state-same = shows .state
 
-      waiter-below : (u w : ℕ) → c .place u ≡ waiting w → w < m .regions
+      waiter-below : (u w : ℕ) → c .threads .place u ≡ waiting w → w < m .regions
       unfolding PlaceWithin
       waiter-below u w e = reached .within u .0 w e
 
@@ -151,13 +150,15 @@ module _ (m : Monitor) (kept hs as′ gs : List ℕ) (held : Held m kept hs as�
         abbrev read : Monitor
         read = slices hs [] gs bs [] n
 
-        there-same : may read (configOf run .place) f ≡ may m (c .place) f
+        there-same : may read (configOf run .threads) f ≡ may m (c .threads) f
         unfolding may threads
         there-same =
             ap₂ (λ (x y : Bool). not x && y)
-            (any-same 16 (λ u. not (eqb u (f .thread)) && isDue (configOf run .place u)) (λ u. not (eqb u (f .thread)) && isDue (c .place u))
+            (any-same 16 (λ u. not (eqb u (f .thread)) && isDue (configOf run .threads .place u))
+            (λ u. not (eqb u (f .thread)) && isDue (c .threads .place u))
             (λ u h. ap (λ (q : Place). not (eqb u (f .thread)) && isDue q) (place-same u h)))
-            (ap (λ (q : Place). mayBeAt read q (f .region)) (place-same (f .thread) thread) ∙ at-same n e (c .place (f .thread)) (f .region))
+            (ap (λ (q : Place). mayBeAt read q (f .region)) (place-same (f .thread) thread)
+            ∙ at-same n e (c .threads .place (f .thread)) (f .region))
 
         taken-alike : f .region < m .regions → verdictOf read (configOf run) f ≡ verdictOf m c f
         unfolding verdictOf
@@ -168,14 +169,15 @@ module _ (m : Monitor) (kept hs as′ gs : List ℕ) (held : Held m kept hs as�
             ∙ holds-held (m .guardOf (f .region)) (c .state) (held .guard-below (f .region) below) state-below in
             same-verdict there-same (ap (Bool·beq (f .flag)) truth) (ap isWaiting (place-same (f .thread) thread)) refl
             (notice-same (f .thread) thread)
-            (ap (λ (g : ℕ). firstNotified read (configOf run .place) (configOf run .notified) g (f .thread)) guard
-            ∙ first-same read m (configOf run .place) (c .place) place-same (λ u w h q. guard-held w (waiter-below u w q))
-            (configOf run .notified) (c .notified) notice-same (m .guardOf (f .region)) (f .thread))
+            (ap (λ (g : ℕ). firstNotified read (configOf run .threads) (configOf run .notified) g (f .thread)) guard
+            ∙ first-same read m (configOf run .threads) (c .threads) threads-same
+            (λ u w h q. guard-held w (waiter-below u w q)) (configOf run .notified) (c .notified) notice-same
+            (m .guardOf (f .region)) (f .thread) thread)
 
         pub verdict-held : verdictOf read (configOf run) f ≡ verdictOf m c f
-        verdict-held = go (may m (c .place) f) refl
+        verdict-held = go (may m (c .threads) f) refl
           where
-            go : (b : Bool) → may m (c .place) f ≡ b → verdictOf read (configOf run) f ≡ verdictOf m c f
+            go : (b : Bool) → may m (c .threads) f ≡ b → verdictOf read (configOf run) f ≡ verdictOf m c f
             go true q = taken-alike (there-below m c f reached q)
             go false q = absent read (configOf run) f (there-same ∙ q) ∙ sym (absent m c f q)
 
@@ -186,17 +188,19 @@ module _ (m : Monitor) (kept hs as′ gs : List ℕ) (held : Held m kept hs as�
         below : f .region < m .regions
         below = there-below m c f reached (taken-there m c f taken)
 
-        -- the places after a body
-        abbrev left-of : ℕ → Place
-        left-of = put (c .place) (f .thread) (m .follows (f .region))
+        -- the threads after a body
+        abbrev left-of : Threads
+        left-of = leave (c .threads) (f .thread) (m .follows (f .region))
 
-        abbrev left-read : ℕ → Place
-        left-read = put (configOf run .place) (f .thread) (followsAt os (f .region))
+        abbrev left-read : Threads
+        left-read = leave (configOf run .threads) (f .thread) (followsAt os (f .region))
 
-        left-same : (u : ℕ) → u < 16 → left-read u ≡ left-of u
-        left-same u h = put-same (configOf run .place) (c .place) (f .thread) (followsAt os (f .region)) (m .follows (f .region)) u (place-same u h) (follows-held (f .region) below)
+        left-alike : SameThreads left-read left-of
+        left-alike =
+            subst (λ (q : Place). SameThreads (leave (configOf run .threads) (f .thread) q) left-of)
+            (sym (follows-held (f .region) below)) (left-same m threads-same (f .thread) (m .follows (f .region)))
 
-        left-below : (u w : ℕ) → left-of u ≡ waiting w → w < m .regions
+        left-below : (u w : ℕ) → left-of .place u ≡ waiting w → w < m .regions
         left-below = taken-frame.left-below m c f reached bs os places below
 
         module _ (flag : f .flag ≡ true) where
@@ -216,18 +220,18 @@ module _ (m : Monitor) (kept hs as′ gs : List ℕ) (held : Held m kept hs as�
               → toldAt hs gs es t to left-read (f .region) u ≡ toldOn m t to left-of (f .region) u
           unfolding toldAt toldOn
           told-on true all u h =
-              table-same (truths hs gs) m left-read left-of left-same (λ v w l q. guard-held w (left-below v w q)) to
+              table-same (truths hs gs) m left-read left-of left-alike (λ v w l q. guard-held w (left-below v w q)) to
               (λ v w l q. holds-held (m .guardOf w) to (held .guard-below w (left-below v w q)) to-below) (entryAt es) (entryOf m) (f .region)
               (λ v w l q. entry-held es (all refl) (f .region) (m .guardOf w) below (held .guard-below w (left-below v w q))) u h
           told-on false all u h =
-              plain-same (truths hs gs) m left-read left-of left-same (λ v w l q. guard-held w (left-below v w q)) to
+              plain-same (truths hs gs) m left-read left-of left-alike (λ v w l q. guard-held w (left-below v w q)) to
               (λ v w l q. holds-held (m .guardOf w) to (held .guard-below w (left-below v w q)) to-below) (f .region) u h
 
           ran-alike : Alike (ran moves (toldAt hs gs es table) (configOf run) f) (ran m (toldOn m table) c f)
-          unfolding ran leave without
+          unfolding ran without
           ran-alike = record {
             state = to-same;
-            places = left-same;
+            threads = left-alike;
             notices = λ u h.
                 ap₂ (λ (x y : Bool). (not (eqb u (f .thread)) && x) || y) (notice-same u h)
                 (ap (λ (s : ℕ). toldAt hs gs es table s left-read (f .region) u) to-same ∙ told-on table entries u h);
@@ -235,16 +239,16 @@ module _ (m : Monitor) (kept hs as′ gs : List ℕ) (held : Held m kept hs as�
 
         alike : (flag waits : Bool) → f .flag ≡ flag
             → Alike (nextBy moves (toldAt hs gs es table) (configOf run) f flag waits) (nextBy m (toldOn m table) c f flag waits)
-        unfolding nextBy rechecked waited without beginWait
+        unfolding nextBy rechecked waited without
         alike true waits q = ran-alike q
         alike false true q = record {
           state = state-same;
-          places = place-same;
+          threads = threads-same;
           notices = λ u h. ap (λ (x : Bool). not (eqb u (f .thread)) && x) (notice-same u h);
         }
         alike false false q = record {
           state = state-same;
-          places = λ u h. put-same (configOf run .place) (c .place) (f .thread) (waiting (f .region)) (waiting (f .region)) u (place-same u h) refl;
+          threads = began-same m threads-same (f .thread) (f .region);
           notices = notice-same;
         }
 
@@ -252,7 +256,8 @@ module _ (m : Monitor) (kept hs as′ gs : List ℕ) (held : Held m kept hs as�
         unfolding nextOf
         next-held =
             subst (λ (w : Bool). Alike (nextBy moves (toldAt hs gs es table) (configOf run) f (f .flag) w) (nextOf m (toldOn m table) c f))
-            (sym (ap isWaiting (place-same (f .thread) thread))) (alike (f .flag) (isWaiting (c .place (f .thread))) refl)
+            (sym (ap isWaiting (place-same (f .thread) thread)))
+            (alike (f .flag) (isWaiting (c .threads .place (f .thread))) refl)
 
       -- ---- the code's two answers against the machine's step
       module _ (n : ℕ) (e : m .regions ≡ n) (es : List ℕ) (table : Bool) (entries : table ≡ true → HeldEntries m es) where

@@ -1,19 +1,14 @@
 -- What number answers a frame, by what the code has tested: a law for each answer. Each is the verdict at the Booleans that the tests give.
-use Prim.Native.Nat.{ℕ, _≤_, _<_}
-use mathlib.Core.Path.{_≡_, refl, sym, ap, ap₂, _∙_}
+use Prim.Native.Nat.{ℕ}
+use mathlib.Core.Path.{_≡_, refl, ap, ap₂, _∙_}
 use mathlib.Core.Bool.{Bool, true, false, not, _&&_, Bool·beq, and-false}
 use mathlib.Core.List.{List, []}
-use native.Mathlib.Decide.{decLt}
-use native.Mathlib.Omega.{arith}
-use lib.Dec.{eqb, ltb}
-use borrow.Author.Tests.{lt-ltb, le-ltb}
-use Rattle.sets.specs.Set.{member}
+use lib.Dec.{eqb}
 use Rattle.machine.specs.Monitor.{Place, idle, waiting, due, Monitor, Config, Frame, threads}
 use Rattle.logic.specs.Tests.{any}
 use Rattle.machine.specs.Decide.Step.{isDue, isWaiting, mayBeAt, may, firstNotified}
 use Rattle.stepper.specs.Slices.{slices}
 use Rattle.stepper.specs.Parts.{verdict, verdictOf}
-use Rattle.stepper.proofs.Loops.{any-true, any-false, any-below}
 
 -- a look-up asks nothing of the other slices
 pub begins-alone : (hs as′ gs bs os : List ℕ) (n : ℕ) (q : Place) (r : ℕ)
@@ -22,21 +17,6 @@ unfolding mayBeAt
 begins-alone hs as′ gs bs os n idle r = refl
 begins-alone hs as′ gs bs os n (waiting w) r = refl
 begins-alone hs as′ gs bs os n (due w) r = refl
-
--- a lowest member below t is a member below t
-pub lowest-below : (s low t : ℕ) (f : ℕ → Bool) → t ≤ 16 → ((v : ℕ) → v < 16 → member s v ≡ f v)
-    → ((u : ℕ) → u < low → member s u ≡ true → ⊥) → (low < 16 → member s low ≡ true)
-    → any 16 (λ v. f v && ltb v t) ≡ ltb low t
-lowest-below s low t f h e least found = any-below 16 t f h ∙ go (decLt low t)
-  where
-    none : (k : ℕ) → k < low → (b : Bool) → member s k ≡ b → b ≡ false
-    none k l true q = absurd (least k l q)
-    none k l false q = refl
-
-    go : Dec (low < t) → any t f ≡ ltb low t
-    go (yes l) = any-true t low f l (sym (e low (omega arith)) ∙ found (omega arith)) ∙ sym (lt-ltb low t l)
-    go (no l) =
-        any-false t f (λ k q. sym (e k (omega arith)) ∙ none k (omega arith) (member s k) refl) ∙ sym (le-ltb low t (omega arith))
 
 as-is : (b : Bool) → b ≡ b
 as-is b = refl
@@ -47,25 +27,25 @@ same-verdict p q r s t u = cc
 
 module _ (m : Monitor) (c : Config) (f : Frame) where
   abbrev there : Bool
-  there = may m (c .place) f
+  there = may m (c .threads) f
 
   abbrev same : Bool
   same = Bool·beq (f .flag) (m .holds (m .guardOf (f .region)) (c .state))
 
   abbrev waits : Bool
-  waits = isWaiting (c .place (f .thread))
+  waits = isWaiting (c .threads .place (f .thread))
 
   abbrev notice : Bool
   notice = c .notified (f .thread)
 
   abbrev first : Bool
-  first = firstNotified m (c .place) (c .notified) (m .guardOf (f .region)) (f .thread)
+  first = firstNotified m (c .threads) (c .notified) (m .guardOf (f .region)) (f .thread)
 
   abbrev others : Bool
-  others = any 16 (λ u. not (eqb u (f .thread)) && isDue (c .place u))
+  others = any 16 (λ u. not (eqb u (f .thread)) && isDue (c .threads .place u))
 
   -- the thread may be at the region
-  pub may-be : others ≡ false → mayBeAt m (c .place (f .thread)) (f .region) ≡ true → there ≡ true
+  pub may-be : others ≡ false → mayBeAt m (c .threads .place (f .thread)) (f .region) ≡ true → there ≡ true
   unfolding may threads
   may-be o b = ap₂ (λ (x y : Bool). not x && y) o b
 
@@ -75,9 +55,9 @@ module _ (m : Monitor) (c : Config) (f : Frame) where
 
   pub other-is-due : others ≡ true → verdictOf m c f ≡ 13
   unfolding may threads
-  other-is-due o = absent (ap (λ (x : Bool). not x && mayBeAt m (c .place (f .thread)) (f .region)) o)
+  other-is-due o = absent (ap (λ (x : Bool). not x && mayBeAt m (c .threads .place (f .thread)) (f .region)) o)
 
-  pub not-there : mayBeAt m (c .place (f .thread)) (f .region) ≡ false → verdictOf m c f ≡ 13
+  pub not-there : mayBeAt m (c .threads .place (f .thread)) (f .region) ≡ false → verdictOf m c f ≡ 13
   unfolding may threads
   not-there b = absent (ap (λ (x : Bool). not others && x) b ∙ and-false (not others))
 

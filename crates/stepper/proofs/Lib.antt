@@ -1,4 +1,5 @@
 pub mod Loops
+pub mod Front
 pub mod Judged
 pub mod Agree
 pub mod Taken

@@ -2,6 +2,7 @@
 use Prim.Native.Nat.{ℕ, zero, suc, _+_, _/_, _%_, _≤_, _<_}
 use mathlib.Core.Path.{_≡_, refl, sym, ap, ap₂, _∙_}
 use mathlib.Core.Bool.{Bool, true, false, not, _&&_, _||_, and-true, and-false, or-true, false≢true}
+use mathlib.Core.Logic.{_⊎_, ⊎-elim}
 use mathlib.Core.List.{List, []}
 use native.Mathlib.Decide.{decLt}
 use native.Mathlib.Omega.{arith}
@@ -13,15 +14,14 @@ use borrow.Author.Tests.{lt-ltb, le-ltb, eq-eqb, ne-eqb, eqb-true, eqb-false}
 use Rattle.sets.specs.Set.{member}
 use Rattle.sets.proofs.SetLaws.{member-none, eqb-sym}
 use Rattle.logic.specs.Tests.{any}
-use Rattle.machine.specs.Decide.Step.{put, onGuard, waitsOn, next}
-use Rattle.machine.specs.Monitor.{threads}
+use Rattle.machine.specs.Decide.Step.{put, onGuard}
 use Rattle.machine.specs.Monitor as machine
-use Rattle.machine.specs.Decide.Table.{acts as actsOf, entryTold, tableTold}
+use Rattle.machine.specs.Decide.Table.{acts as actsOf}
 use Rattle.machine.specs.Held.{followsBy}
 use Rattle.stepper.specs.declared.Place.{Place}
 use Rattle.stepper.specs.declared.Thread.{Thread}
-use Rattle.stepper.specs.Shown.{placeOf, idleThread}
-use Rattle.stepper.specs.Slices.{placesOf, guardAt, holdsAt, entryBy, entryAt, slices, guardsOnly, truths, toldBehind}
+use Rattle.stepper.specs.Shown.{placeOf, placesOf, idleThread}
+use Rattle.stepper.specs.Slices.{guardAt, entryBy, slices, guardsOnly}
 
 -- ---- some number below n passes a test
 
@@ -89,11 +89,13 @@ ltb-more v u = go (decLt v u) (decLt u v)
         le-ltb v (u + 1) (omega arith) ∙ sym (or-none (eqb v u) (ltb v u) (ne-eqb v u (λ e. omega arith)) (le-ltb v u (omega arith)))
     go (no l) (no k) = lt-ltb v (u + 1) (omega arith) ∙ sym (or-left (eqb v u) (ltb v u) (eq-eqb v u (omega arith)))
 
-abbrev pub Gathered : ℕ → ℕ → (ℕ → Bool) → Type 0
-Gathered s u f = (v : ℕ) → v < 16 → member s v ≡ ltb v u && f v
+pub record Gathered (s u : ℕ) (f : ℕ → Bool) : Type 0 where
+  pub each : (v : ℕ) → v < 16 → member s v ≡ ltb v u && f v
 
-pub gather-none : (f : ℕ → Bool) → Gathered 0 0 f
-gather-none f v h = member-none v ∙ sym (ap (λ (b : Bool). b && f v) (le-ltb v 0 (omega arith)))
+pub gather-none : {f : ℕ → Bool} → Gathered 0 0 f
+gather-none {f} = record {
+  each = λ v h. member-none v ∙ sym (ap (λ (b : Bool). b && f v) (le-ltb v 0 (omega arith)));
+}
 
 taken-in : (e l f : Bool) → (e ≡ true → f ≡ true) → (e && true) || (l && f) ≡ (e || l) && f
 taken-in true l f h = sym (h refl)
@@ -103,19 +105,32 @@ left-out : (e l f : Bool) → (e ≡ true → f ≡ false) → l && f ≡ (e || 
 left-out true l f h = ap (λ (b : Bool). l && b) (h refl) ∙ and-false l ∙ sym (h refl)
 left-out false l f h = refl
 
-pub gather-in : (s s′ u : ℕ) (f : ℕ → Bool) → Gathered s u f → u < 16 → f u ≡ true
-    → ((v : ℕ) → member s′ v ≡ (eqb v u && ltb u 16) || member s v) → Gathered s′ (u + 1) f
-gather-in s s′ u f g l e w v h =
-    w v ∙ ap₂ (λ (x y : Bool). (eqb v u && x) || y) (lt-ltb u 16 l) (g v h)
-    ∙ taken-in (eqb v u) (ltb v u) (f v) (λ q. ap f (eqb-true v u q) ∙ e)
-    ∙ sym (ap (λ (b : Bool). b && f v) (ltb-more v u))
+-- a turn of the loop: thread u goes into the set where its test passes, and else the set stays
+pub gather-turn :
+    {s s′ u : ℕ} {f : ℕ → Bool} {b : Bool} → Gathered s u f → u < 16 → b ≡ f u
+    → ((b ≡ true) × ((v : ℕ) → member s′ v ≡ (eqb v u && ltb u 16) || member s v)) ⊎ ((b ≡ false) × (s′ ≡ s))
+    → Gathered s′ (u + 1) f
+gather-turn {s} {s′} {u} {f} {b} g l e turn = record {
+  each = λ v h. ⊎-elim (λ w. taken v h (w .0) (w .1)) (λ w. left v h (w .0) (w .1)) turn;
+}
+  where
+    one-more : (v : ℕ) → (eqb v u || ltb v u) && f v ≡ ltb v (u + 1) && f v
+    one-more v = sym (ap (λ (x : Bool). x && f v) (ltb-more v u))
 
-pub gather-out : (s u : ℕ) (f : ℕ → Bool) → Gathered s u f → f u ≡ false → Gathered s (u + 1) f
-gather-out s u f g e v h =
-    g v h ∙ left-out (eqb v u) (ltb v u) (f v) (λ q. ap f (eqb-true v u q) ∙ e) ∙ sym (ap (λ (b : Bool). b && f v) (ltb-more v u))
+    taken :
+        (v : ℕ) → v < 16 → b ≡ true → ((v : ℕ) → member s′ v ≡ (eqb v u && ltb u 16) || member s v)
+        → member s′ v ≡ ltb v (u + 1) && f v
+    taken v h passes more =
+        more v ∙ ap₂ (λ (x y : Bool). (eqb v u && x) || y) (lt-ltb u 16 l) (g .each v h)
+        ∙ taken-in (eqb v u) (ltb v u) (f v) (λ q. ap f (eqb-true v u q) ∙ sym e ∙ passes) ∙ one-more v
 
-pub gather-all : (s u : ℕ) (f : ℕ → Bool) → Gathered s u f → 16 ≤ u → (v : ℕ) → v < 16 → member s v ≡ f v
-gather-all s u f g h v l = g v l ∙ ap (λ (b : Bool). b && f v) (lt-ltb v u (omega arith))
+    left : (v : ℕ) → v < 16 → b ≡ false → s′ ≡ s → member s′ v ≡ ltb v (u + 1) && f v
+    left v h fails same =
+        ap (λ (n : ℕ). member n v) same ∙ g .each v h
+        ∙ left-out (eqb v u) (ltb v u) (f v) (λ q. ap f (eqb-true v u q) ∙ sym e ∙ fails) ∙ one-more v
+
+pub gather-all : {s u : ℕ} {f : ℕ → Bool} → Gathered s u f → 16 ≤ u → (v : ℕ) → v < 16 → member s v ≡ f v
+gather-all {s} {u} {f} g h v l = g .each v l ∙ ap (λ (b : Bool). b && f v) (lt-ltb v u (omega arith))
 
 -- ---- the places after that of thread t is replaced
 
@@ -146,7 +161,7 @@ unfolding followsBy
 follows-due r zero n = absurd (n refl)
 follows-due r (suc k) n = refl
 
--- ---- the first waiter on a guard is the first that is met
+-- ---- the guard of a place
 
 pub guard-one : (gs : List ℕ) (w n g : ℕ) → n ≡ guardAt gs w → eqb g n && ltb n 16 ≡ eqb (guardAt gs w) g
 unfolding guardAt
@@ -162,27 +177,3 @@ unfolding onGuard
 guards-alone hs as′ gs bs os n g machine.idle = refl
 guards-alone hs as′ gs bs os n g (machine.waiting w) = refl
 guards-alone hs as′ gs bs os n g (machine.due w) = refl
-
-module _ (hs gs es : List ℕ) (s r met : ℕ) (p : ℕ → machine.Place) (u : ℕ) (h : u ≤ 16)
-    (ahead : (g : ℕ) → member met g ≡ any u (λ v. onGuard (guardsOnly gs) g (p v))) where
-  next-met : (w : ℕ) → p u ≡ machine.waiting w → not (member met (guardAt gs w)) ≡ next (truths hs gs) p (guardAt gs w) u
-  unfolding next waitsOn onGuard threads machine.ahead
-  next-met w e =
-      let g = guardAt gs w in
-      let here : onGuard (truths hs gs) g (p u) ≡ true = ap (onGuard (truths hs gs) g) e ∙ eq-eqb g g refl in
-      let before : member met g ≡ any 16 (λ v. onGuard (truths hs gs) g (p v) && ltb v u) =
-      ahead g ∙ any-same u (λ v. onGuard (guardsOnly gs) g (p v)) (λ v. onGuard (truths hs gs) g (p v)) (λ k l. sym (guards-alone hs [] gs [] [] 0 g (p k)))
-      ∙ sym (any-below 16 u (λ v. onGuard (truths hs gs) g (p v)) h) in
-      ap not before ∙ sym (ap (λ (b : Bool). b && not (any 16 (λ v. onGuard (truths hs gs) g (p v) && ltb v u))) here)
-
-  told-at : (q : machine.Place) → p u ≡ q
-      → toldBehind hs gs es s r met q ≡ entryTold (truths hs gs) (entryAt es) s p r u q
-  unfolding toldBehind entryTold
-  told-at machine.idle e = refl
-  told-at (machine.waiting w) e =
-      ap (λ (b : Bool). actsOf (entryAt es r (guardAt gs w)) (holdsAt hs (guardAt gs w) s) b) (next-met w e)
-  told-at (machine.due w) e = refl
-
-  pub told-first : toldBehind hs gs es s r met (p u) ≡ tableTold (truths hs gs) (entryAt es) s p r u
-  unfolding tableTold
-  told-first = told-at (p u) refl

@@ -18,9 +18,9 @@ verdict true true true true true true = 0
 
 unfoldable pub verdictOf : Monitor → Config → Frame → ℕ
 verdictOf m c f =
-    verdict (may m (c .place) f) (Bool·beq (f .flag) (m .holds (m .guardOf (f .region)) (c .state)))
-    (isWaiting (c .place (f .thread))) (f .flag) (c .notified (f .thread))
-    (firstNotified m (c .place) (c .notified) (m .guardOf (f .region)) (f .thread))
+    verdict (may m (c .threads) f) (Bool·beq (f .flag) (m .holds (m .guardOf (f .region)) (c .state)))
+    (isWaiting (c .threads .place (f .thread))) (f .flag) (c .notified (f .thread))
+    (firstNotified m (c .threads) (c .notified) (m .guardOf (f .region)) (f .thread))
 
 -- the point after a frame that is taken: by the flag, and does the thread wait
 unfoldable pub nextBy : Monitor → Told → Config → Frame → Bool → Bool → Config
@@ -29,7 +29,7 @@ nextBy m told c f false true = rechecked m told c f
 nextBy m told c f false false = waited m told c f
 
 unfoldable pub nextOf : Monitor → Told → Config → Frame → Config
-nextOf m told c f = nextBy m told c f (f .flag) (isWaiting (c .place (f .thread)))
+nextOf m told c f = nextBy m told c f (f .flag) (isWaiting (c .threads .place (f .thread)))
 
 unfoldable pub outcome : ℕ → Config → Outcome
 outcome zero c = moved c
@@ -50,23 +50,25 @@ module _ (m : Monitor) (told : Told) (c : Config) (f : Frame) where
   rechecked-parts false first = refl
 
   act-parts : (waits flag : Bool) →
-      let first = firstNotified m (c .place) (c .notified) (m .guardOf (f .region)) (f .thread) in
+      let first = firstNotified m (c .threads) (c .notified) (m .guardOf (f .region)) (f .thread) in
       act m told c f waits flag ≡ outcome (verdict true true waits flag (c .notified (f .thread)) first) (nextBy m told c f flag waits)
   unfolding act outcome verdict nextBy
   act-parts false false = refl
   act-parts false true = refl
-  act-parts true false = rechecked-parts (c .notified (f .thread)) (firstNotified m (c .place) (c .notified) (m .guardOf (f .region)) (f .thread))
-  act-parts true true = allowed-parts (c .notified (f .thread)) (firstNotified m (c .place) (c .notified) (m .guardOf (f .region)) (f .thread))
+  act-parts true false = rechecked-parts (c .notified (f .thread))
+      (firstNotified m (c .threads) (c .notified) (m .guardOf (f .region)) (f .thread))
+  act-parts true true = allowed-parts (c .notified (f .thread))
+      (firstNotified m (c .threads) (c .notified) (m .guardOf (f .region)) (f .thread))
 
   judged-parts : (there same : Bool) →
-      let first = firstNotified m (c .place) (c .notified) (m .guardOf (f .region)) (f .thread) in
-      let waits = isWaiting (c .place (f .thread)) in
+      let first = firstNotified m (c .threads) (c .notified) (m .guardOf (f .region)) (f .thread) in
+      let waits = isWaiting (c .threads .place (f .thread)) in
       judged m told c f there same ≡ outcome (verdict there same waits (f .flag) (c .notified (f .thread)) first) (nextOf m told c f)
   unfolding judged outcome verdict nextOf
   judged-parts false same = refl
   judged-parts true false = refl
-  judged-parts true true = act-parts (isWaiting (c .place (f .thread))) (f .flag)
+  judged-parts true true = act-parts (isWaiting (c .threads .place (f .thread))) (f .flag)
 
   pub step-parts : step m told c f ≡ outcome (verdictOf m c f) (nextOf m told c f)
   unfolding step verdictOf
-  step-parts = judged-parts (may m (c .place) f) (Bool·beq (f .flag) (m .holds (m .guardOf (f .region)) (c .state)))
+  step-parts = judged-parts (may m (c .threads) f) (Bool·beq (f .flag) (m .holds (m .guardOf (f .region)) (c .state)))

@@ -2,9 +2,10 @@
 use Prim.Native.Nat.{ℕ, _<_}
 use mathlib.Core.Path.{_≡_}
 use mathlib.Core.Bool.{Bool, true, false}
+use mathlib.Core.List.{List}
 use lib.ListN.{getD}
 use Rattle.sets.specs.Set.{member}
-use Rattle.machine.specs.Monitor.{Monitor, Config}
+use Rattle.machine.specs.Monitor.{Threads, SameThreads, Monitor, Config}
 use Rattle.machine.specs.Decide.Step.{Outcome, moved, refused, step, plainTold, Told}
 use Rattle.machine.specs.Monitor as machine
 use Rattle.machine.specs.Decide.Table.{entryOf, tableTold}
@@ -23,10 +24,17 @@ placeOf (Due r) = machine.due r
 unfoldable pub idleThread : Thread
 idleThread = record { place = Idle }
 
--- the state, the place of each of sixteen threads, and who is notified
+-- what a list of threads holds: the place of each, and with it what is known of all threads
+unfoldable pub placesOf : List Thread → ℕ → machine.Place
+placesOf ts u = placeOf (getD ts u idleThread .place)
+
+abbrev pub threadsOf : List Thread → Threads
+threadsOf ts = record { place = placesOf ts }
+
+-- the state, what is known of each of sixteen threads, and who is notified
 pub record Shows (r : Run) (c : Config) : Type 0 where
   pub state : r .state ≡ c .state
-  pub places : (t : ℕ) → t < 16 → placeOf (getD (r .threads) t idleThread .place) ≡ c .place t
+  pub threads : SameThreads (threadsOf (r .threads)) (c .threads)
   pub notices : (t : ℕ) → t < 16 → member (r .notified) t ≡ c .notified t
 
 unfoldable pub frameOf : Frame → machine.Frame

@@ -10,9 +10,8 @@ use Rattle.machine.specs.Decide.Step.{Told, plainTold}
 use Rattle.machine.specs.Algorithm1.{Entry, none, entry}
 use Rattle.machine.specs.Decide.Table.{acts, tableTold}
 use Rattle.machine.specs.Held.{followsBy}
-use Rattle.stepper.specs.declared.Thread.{Thread}
 use Rattle.stepper.specs.declared.Run.{Run}
-use Rattle.stepper.specs.Shown.{placeOf, idleThread}
+use Rattle.stepper.specs.Shown.{threadsOf}
 
 unfoldable pub guardAt : List ℕ → ℕ → ℕ
 guardAt gs r = getD gs (r % 16) 0 % 16
@@ -61,12 +60,9 @@ unfoldable pub toldAt : List ℕ → List ℕ → List ℕ → Bool → Told
 toldAt hs gs es true = tableTold (truths hs gs) (entryAt es)
 toldAt hs gs es false = plainTold (truths hs gs)
 
--- the places that a list of threads holds, and the point of a run that a record holds
-unfoldable pub placesOf : List Thread → ℕ → Place
-placesOf ts u = placeOf (getD ts u idleThread .place)
-
+-- the point of a run that a record holds
 unfoldable pub configOf : Run → Config
-configOf r = record { state = r .state; place = placesOf (r .threads); notified = member (r .notified) }
+configOf r = record { state = r .state; threads = threadsOf (r .threads); notified = member (r .notified) }
 
 -- an entry acts on the waiter at a place, where the guards that some thread ahead waits on are those of a set
 module _ (hs gs es : List ℕ) (s r met : ℕ) where

@@ -1,20 +1,22 @@
 // One frame on either machine: a record of a run by value, and the step that the rules give or the refusal's number.
 // Each promise cites the step of `machine`, for every monitor that the lent slices hold.
 ghost use mathlib.Core.Path.{_≡_};
-ghost use mathlib.Core.Bool.{true, not, _&&_, _||_};
+ghost use mathlib.Core.Bool.{true, false, not, _&&_, _||_};
 ghost use mathlib.Core.List.{List, []};
 ghost use Prim.Native.Nat.{ℕ, _<_};
 ghost use lib.Dec.{eqb};
 ghost use Rattle.sets.specs.Set.{member};
 ghost use Rattle.machine.specs.Monitor.{Monitor, Config, allIdle};
 ghost use Rattle.logic.specs.Tests.{any};
-ghost use Rattle.machine.specs.Decide.Step.{isDue, isWaiting, mayBeAt, onGuard, waitsOn, own, put as putAt, ran as ranTo};
+ghost use Rattle.machine.specs.Decide.Step.{Told, isDue, isWaiting, mayBeAt, onGuard, waitsOn, own};
+ghost use Rattle.machine.specs.Decide.Step.{put as putAt, ran as ranTo};
 ghost use Rattle.machine.specs.Decide.Table.{acts as actsOf, tableTold};
 ghost use Rattle.machine.specs.Held.{Held, HeldPlaces, HeldEntries};
 ghost use Rattle.machine.proofs.Reached.{Reached};
-ghost use Rattle.stepper.specs.Shown.{Shows, Steps, stepBy, placeOf, frameOf};
-ghost use Rattle.stepper.specs.Slices.{guardAt, holdsAt, followsAt, entryBy, entryAt, slices, guardsOnly, truths, toldAt, toldBehind, placesOf, configOf};
-ghost use Rattle.stepper.specs.Parts.{verdictOf, nextOf};
+ghost use Rattle.stepper.specs.Shown.{Shows, Steps, stepBy, placeOf, placesOf, threadsOf, frameOf};
+ghost use Rattle.stepper.specs.Slices.{guardAt, holdsAt, followsAt, entryBy, entryAt, slices, guardsOnly, truths};
+ghost use Rattle.stepper.specs.Slices.{toldAt, toldBehind, configOf};
+ghost use Rattle.stepper.specs.Parts.{verdictOf, nextBy};
 
 // Where a thread is: idle, waiting at a region, or due at a region.
 pub enum Place {
@@ -138,7 +140,8 @@ fn waits_on(place: Place, guard_of: &[u8; 16], guard: u8) -> bool
 
 // The waiters on a guard, as a set.
 fn waiters(threads: [Thread; 16], guard_of: &[u8; 16], guard: u8) -> u16
-    ensures { λ r. ⌜ ((u : ℕ) → u < 16 → member r u ≡ waitsOn (guardsOnly (now («guard_of» .entry))) (placesOf threads) guard u) ⌝ }
+    ensures { λ r. ⌜ ((u : ℕ) → u < 16 → member r u
+        ≡ waitsOn (guardsOnly (now («guard_of» .entry))) (threadsOf threads) guard u) ⌝ }
 {
     let mut set: u16 = 0;
     let mut u: usize = 0;
@@ -250,7 +253,7 @@ fn told_table(
 ) -> u16
     ensures { λ r. ⌜ ((u : ℕ) → u < 16 → member r u
         ≡ tableTold (truths (now (holds .entry)) (now («guard_of» .entry))) (entryAt (now (entries .entry))) state
-        (placesOf threads) region u) ⌝ }
+        (threadsOf threads) region u) ⌝ }
 {
     let mut set: u16 = 0;
     let mut met: u16 = 0;
@@ -265,26 +268,6 @@ fn told_table(
         u += 1;
     }
     set
-}
-
-// Whom a body notifies, on the table's machine or the plain one.
-fn told(
-    table: bool,
-    threads: [Thread; 16],
-    guard_of: &[u8; 16],
-    holds: &[u16; 4096],
-    state: u16,
-    entries: &[u8; 256],
-    region: u8,
-) -> u16
-    ensures { λ r. ⌜ ((u : ℕ) → u < 16 → member r u
-        ≡ toldAt (now (holds .entry)) (now («guard_of» .entry)) (now (entries .entry)) table state (placesOf threads) region u) ⌝ }
-{
-    if table {
-        told_table(threads, guard_of, holds, state, entries, region)
-    } else {
-        told_plain(threads, guard_of, holds, state)
-    }
 }
 
 // The places with that of thread t replaced.
@@ -378,7 +361,11 @@ fn ran(
     let places = put(threads, t as usize, behind(region, goes_on));
     let to = after[(region % 16) as usize * 4096 + (run.state % 4096) as usize];
     let notified = run.notified;
-    let told = told(table, places, guard_of, holds, to, entries, region);
+    let told = if table {
+        told_table(places, guard_of, holds, to, entries, region)
+    } else {
+        told_plain(places, guard_of, holds, to)
+    };
     let rest = sets::without(notified, t as u32);
     Run {
         state: to,
@@ -387,25 +374,12 @@ fn ran(
     }
 }
 
-// The run after a frame that is taken: a body, a recheck, or a thread that begins to wait.
-fn advance(
-    run: Run,
-    frame: Frame,
-    table: bool,
-    holds: &[u16; 4096],
-    after: &[u16; 65536],
-    guard_of: &[u8; 16],
-    goes_on: &[u8; 16],
-    entries: &[u8; 256],
-) -> Run
+// The run after a frame with 00 that is taken: a recheck, or a thread that begins to wait. No monitor is asked.
+fn paused(run: Run, frame: Frame) -> Run
     requires { ⌜ frame .thread < 16 ⌝ }
-    ensures { λ r. ⌜ Shows r
-        (nextOf (slices (now (holds .entry)) (now (after .entry)) (now («guard_of» .entry)) [] (now («goes_on» .entry)) 0)
-        (toldAt (now (holds .entry)) (now («guard_of» .entry)) (now (entries .entry)) table) (configOf run) (frameOf frame)) ⌝ }
+    ensures { λ r. ⌜ ((m : Monitor) (told : Told) → Shows r
+        (nextBy m told (configOf run) (frameOf frame) false (isWaiting (placesOf (run .threads) (frame .thread))))) ⌝ }
 {
-    if frame.flag {
-        return ran(run, frame, table, holds, after, guard_of, goes_on, entries);
-    }
     let t = frame.thread;
     let state = run.state;
     let threads = run.threads;
@@ -460,7 +434,11 @@ pub fn step(
             run: run,
         };
     }
-    let next = advance(run, known, table, holds, after, guard_of, goes_on, entries);
+    let next = if known.flag {
+        ran(run, known, table, holds, after, guard_of, goes_on, entries)
+    } else {
+        paused(run, known)
+    };
     Outcome {
         number: ACCEPTED,
         run: next,

@@ -5,7 +5,8 @@ use mathlib.Core.Bool.{Bool, true, false, not, _&&_, Bool·beq, _||_}
 use mathlib.Core.List.{List, [], _∷_}
 use lib.Dec.{eqb, ltb}
 use Rattle.logic.specs.Tests.{any}
-use Rattle.machine.specs.Monitor.{Config, Frame, Monitor, Place, Run, accepted, ahead, due, idle, stopped, threads, waiting}
+use Rattle.machine.specs.Monitor.{Config, Frame, Monitor, Place, Run, Threads, accepted, ahead}
+use Rattle.machine.specs.Monitor.{due, idle, stopped, threads, waiting}
 
 -- the places with that of thread t replaced
 unfoldable pub put : (ℕ → Place) → ℕ → Place → ℕ → Place
@@ -25,21 +26,21 @@ isWaiting idle = false
 isWaiting (waiting r) = true
 isWaiting (due r) = false
 
--- a thread that begins to wait at a region, and one that goes on from a body: the only changes of places
-unfoldable pub beginWait : (ℕ → Place) → ℕ → ℕ → ℕ → Place
-beginWait p t r = put p t (waiting r)
+-- a thread that begins to wait at a region, and one that goes on from a body: all that changes places, and the line
+unfoldable pub beginWait : Threads → ℕ → ℕ → Threads
+beginWait p t r = record { place = put (p .place) t (waiting r) }
 
-unfoldable pub leave : (ℕ → Place) → ℕ → Place → ℕ → Place
-leave p t q = put p t q
+unfoldable pub leave : Threads → ℕ → Place → Threads
+leave p t q = record { place = put (p .place) t q }
 
 -- what becomes of one frame
 pub data Outcome : Type 0 where
   moved : Config → Outcome
   refused : ℕ → Outcome
 
--- Whom a body notifies: by the state after it, the places then, the region that ran, and the thread asked about
+-- Whom a body notifies: by the state after it, the threads then, the region that ran, and the thread asked about
 abbrev pub Told : Type 0
-Told = ℕ → (ℕ → Place) → ℕ → ℕ → Bool
+Told = ℕ → Threads → ℕ → ℕ → Bool
 
 module _ (m : Monitor) where
   unfoldable pub onGuard : ℕ → Place → Bool
@@ -48,15 +49,15 @@ module _ (m : Monitor) where
   onGuard g (due w) = false
 
   -- thread u waits on guard g
-  unfoldable pub waitsOn : (ℕ → Place) → ℕ → ℕ → Bool
-  waitsOn p g u = onGuard g (p u)
+  unfoldable pub waitsOn : Threads → ℕ → ℕ → Bool
+  waitsOn p g u = onGuard g (p .place u)
 
   -- thread u is next in line on guard g: "A guard's first waiter"
-  unfoldable pub next : (ℕ → Place) → ℕ → ℕ → Bool
+  unfoldable pub next : Threads → ℕ → ℕ → Bool
   next p g u = waitsOn p g u && not (any threads (λ v. waitsOn p g v && ahead p v u))
 
   -- no thread notified on guard g stands ahead of t: "the lowest number among those notified on its guard"
-  unfoldable pub firstNotified : (ℕ → Place) → (ℕ → Bool) → ℕ → ℕ → Bool
+  unfoldable pub firstNotified : Threads → (ℕ → Bool) → ℕ → ℕ → Bool
   firstNotified p n g t = not (any threads (λ v. waitsOn p g v && n v && ahead p v t))
 
   -- the guard of the region at which a thread waits holds
@@ -67,7 +68,7 @@ module _ (m : Monitor) where
 
   -- "the plain machine notifies every waiter whose guard holds"
   unfoldable pub plainTold : Told
-  plainTold s p r u = own s (p u)
+  plainTold s p r u = own s (p .place u)
 
   -- where a thread may be next: "an idle thread may enter the first region of a method, and a waiting one names only its own region"
   unfoldable pub mayBeAt : Place → ℕ → Bool
@@ -76,25 +77,31 @@ module _ (m : Monitor) where
   mayBeAt (due w) r = eqb w r
 
   -- 13 where this is false: "A due thread must send the next frame"
-  unfoldable pub may : (ℕ → Place) → Frame → Bool
-  may p f = not (any threads (λ u. not (eqb u (f .thread)) && isDue (p u))) && mayBeAt (p (f .thread)) (f .region)
+  unfoldable pub may : Threads → Frame → Bool
+  may p f =
+      not (any threads (λ u. not (eqb u (f .thread)) && isDue (p .place u)))
+      && mayBeAt (p .place (f .thread)) (f .region)
 
   module _ (told : Told) where
     -- "After a body the thread is no waiter and not notified"; then others are notified
     unfoldable pub ran : Config → Frame → Config
     ran c f =
         let s′ = m .after (f .region) (c .state) in
-        let p′ = leave (c .place) (f .thread) (m .follows (f .region)) in
-        record { state = s′; place = p′; notified = λ u. without (c .notified) (f .thread) u || told s′ p′ (f .region) u }
+        let p′ = leave (c .threads) (f .thread) (m .follows (f .region)) in
+        record {
+          state = s′;
+          threads = p′;
+          notified = λ u. without (c .notified) (f .thread) u || told s′ p′ (f .region) u;
+        }
 
     -- "With 00 a thread that was not waiting waits"
     unfoldable pub waited : Config → Frame → Config
     waited c f =
-        record { state = c .state; place = beginWait (c .place) (f .thread) (f .region); notified = c .notified }
+        record { state = c .state; threads = beginWait (c .threads) (f .thread) (f .region); notified = c .notified }
 
     -- a recheck: "that notice is used up"
     unfoldable pub rechecked : Config → Frame → Config
-    rechecked c f = record { state = c .state; place = c .place; notified = without (c .notified) (f .thread) }
+    rechecked c f = record { state = c .state; threads = c .threads; notified = without (c .notified) (f .thread) }
 
     unfoldable pub allowed : Bool → Config → Outcome
     allowed true c = moved c
@@ -106,17 +113,18 @@ module _ (m : Monitor) where
     act c f false true = moved (ran c f)
     act c f true false = allowed (c .notified (f .thread)) (rechecked c f)
     act c f true true =
-        allowed (c .notified (f .thread) && firstNotified (c .place) (c .notified) (m .guardOf (f .region)) (f .thread)) (ran c f)
+        let first = firstNotified (c .threads) (c .notified) (m .guardOf (f .region)) (f .thread) in
+        allowed (c .notified (f .thread) && first) (ran c f)
 
     -- 13 first, then the flag, then the rules
     unfoldable pub judged : Config → Frame → Bool → Bool → Outcome
     judged c f false b = refused 13
     judged c f true false = refused 14
-    judged c f true true = act c f (isWaiting (c .place (f .thread))) (f .flag)
+    judged c f true true = act c f (isWaiting (c .threads .place (f .thread))) (f .flag)
 
     unfoldable pub step : Config → Frame → Outcome
     step c f =
-        judged c f (may (c .place) f) (Bool·beq (f .flag) (m .holds (m .guardOf (f .region)) (c .state)))
+        judged c f (may (c .threads) f) (Bool·beq (f .flag) (m .holds (m .guardOf (f .region)) (c .state)))
 
 -- "A refused frame ends that machine's run of the list"; frames are counted on from k
 unfoldable pub run : Monitor → Told → ℕ → Config → List Frame → Run

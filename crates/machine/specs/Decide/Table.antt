@@ -2,7 +2,7 @@
 use Prim.Native.Nat.{ℕ}
 use mathlib.Core.Bool.{Bool, true, false, not, _&&_, _||_}
 use lib.Dec.{eqb}
-use Rattle.machine.specs.Monitor.{Place, idle, waiting, due, Monitor}
+use Rattle.machine.specs.Monitor.{Place, idle, waiting, due, Threads, Monitor}
 use Rattle.logic.specs.Tests.{any}
 use Rattle.machine.specs.Decide.Step.{next, Told}
 use Rattle.machine.specs.Algorithm1.{Entry, entry, none}
@@ -40,11 +40,11 @@ acts none h f = false
 acts (entry a b) h f = (a || h) && (b || f)
 
 module _ (m : Monitor) (e : ℕ → ℕ → Entry) where
-  unfoldable pub entryTold : ℕ → (ℕ → Place) → ℕ → ℕ → Place → Bool
+  unfoldable pub entryTold : ℕ → Threads → ℕ → ℕ → Place → Bool
   entryTold s p r u idle = false
   entryTold s p r u (waiting w) = acts (e r (m .guardOf w)) (m .holds (m .guardOf w) s) (next m p (m .guardOf w) u)
   entryTold s p r u (due w) = false
 
   -- "The table's machine takes the region's entries", here those of any table
   unfoldable pub tableTold : Told
-  tableTold s p r u = entryTold s p r u (p u)
+  tableTold s p r u = entryTold s p r u (p .place u)

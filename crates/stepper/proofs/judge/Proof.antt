@@ -8,12 +8,14 @@ use lib.Dec.{ltb}
 use borrow.Author.Needs.{needs}
 use borrow.Author.Tests.{not-true, not-false, lt-ltb, le-ltb}
 use Rattle.sets.specs.Set.{member}
-use Rattle.machine.specs.Monitor.{Monitor, Config, Frame, threads, ahead}
+use Rattle.machine.specs.Monitor.{Monitor, Config, Frame}
 use Rattle.machine.specs.Decide.Step.{isWaiting, onGuard, waitsOn, mayBeAt, may, firstNotified}
-use Rattle.stepper.specs.Shown.{idleThread, frameOf}
-use Rattle.stepper.specs.Slices.{guardAt, holdsAt, slices, guardsOnly, placesOf, configOf}
+use Rattle.stepper.specs.Shown.{placesOf, threadsOf, idleThread, frameOf}
+use Rattle.stepper.specs.Slices.{guardAt, holdsAt, slices, guardsOnly, configOf}
 use Rattle.stepper.proofs.Loops.{guards-alone}
-use Rattle.stepper.proofs.Judged.{begins-alone, lowest-below, may-be, other-is-due, not-there, other-flag, not-waiting, no-notice, recheck, resumes, not-first}
+use Rattle.stepper.proofs.Front.{lowest-first}
+use Rattle.stepper.proofs.Judged.{begins-alone, may-be, other-is-due, not-there, other-flag, not-waiting}
+use Rattle.stepper.proofs.Judged.{no-notice, recheck, resumes, not-first}
 use Rattle.stepper.proofs.judge.Statement.{statement}
 use Rattle.stepper.proofs.judge.Tie as tie
 
@@ -39,15 +41,17 @@ from4 c = from3 (c .before .before)
 abbrev from5 : tie.After-has → tie.Start
 from5 c = from4 (c .before .before)
 
-at-region : (c : tie.After-may-be-at) →
-    c .may-be-at .result ≡ mayBeAt (monitor (from2 c)) (point (from2 c) .place (frame (from2 c) .thread)) (frame (from2 c) .region)
+at-region : (c : tie.After-may-be-at) → let s = from2 c in
+    c .may-be-at .result ≡ mayBeAt (monitor s) (point s .threads .place (frame s .thread)) (frame s .region)
 unfolding configOf frameOf placesOf idleThread
 at-region c =
     let a = from2 c .args in
     c .may-be-at .ensures
-    ∙ sym (begins-alone (a .holds .now) [] (a .guard-of .now) (a .begins .now) [] (a .regions) (placesOf (a .run .threads) (a .frame .thread)) (a .frame .region))
+    ∙ sym
+    (begins-alone (a .holds .now) [] (a .guard-of .now) (a .begins .now) [] (a .regions)
+    (placesOf (a .run .threads) (a .frame .thread)) (a .frame .region))
 
-is-there : (c : tie.Else2) → let s = from2 (c .before) in may (monitor s) (point s .place) (frame s) ≡ true
+is-there : (c : tie.Else2) → let s = from2 (c .before) in may (monitor s) (point s .threads) (frame s) ≡ true
 unfolding configOf frameOf
 is-there c =
     let s = from2 (c .before) in
@@ -69,7 +73,8 @@ is-same c =
     let a = from3 (c .before) .args in
     sym (ap (Bool·beq (a .frame .flag)) (truth (c .before))) ∙ not-false _ (c .if3 .left)
 
-waits : (c : tie.After-is-waiting) → let s = from4 c in c .is-waiting .result ≡ isWaiting (point s .place (frame s .thread))
+waits : (c : tie.After-is-waiting) → let s = from4 c in
+    c .is-waiting .result ≡ isWaiting (point s .threads .place (frame s .thread))
 unfolding configOf frameOf placesOf idleThread
 waits c = c .is-waiting .ensures
 
@@ -82,23 +87,23 @@ from7 c = from5 (c .before .before .before .before .before)
 
 -- the lowest notified waiter on the guard is not below t, or it is
 is-first : (c : tie.After-lowest) → let s = from7 c in
-    firstNotified (monitor s) (point s .place) (point s .notified) (monitor s .guardOf (frame s .region)) (frame s .thread)
-    ≡ not (ltb (c .lowest .result) (frame s .thread))
-unfolding configOf frameOf firstNotified waitsOn threads ahead
+    firstNotified (monitor s) (point s .threads) (point s .notified) (monitor s .guardOf (frame s .region))
+    (frame s .thread) ≡ not (ltb (c .lowest .result) (frame s .thread))
+unfolding configOf frameOf waitsOn
 is-first c =
     let a = from7 c .args in
     let places = placesOf (a .run .threads) in
     let guard = guardAt (a .guard-of .now) (a .frame .region) in
-    let test : ℕ → Bool = λ v. onGuard (monitor (from7 c)) guard (places v) && member (a .run .notified) v in
     let known = c .before .before .before .before .before .before .before .before .before .before .guard-at .ensures in
-    let on : (v : ℕ) → v < 16 → member (c .before .before .waiters .result) v ≡ onGuard (monitor (from7 c)) guard (places v) =
+    let on : (v : ℕ) → v < 16
+    → member (c .before .before .waiters .result) v ≡ onGuard (monitor (from7 c)) guard (places v) =
     λ v h. c .before .before .waiters .ensures v h
     ∙ ap (λ (g : ℕ). onGuard (guardsOnly (a .guard-of .now)) g (places v)) known
     ∙ sym (guards-alone (a .holds .now) [] (a .guard-of .now) (a .begins .now) [] (a .regions) guard (places v)) in
-    ap not
-    (lowest-below (c .before .both .result) (c .lowest .result) (a .frame .thread) test (omega (arith, from7 c .pre))
+    lowest-first (monitor (from7 c)) (threadsOf (a .run .threads)) (member (a .run .notified)) guard
+    (record { least = c .lowest .ensures .0; found = c .lowest .ensures .1 .0 })
     (λ v h. c .before .both .ensures v ∙ ap (λ (b : Bool). b && member (a .run .notified) v) (on v h))
-    (c .lowest .ensures .0) (c .lowest .ensures .1 .0))
+    (a .frame .thread) (omega (arith, from7 c .pre))
 
 cast-other-due : tie.Need-cast-other-due
 cast-other-due c = search needs

@@ -8,8 +8,7 @@ use lib.Dec.{eqb}
 use borrow.Author.Count.{below-more}
 use borrow.Author.Tests.{eq-eqb, ne-eqb}
 use Rattle.machine.specs.Decide.Step.{isDue}
-use Rattle.stepper.specs.Slices.{placesOf}
-use Rattle.stepper.specs.Shown.{idleThread}
+use Rattle.stepper.specs.Shown.{placesOf, idleThread}
 use Rattle.stepper.proofs.Loops.{any-true, any-false}
 use Rattle.stepper.proofs.other_due.Statement.{statement}
 use Rattle.stepper.proofs.other_due.Tie as tie

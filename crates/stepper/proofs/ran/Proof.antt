@@ -1,90 +1,54 @@
 -- `stepper::ran` meets its contract: the look-ups and the calls are the parts of the point after a body.
 use Prim.Native.Nat.{ℕ, _<_}
-use mathlib.Core.Path.{_≡_, refl, ap, ap₂, _∙_}
+use mathlib.Core.Path.{_≡_, refl, sym, ap, ap₂, _∙_}
 use mathlib.Core.Bool.{Bool, _||_}
-use Rattle.machine.specs.Monitor.{Place}
-use Rattle.machine.specs.Decide.Step.{ran, leave, put, without}
-use Rattle.stepper.specs.Shown.{frameOf}
-use Rattle.stepper.specs.Slices.{placesOf, afterAt, followsAt, configOf}
-use Rattle.stepper.proofs.Agree.{told-places}
+use mathlib.Core.Logic.{⊎-elim}
 use borrow.Author.Needs.{needs}
+use Rattle.sets.specs.Set.{member}
+use Rattle.machine.specs.Monitor.{Place, Threads, SameThreads, threads}
+use Rattle.machine.specs.Decide.Step.{ran, leave, put, plainTold, without}
+use Rattle.stepper.specs.Shown.{threadsOf, frameOf}
+use Rattle.stepper.specs.Slices.{afterAt, followsAt, toldAt, configOf}
+use Rattle.stepper.proofs.Agree.{told-alike}
 use Rattle.stepper.proofs.ran.Statement.{statement}
 use Rattle.stepper.proofs.ran.Tie as tie
 
-cast-put : tie.Need-cast-put
-cast-put c = search needs
-
-behind-requires : tie.Need-behind-requires
-behind-requires c κs = search needs
-
-put-requires : tie.Need-put-requires
-put-requires c κs = search needs
-
-cast-to : tie.Need-cast-to
-cast-to c = search needs
-
-mul-to : tie.Need-mul-to
-mul-to c = search needs
-
-cast-to-2 : tie.Need-cast-to-2
-cast-to-2 c = search needs
-
-add-to : tie.Need-add-to
-add-to c = search needs
-
-mul-to-2 : tie.Need-mul-to-2
-mul-to-2 c = search needs
-
-element-copy-out-to : tie.Need-element-copy-out-to
-element-copy-out-to c = search needs
-
-told-requires : tie.Need-told-requires
-told-requires c κs = search needs
-
-cast-without : tie.Need-cast-without
-cast-without c = search needs
-
-without-requires : tie.Need-without-requires
-without-requires c κs = search needs
-
-union-requires : tie.Need-union-requires
-union-requires c κs = search needs
-
 returns : tie.Need-returns
-unfolding ran leave without afterAt configOf frameOf placesOf
+unfolding ran leave without afterAt configOf frameOf threads toldAt plainTold
 returns c =
     let a = c .before .before .before .before .before .before .before .before .args in
     let d = c .before .before .before .before .before in
-    let before : ℕ → Place = placesOf (a .run .threads) in
-    let after : ℕ → Place = put before (a .frame .thread) (followsAt (a .goes-on .now) (a .frame .region)) in
+    let before : Threads = threadsOf (a .run .threads) in
+    let after : Threads = leave before (a .frame .thread) (followsAt (a .goes-on .now) (a .frame .region)) in
     let to = afterAt (a .after .now) (a .frame .region) (a .run .state) in
-    let moved : (u : ℕ) → u < 16 → placesOf (d .put .result) u ≡ after u =
-    λ u h. d .put .ensures u h ∙ ap (λ (q : Place). put before (a .frame .thread) q u) (d .before .behind .ensures) in
+    let left : SameThreads (threadsOf (d .put .result)) after =
+    record {
+      same-place = λ u h.
+          d .put .ensures u h
+          ∙ ap (λ (q : Place). put (before .place) (a .frame .thread) q u) (d .before .behind .ensures);
+    } in
+    let telling : Bool → ℕ → Bool = λ b u.
+    toldAt (a .holds .now) (a .guard-of .now) (a .entries .now) b to (threadsOf (d .put .result))
+    (a .frame .region) u in
+    let told : (u : ℕ) → u < 16 → member (c .before .before .if1 .told) u ≡ telling (a .table) u =
+    λ u h. ⊎-elim
+    (λ w. ap (λ (n : ℕ). member n u) (w .2) ∙ w .1 .ensures u h ∙ sym (ap (λ (b : Bool). telling b u) (w .0 .taken)))
+    (λ w. ap (λ (n : ℕ). member n u) (w .2) ∙ w .1 .ensures u h ∙ sym (ap (λ (b : Bool). telling b u) (w .0 .left)))
+    (c .before .before .if1 .came) in
     record {
       state = refl;
-      places = moved;
+      threads = left;
       notices = λ u h.
           c .union .ensures u
           ∙ ap₂ (λ (x y : Bool). x || y) (c .before .without .ensures u)
-          (c .before .before .told .ensures u h
-          ∙ told-places (a .holds .now) (a .guard-of .now) (a .entries .now) (a .table) to (placesOf (d .put .result)) after moved (a .frame .region) u h);
+          (told u h
+          ∙ told-alike (a .holds .now) (a .guard-of .now) (a .entries .now) (a .table) to
+          (threadsOf (d .put .result)) after left (a .frame .region) u h);
     }
 
 pub ran-spec : {M : Type 1} → statement M
 ran-spec =
     tie.close
-    (tie.spec
-    cast-put
-    behind-requires
-    put-requires
-    cast-to
-    mul-to
-    cast-to-2
-    add-to
-    mul-to-2
-    element-copy-out-to
-    told-requires
-    cast-without
-    without-requires
-    union-requires
-    returns)
+    (tie.spec (λ c. search needs) (λ c κs. search needs) (λ c κs. search needs) (λ c. search needs) (λ c. search needs)
+    (λ c. search needs) (λ c. search needs) (λ c. search needs) (λ c. search needs) (λ c κs. search needs)
+    (λ c κs. search needs) (λ c. search needs) (λ c κs. search needs) (λ c κs. search needs) returns)

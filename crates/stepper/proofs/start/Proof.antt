@@ -5,7 +5,7 @@ use lib.ListN.{getD, replicate}
 use Rattle.sets.proofs.SetLaws.{member-none}
 use Rattle.machine.specs.Monitor.{allIdle}
 use Rattle.stepper.specs.declared.Thread.{Thread}
-use Rattle.stepper.specs.Shown.{placeOf, idleThread}
+use Rattle.stepper.specs.Shown.{placeOf, placesOf, idleThread}
 use Rattle.stepper.proofs.start.Statement.{statement}
 use Rattle.stepper.proofs.start.Tie as tie
 
@@ -15,10 +15,10 @@ idle-at (suc n) zero = refl
 idle-at (suc n) (suc t) = idle-at n t
 
 returns : tie.Need-returns
-unfolding allIdle placeOf idleThread
+unfolding allIdle placesOf placeOf idleThread
 returns c = record {
   state = refl;
-  places = λ t h. ap (λ (x : Thread). placeOf (x .place)) (idle-at 16 t);
+  threads = record { same-place = λ t h. ap (λ (x : Thread). placeOf (x .place)) (idle-at 16 t) };
   notices = λ t h. member-none t;
 }
 
