@@ -365,18 +365,18 @@ pub fn lay_out(file: &[u8], kinds: &[u8], values: &[u16], places: &[u16], keep: 
     layout
 }
 
-// Each opening brace's value becomes the token of its closing one.
-pub fn link_braces(kinds: &[u8], values: &mut [u16])
-    ensures { λ _. ⌜ ((ls : List Lexeme) → Kinds ls (now (kinds .entry)) → length (now (values .entry)) ≡ length ls → length ls ≤ 1024
-        → Linked ls (now (values .entry)) (now (values .exit))) ⌝ }
+// At each opening brace the operand becomes the token of the closing one; the others stay.
+pub fn link_braces(kinds: &[u8], operands: &mut [u16])
+    ensures { λ _. ⌜ ((ls : List Lexeme) → Kinds ls (now (kinds .entry)) → length (now (operands .entry)) ≡ length ls → length ls ≤ 1024
+        → Linked ls (now (operands .entry)) (now (operands .exit))) ⌝ }
 {
-    if values.len() != kinds.len() {
+    if operands.len() != kinds.len() {
         return;
     }
     let mut i = 0;
     while i < kinds.len() {
         if kinds[i] == LBRACE {
-            values[i] = held(closing(kinds, i + 1, LBRACE, RBRACE));
+            operands[i] = held(closing(kinds, i + 1, LBRACE, RBRACE));
         }
         i += 1;
     }
