@@ -30,31 +30,6 @@ pub struct Loaded {
     pub layout: Layout,
 }
 
-fn no_bounds() -> Bounds {
-    Bounds {
-        lows: [1u16; 6],
-        highs: [0u16; 6],
-        starts: [128u16; 6],
-        weights: [1u16; 6],
-        count: 0,
-        states: 1,
-    }
-}
-
-fn no_layout() -> Layout {
-    Layout {
-        keep: 0,
-        regions: 0,
-        guards: 0,
-        guards_at: [0u16; 16],
-        bodies_at: [0u16; 16],
-        guard_of: [0u8; 16],
-        begins: [0u8; 16],
-        goes_on: [0u8; 16],
-        firsts: [0u8; 16],
-    }
-}
-
 // A place as an index; as a call it asks no proof that it fits.
 fn wide(x: u16) -> usize
     ensures { λ r. ⌜ r ≡ x ⌝ }
@@ -80,7 +55,7 @@ fn not_judged(number: u8, place: usize) -> Judged
     Judged {
         answer: answers::say(number, place, 0),
         keep: 0,
-        bounds: no_bounds(),
+        bounds: variables::no_bounds(),
     }
 }
 
@@ -101,7 +76,7 @@ fn judge(file: &[u8], kinds: &[u8], values: &[u16], places: &[u16]) -> Judged
     if let Found::At(k) = passes::find_misnamed(file, kinds, values, places) {
         return not_judged(6, wide(k));
     }
-    let declared = variables::read(kinds, values, 3);
+    let declared = variables::read(kinds, values, variables::FIRST);
     let token = declared.token;
     let bounds = declared.bounds;
     if !declared.ok {
@@ -179,8 +154,8 @@ fn not_loaded(answer: Answer) -> Loaded
 {
     Loaded {
         answer: answer,
-        bounds: no_bounds(),
-        layout: no_layout(),
+        bounds: variables::no_bounds(),
+        layout: layout::empty(0),
     }
 }
 

@@ -305,7 +305,7 @@ pub(crate) fn show(
     operands: &mut [u16],
     answer: Answer,
 ) {
-    let declared = variables::read(kinds, values, 3);
+    let declared = variables::read(kinds, values, variables::FIRST);
     let bounds = declared.bounds;
     let layout = layout::lay_out(file, kinds, values, places, declared.token);
     let sheet = names::read(kinds, values, places, bounds, layout);

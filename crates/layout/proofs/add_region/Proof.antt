@@ -7,6 +7,7 @@ use mathlib.Core.Logic.{inl, inr, ⊎-elim}
 use mathlib.Core.List.{map}
 use lib.ListN.{length, drop}
 use Rattle.syntax.specs.Token.{lexemes}
+use Rattle.layout.specs.Places.{toGuard, toBody, past}
 use Rattle.layout.specs.Promises.{flagAt}
 use Rattle.layout.specs.Closing.{closeFrom}
 use Rattle.syntax.specs.Held.Kind.{kindOf}
@@ -19,27 +20,27 @@ use Rattle.layout.proofs.add_region.Statement.{statement}
 use Rattle.layout.proofs.add_region.Tie as tie
 
 -- the guard's closing bracket
-bracket : (q : tie.After-closing) → (q .closing .result ≤ length (q .before .before .before .before .before .args .kinds .now) + 1) × (q .before .before .before .before .before .args .at + 2 ≤ q .closing .result)
+bracket : (q : tie.After-closing) → (q .closing .result ≤ length (q .before .before .before .before .before .args .kinds .now) + 1) × (q .before .before .before .before .before .args .at + toGuard ≤ q .closing .result)
 bracket q =
     let a = q .before .before .before .before .before .args in
     let ks = a .kinds .now in
     let e = q .closing .ensures in
-    let w = close-within 2 3 (a .at + 2) ks (length ks + 1) (omega (arith, q .before .before .before .before .before .pre .1)) (omega arith) in
+    let w = close-within 2 3 (a .at + toGuard) ks (length ks + 1) (omega (arith, q .before .before .before .before .before .pre .1)) (omega arith) in
     (omega (arith, e, w), omega (arith, e))
 
 -- the body's closing brace
 brace : (q : tie.After-closing2)
     → (q .closing2 .result ≤ length (q .before .before .before .before .before .before .args .kinds .now) + 3) × (q .before .before .before .before .before .before .args .at + 4 ≤ q .closing2 .result)
-    × (q .before .closing .result + 2 ≡ bodyOf (q .before .before .before .before .before .before .args .kinds .now) (q .before .before .before .before .before .before .args .at))
-    × (q .closing2 .result + 1 ≡ nextOf (q .before .before .before .before .before .before .args .kinds .now) (q .before .before .before .before .before .before .args .at))
+    × (q .before .closing .result + toBody ≡ bodyOf (q .before .before .before .before .before .before .args .kinds .now) (q .before .before .before .before .before .before .args .at))
+    × (q .closing2 .result + past ≡ nextOf (q .before .before .before .before .before .before .args .kinds .now) (q .before .before .before .before .before .before .args .at))
 brace q =
     let a = q .before .before .before .before .before .before .args in
     let ks = a .kinds .now in
     let b = bracket (q .before) in
     let e = q .closing2 .ensures in
-    let body : q .before .closing .result + 2 ≡ bodyOf ks (a .at) = ap (λ n. n + 2) (q .before .closing .ensures) in
-    let w = close-within 0 1 (q .before .closing .result + 2) ks (length ks + 3) (omega (arith, b .0)) (omega arith) in
-    (omega (arith, e, w), omega (arith, e, b .1), body, ap (λ n. n + 1) (e ∙ ap (λ n. n + closeFrom 0 1 0 (drop n ks)) body))
+    let body : q .before .closing .result + toBody ≡ bodyOf ks (a .at) = ap (λ n. n + toBody) (q .before .closing .ensures) in
+    let w = close-within 0 1 (q .before .closing .result + toBody) ks (length ks + 3) (omega (arith, b .0)) (omega arith) in
+    (omega (arith, e, w), omega (arith, e, b .1), body, ap (λ n. n + past) (e ∙ ap (λ n. n + closeFrom 0 1 0 (drop n ks)) body))
 
 -- a guard's number is new or known
 numbered-as : (q : tie.Joined1) → Numbered (q .before .before .before .before .before .before .before .before .before .args .layout) (q .before .before .guard-number .result) (q .if1 .numbered)
@@ -104,11 +105,11 @@ returns c =
       λ ts done q us w few h at-q.
           let there = spelled (a .file .now) ts ks (a .values .now) (a .places .now) w (a .at) q us at-q in
           let long = lexemes-length ts in
-          let guard : c .before .before .before .held .result ≡ a .at + 2 =
+          let guard : c .before .before .before .held .result ≡ a .at + toGuard =
           c .before .before .before .held .ensures ∙ omega (arith, there .guard-low) in
           let body : c .before .before .held2 .result ≡ bodyOf ks (a .at) =
           c .before .before .held2 .ensures ∙ ap (λ n. n % 65536) (b .2) ∙ omega (arith, there .body-low) in
-          let behind : drop (c .before .before .before .before .before .before .before .closing2 .result + 1) (lexemes ts) ≡ us = rw (b .3) (there .behind) in
+          let behind : drop (c .before .before .before .before .before .before .before .closing2 .result + past) (lexemes ts) ≡ us = rw (b .3) (there .behind) in
           let flags = c .before .flag .ensures ∙ flag-behind (a .file .now) ts ks (a .values .now) (a .places .now) w _ us behind in
           record {
             holds = rw (e, guard, body, flags)

@@ -7,6 +7,7 @@ use lib.ListN.{length, getD}
 use Rattle.syntax.specs.Token.{Token, lexemes}
 use Rattle.syntax.specs.Tree.{Monitor, all, spell}
 use Rattle.meaning.specs.Model.{regions}
+use Rattle.layout.specs.Places.{toKept, past}
 use Rattle.layout.specs.Laid.{IsKeep}
 use Rattle.syntax.specs.Held.Kind.{Words}
 use Rattle.layout.specs.Promises.{Room}
@@ -20,7 +21,7 @@ abbrev Inv-loop : tie.InvT-loop
 Inv-loop file kinds values places keep layout₀ i₀ layout i =
     ((m : Monitor) (ts : List Token) → Words file ts kinds values places → spell m ≡ lexemes ts → length (regions m) ≤ 16
     → length ts ≤ 1024 → IsKeep m ts keep → AheadAll (lexemes ts) (all (m .methods)) layout i)
-    × Room layout × (layout .keep ≡ keep + 1)
+    × Room layout × (layout .keep ≡ keep + toKept)
 
 abbrev μ-loop : tie.MeasureT-loop
 μ-loop file kinds values places keep layout₀ i₀ layout i = length kinds - i
@@ -65,14 +66,14 @@ add-i : tie.Need-add-i Inv-loop μ-loop
 add-i c =
     let a = c .before .before .before .before .before .before .before .before .before .args in
     let ks = a .kinds .now in
-    let w = close-within 255 4 (a .keep + 1) ks (length ks) (omega arith) (omega arith) in
+    let w = close-within 255 4 (a .keep + toKept) ks (length ks) (omega arith) (omega arith) in
     omega (arith, c .closing .ensures, w)
 
 loop-holds : tie.Need-loop-holds Inv-loop μ-loop
 loop-holds c =
     let a = c .before .before .before .before .before .before .before .before .before .args in
     let l = c .before .empty4 in
-    let at = ap (λ n. n + 1) (c .closing .ensures) in (
+    let at = ap (λ n. n + past) (c .closing .ensures) in (
       λ m ts w e few small k.
           all-start (lexemes ts) (all (m .methods)) (l .result) _ (holds-none (lexemes ts) (l .result) (l .ensures .1) (l .ensures .2))
           (rw at (methods-at (a .file .now) m ts (a .kinds .now) (a .values .now) (a .places .now) w e (a .keep) k)),
