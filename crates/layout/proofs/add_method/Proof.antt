@@ -28,9 +28,6 @@ loop-holds c =
       record { room = s .pre .2; keep-kept = refl; forth = omega arith; within = s .pre .1 },
     )
 
-kind-at-requires : tie.Need-kind-at-requires Inv-loop μ-loop
-kind-at-requires c κs = tt
-
 -- in a turn `waituntil` stands there
 waits : (q : tie.Then1 Inv-loop μ-loop) → getD (q .before .before .before .before .before .before .before .args .kinds .now) (q .before .before .loop .i) 255 ≡ 24
 waits q = sym (q .before .kind-at .ensures) ∙ q .if1 .taken
@@ -91,7 +88,7 @@ add-method-spec =
     Inv-loop
     μ-loop
     loop-holds
-    kind-at-requires
+    (λ c κs. tt)
     returns
     add-region-requires
     loop-less

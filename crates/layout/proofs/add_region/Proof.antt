@@ -46,29 +46,11 @@ brace q =
 numbered-as : (q : tie.Joined1) → Numbered (q .before .before .before .before .before .before .before .before .before .args .layout) (q .before .before .guard-number .result) (q .if1 .numbered)
 numbered-as q = ⊎-elim (λ w. inl (w .0 .taken, w .2 ∙ w .1 .ensures)) (λ w. inr (w .0 .left, w .1)) (q .if1 .came)
 
-add-guard-at : tie.Need-add-guard-at
-add-guard-at c = search needs
-
-closing-requires : tie.Need-closing-requires
-closing-requires c κs = search needs
-
 add-body-at : tie.Need-add-body-at
 add-body-at c = let b = bracket c in omega (arith, b .0)
 
-closing-requires-2 : tie.Need-closing-requires-2
-closing-requires-2 c κs = search needs
-
 add-next : tie.Need-add-next
 add-next c = let b = brace c in omega (arith, b .0)
-
-guard-number-requires : tie.Need-guard-number-requires
-guard-number-requires c κs = search needs
-
-with-guard-requires : tie.Need-with-guard-requires
-with-guard-requires c κs = search needs
-
-held-requires : tie.Need-held-requires
-held-requires c κs = search needs
 
 held-requires-2 : tie.Need-held-requires-2
 held-requires-2 c κs = search needs
@@ -125,14 +107,14 @@ pub add-region-spec : {M : Type 1} → statement M
 add-region-spec =
     tie.close
     (tie.spec
-    add-guard-at
-    closing-requires
+    (λ c. search needs)
+    (λ c κs. search needs)
     add-body-at
-    closing-requires-2
+    (λ c κs. search needs)
     add-next
-    guard-number-requires
-    with-guard-requires
-    held-requires
+    (λ c κs. search needs)
+    (λ c κs. search needs)
+    (λ c κs. search needs)
     held-requires-2
     cast-with-region
     flag-requires

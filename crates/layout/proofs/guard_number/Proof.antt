@@ -28,18 +28,6 @@ element-copy-out-small : tie.Need-element-copy-out-small Inv-loop μ-loop
 element-copy-out-small c =
     let room = c .before .before .before .before .before .before .pre .1 in omega (arith, room .few-guards, room .few-regions)
 
-small-requires : tie.Need-small-requires Inv-loop μ-loop
-small-requires c κs = tt
-
-mul-wide : tie.Need-mul-wide Inv-loop μ-loop
-mul-wide c = omega arith
-
-element-copy-out-wide : tie.Need-element-copy-out-wide Inv-loop μ-loop
-element-copy-out-wide c = omega arith
-
-wide-requires : tie.Need-wide-requires Inv-loop μ-loop
-wide-requires c κs = tt
-
 same-guard-requires : tie.Need-same-guard-requires Inv-loop μ-loop
 same-guard-requires c κs = c .before .before .before .before .before .before .before .before .before .before .pre .0
 
@@ -74,12 +62,6 @@ returns c = (
       number-here (lexemes ts) done (q .before .before .before .before .before .args .t5) h d (q .loop .g) (e .0) (sym (e .1) ∙ c .if1 .taken) ∙ q .loop .inv .0 ts done d w h at-d,
 )
 
-add-g : tie.Need-add-g Inv-loop μ-loop
-add-g c = omega arith
-
-loop-less : tie.Need-loop-less Inv-loop μ-loop
-loop-less c = omega arith
-
 loop-again : tie.Need-loop-again Inv-loop μ-loop
 loop-again c = (
   λ ts done d w h at-d.
@@ -105,13 +87,13 @@ guard-number-spec =
     μ-loop
     loop-holds
     element-copy-out-small
-    small-requires
-    mul-wide
-    element-copy-out-wide
-    wide-requires
+    (λ c κs. tt)
+    (λ c. omega arith)
+    (λ c. omega arith)
+    (λ c κs. tt)
     same-guard-requires
     returns
-    add-g
-    loop-less
+    (λ c. omega arith)
+    (λ c. omega arith)
     loop-again
     returns-2)

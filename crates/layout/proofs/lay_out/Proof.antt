@@ -26,41 +26,20 @@ Inv-loop file kinds values places keep layout₀ i₀ layout i =
 abbrev μ-loop : tie.MeasureT-loop
 μ-loop file kinds values places keep layout₀ i₀ layout i = length kinds - i
 
-empty-requires : tie.Need-empty-requires Inv-loop μ-loop
-empty-requires c κs = tt
-
 returns : tie.Need-returns Inv-loop μ-loop
 returns c =
     let a = c .before .before .before .before .before .before .args in
     λ m ts w e few small k. absurd (omega (arith, c .before .if1 .taken, keep-below (a .file .now) m ts (a .kinds .now) (a .values .now) (a .places .now) w e (a .keep) k))
-
-empty-requires-2 : tie.Need-empty-requires-2 Inv-loop μ-loop
-empty-requires-2 c κs = tt
 
 returns-2 : tie.Need-returns-2 Inv-loop μ-loop
 returns-2 c =
     let a = c .before .before .before .before .before .before .before .args in
     λ m ts w e few small k. absurd (c .before .if2 .taken (words-sized (a .file .now) ts (a .kinds .now) (a .values .now) (a .places .now) w .0))
 
-empty-requires-3 : tie.Need-empty-requires-3 Inv-loop μ-loop
-empty-requires-3 c κs = tt
-
 returns-3 : tie.Need-returns-3 Inv-loop μ-loop
 returns-3 c =
     let a = c .before .before .before .before .before .before .before .before .args in
     λ m ts w e few small k. absurd (c .before .if3 .taken (words-sized (a .file .now) ts (a .kinds .now) (a .values .now) (a .places .now) w .1))
-
-add-empty : tie.Need-add-empty Inv-loop μ-loop
-add-empty c = omega arith
-
-empty-requires-4 : tie.Need-empty-requires-4 Inv-loop μ-loop
-empty-requires-4 c κs = tt
-
-add-closing : tie.Need-add-closing Inv-loop μ-loop
-add-closing c = omega arith
-
-closing-requires : tie.Need-closing-requires Inv-loop μ-loop
-closing-requires c κs = tt
 
 add-i : tie.Need-add-i Inv-loop μ-loop
 add-i c =
@@ -80,9 +59,6 @@ loop-holds c =
       l .ensures .3,
       l .ensures .0,
     )
-
-kind-at-requires : tie.Need-kind-at-requires Inv-loop μ-loop
-kind-at-requires c κs = tt
 
 -- in a turn `method` stands there
 begins : (q : tie.Then4 Inv-loop μ-loop) → getD (q .before .before .before .before .before .before .before .before .before .before .before .before .args .kinds .now) (q .before .before .loop .i) 255 ≡ 23
@@ -135,19 +111,19 @@ lay-out-spec =
     (tie.spec
     Inv-loop
     μ-loop
-    empty-requires
+    (λ c κs. tt)
     returns
-    empty-requires-2
+    (λ c κs. tt)
     returns-2
-    empty-requires-3
+    (λ c κs. tt)
     returns-3
-    add-empty
-    empty-requires-4
-    add-closing
-    closing-requires
+    (λ c. omega arith)
+    (λ c κs. tt)
+    (λ c. omega arith)
+    (λ c κs. tt)
     add-i
     loop-holds
-    kind-at-requires
+    (λ c κs. tt)
     add-add-method
     add-method-requires
     add-i-2

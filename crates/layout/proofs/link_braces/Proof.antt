@@ -26,12 +26,6 @@ returns c = λ ls are long few. absurd (c .if1 .taken (long ∙ sym (length-map 
 loop-holds : tie.Need-loop-holds Inv-loop μ-loop
 loop-holds c = (links-none (c .before .before .before .args .kinds .now) (c .before .before .before .args .operands .now), omega arith)
 
-shared-slice-read-if2 : tie.Need-shared-slice-read-if2 Inv-loop μ-loop
-shared-slice-read-if2 c = omega arith
-
-add-closing : tie.Need-add-closing Inv-loop μ-loop
-add-closing c = omega arith
-
 closing-requires : tie.Need-closing-requires Inv-loop μ-loop
 closing-requires c κs = tt
 
@@ -43,9 +37,6 @@ mul-operands c = omega arith
 
 slice-write-operands : tie.Need-slice-write-operands Inv-loop μ-loop
 slice-write-operands c = omega (arith, c .before .before .before .before .before .loop .inv .0 .as-long)
-
-add-i : tie.Need-add-i Inv-loop μ-loop
-add-i c = omega arith
 
 loop-less : tie.Need-loop-less Inv-loop μ-loop
 loop-less c = omega arith
@@ -78,13 +69,13 @@ link-braces-spec =
     μ-loop
     returns
     loop-holds
-    shared-slice-read-if2
-    add-closing
+    (λ c. omega arith)
+    (λ c. omega arith)
     closing-requires
     held-requires
     mul-operands
     slice-write-operands
-    add-i
+    (λ c. omega arith)
     loop-less
     loop-again
     same-length

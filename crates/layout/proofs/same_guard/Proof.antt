@@ -28,15 +28,6 @@ returns-2 c =
     let a = c .before .before .before .before .before .before .args in
     λ ts g h w at-a at-b. absurd (omega (arith, c .if2 .taken, guard-below (a .file .now) ts (a .kinds .now) (a .values .now) (a .places .now) w (a .b) h at-b))
 
-closing-requires : tie.Need-closing-requires
-closing-requires c κs = search needs
-
-sub-m : tie.Need-sub-m
-sub-m c = search needs
-
-closing-requires-2 : tie.Need-closing-requires-2
-closing-requires-2 c κs = search needs
-
 sub-n : tie.Need-sub-n
 sub-n c = search needs
 
@@ -67,9 +58,9 @@ same-guard-spec =
     (tie.spec
     returns
     returns-2
-    closing-requires
-    sub-m
-    closing-requires-2
+    (λ c κs. search needs)
+    (λ c. search needs)
+    (λ c κs. search needs)
     sub-n
     returns-3
     same-tokens-requires

@@ -14,12 +14,6 @@ use borrow.Author.Needs.{needs}
 use Rattle.layout.proofs.same_token.Statement.{statement}
 use Rattle.layout.proofs.same_token.Tie as tie
 
-shared-slice-read-if1 : tie.Need-shared-slice-read-if1
-shared-slice-read-if1 c = search needs
-
-shared-slice-read-if1-2 : tie.Need-shared-slice-read-if1-2
-shared-slice-read-if1-2 c = search needs
-
 returns : tie.Need-returns
 returns c =
     let s = c .before .before .before .before .before .before .before in
@@ -53,9 +47,6 @@ returns-3 c =
     let a = s .args in
     λ ts w. no-names (a .file .now) ts (a .kinds .now) (a .values .now) (a .places .now) w (a .a) (a .b) (s .pre .1) (s .pre .2)
     (c .before .before .before .before .before .if1 .left) (c .before .before .if2 .left) (c .if3 .taken)
-
-mul-wide : tie.Need-mul-wide
-mul-wide c = search needs
 
 shared-slice-read-wide : tie.Need-shared-slice-read-wide
 shared-slice-read-wide c = search needs
@@ -125,8 +116,8 @@ pub same-token-spec : {M : Type 1} → statement M
 same-token-spec =
     tie.close
     (tie.spec
-    shared-slice-read-if1
-    shared-slice-read-if1-2
+    (λ c. search needs)
+    (λ c. search needs)
     returns
     mul-if2
     shared-slice-read-if2
@@ -135,7 +126,7 @@ same-token-spec =
     returns-2
     shared-slice-read-if3
     returns-3
-    mul-wide
+    (λ c. search needs)
     shared-slice-read-wide
     wide-requires
     mul-wide-2

@@ -70,15 +70,6 @@ ranged c ts w b e =
     (c .read2 .ensures (all (m .vars)) (lexemes ts) (key k-keep ∷ behindKeep m) (numbers w) (vars-stand ts m spelt) (vars-end ts m spelt)
     (few-parts ts m spelt (few k ts w) .vars) (few-lexemes ts (room (l .before .before .before) ts w)))
 
-find-crowded-requires : tie.Need-find-crowded-requires
-find-crowded-requires c κs = search needs
-
-enum-known-k : tie.Need-enum-known-k
-enum-known-k c = search needs
-
-wide-requires : tie.Need-wide-requires
-wide-requires c κs = search needs
-
 not-judged-requires : tie.Need-not-judged-requires
 not-judged-requires c κs = search needs
 
@@ -201,9 +192,9 @@ pub judge-spec : {M : Type 1} → statement M
 judge-spec =
     tie.close
     (tie.spec
-    find-crowded-requires
-    enum-known-k
-    wide-requires
+    (λ c κs. search needs)
+    (λ c. search needs)
+    (λ c κs. search needs)
     not-judged-requires
     returns
     enum-told
