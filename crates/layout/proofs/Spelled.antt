@@ -56,14 +56,14 @@ spelled-kinds ls at q us h =
       body-low = let e = stands-below (bodyOf kinds at) ls (spellBlock (q .body)) us (mark rbrace) body in omega arith;
     }
 
-module _ (file : List ℕ) (ts : List Token) (kinds values places : List ℕ) (words : Words file ts kinds values places) where
+module _ {file : List ℕ} {ts : List Token} {kinds values places : List ℕ} (words : Words file ts kinds values places) where
   pub spelled : (at : ℕ) (q : Region) (us : List Lexeme) → drop at (lexemes ts) ≡ spellRegion q ++ us → Spelled (lexemes ts) kinds at q us
-  spelled at q us h = rw (kinds-are file ts kinds values places words) (spelled-kinds (lexemes ts) at q us h)
+  spelled at q us h = rw (kinds-are words) (spelled-kinds (lexemes ts) at q us h)
 
   -- the kind at a token is that of what stands there
   pub kind-behind : (at : ℕ) (us : List Lexeme) → drop at (lexemes ts) ≡ us → getD kinds at 255 ≡ getD (map kindOf us) 0 255
   kind-behind at us h =
-      rw (kinds-are file ts kinds values places words)
+      rw (kinds-are words)
       (ap (λ (k : ℕ). getD (map kindOf (lexemes ts)) k 255) (sym (add-zero at)) ∙ sym (getD-drop at (map kindOf (lexemes ts)) 0 255)
       ∙ ap (λ (ks : List ℕ). getD ks 0 255) (kinds-from at (lexemes ts) ∙ ap (map kindOf) h))
 

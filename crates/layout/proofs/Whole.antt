@@ -165,13 +165,13 @@ holds-none ls l r g =
     }
 
 -- where the code begins: at the kept condition, and behind its semicolon at the methods
-module _ (file : List ℕ) (m : Monitor) (ts : List Token) (kinds values places : List ℕ) (words : Words file ts kinds values places)
+module _ (m : Monitor) {file : List ℕ} {ts : List Token} {kinds values places : List ℕ} (words : Words file ts kinds values places)
     (spells : spell m ≡ lexemes ts) (k : ℕ) (keep : IsKeep m ts k) where
   pub keep-below : k < length kinds
   unfolding IsKeep
   keep-below =
       let low = stands-below k (lexemes ts) [] _ (key k-keep) (keep .1) in
-      let long = kinds-length file ts kinds values places words in
+      let long = kinds-length words in
       omega arith
 
   pub keep-at : (us : List Lexeme) × (drop (k + toKept) (lexemes ts) ≡ spellCond (m .keep) ++ (mark semicolon ∷ us))
@@ -183,13 +183,13 @@ module _ (file : List ℕ) (m : Monitor) (ts : List Token) (kinds values places 
   methods-at =
       let semi = close-stands 255 4 (k + toKept) (lexemes ts) (spellCond (m .keep)) (keep .0) (mark semicolon) (semicolons-balanced (m .keep))
       (λ e. omega arith) refl (later toKept k (lexemes ts) _ (keep .1)) in
-      rw (kinds-are file ts kinds values places words)
+      rw (kinds-are words)
       (later past (k + toKept + closeFrom 255 4 0 (drop (k + toKept) (map kindOf (lexemes ts)))) (lexemes ts) _ semi
       ∙ keep-once m (lexemes ts) (keep .0) k spells (keep .1))
 
-pub words-sized : (file : List ℕ) (ts : List Token) (kinds values places : List ℕ) → Words file ts kinds values places
+pub words-sized : {file : List ℕ} {ts : List Token} {kinds values places : List ℕ} → Words file ts kinds values places
     → (length values ≡ length kinds) × (length places ≡ length kinds)
-words-sized file ts kinds values places w =
+words-sized {ts = ts} w =
     let k = ap length (w .by-kind) ∙ length-map ts (λ (t : Token). kindOf (t .lexeme)) in
     let v = ap length (w .by-value) ∙ length-map ts (λ (t : Token). valueOf (t .lexeme)) in
     let p = ap length (w .by-place) ∙ length-map ts (λ (t : Token). t .at) in

@@ -85,14 +85,14 @@ returns c =
       omega (arith, b .1),
       rw e (ap (λ n. n + 1) (same .0)),
       λ ts done q us w few h at-q.
-          let there = spelled (a .file .now) ts ks (a .values .now) (a .places .now) w (a .at) q us at-q in
+          let there = spelled w (a .at) q us at-q in
           let long = lexemes-length ts in
           let guard : c .before .before .before .held .result ≡ a .at + toGuard =
           c .before .before .before .held .ensures ∙ omega (arith, there .guard-low) in
           let body : c .before .before .held2 .result ≡ bodyOf ks (a .at) =
           c .before .before .held2 .ensures ∙ ap (λ n. n % 65536) (b .2) ∙ omega (arith, there .body-low) in
           let behind : drop (c .before .before .before .before .before .before .before .closing2 .result + past) (lexemes ts) ≡ us = rw (b .3) (there .behind) in
-          let flags = c .before .flag .ensures ∙ flag-behind (a .file .now) ts ks (a .values .now) (a .places .now) w _ us behind in
+          let flags = c .before .flag .ensures ∙ flag-behind w _ us behind in
           record {
             holds = rw (e, guard, body, flags)
                 (numbered-holds (a .layout) _ _ (numbered-as j) (lexemes ts) done

@@ -29,17 +29,17 @@ abbrev μ-loop : tie.MeasureT-loop
 returns : tie.Need-returns Inv-loop μ-loop
 returns c =
     let a = c .before .before .before .before .before .before .args in
-    λ m ts w e few small k. absurd (omega (arith, c .before .if1 .taken, keep-below (a .file .now) m ts (a .kinds .now) (a .values .now) (a .places .now) w e (a .keep) k))
+    λ m ts w e few small k. absurd (omega (arith, c .before .if1 .taken, keep-below m w e (a .keep) k))
 
 returns-2 : tie.Need-returns-2 Inv-loop μ-loop
 returns-2 c =
     let a = c .before .before .before .before .before .before .before .args in
-    λ m ts w e few small k. absurd (c .before .if2 .taken (words-sized (a .file .now) ts (a .kinds .now) (a .values .now) (a .places .now) w .0))
+    λ m ts w e few small k. absurd (c .before .if2 .taken (words-sized w .0))
 
 returns-3 : tie.Need-returns-3 Inv-loop μ-loop
 returns-3 c =
     let a = c .before .before .before .before .before .before .before .before .args in
-    λ m ts w e few small k. absurd (c .before .if3 .taken (words-sized (a .file .now) ts (a .kinds .now) (a .values .now) (a .places .now) w .1))
+    λ m ts w e few small k. absurd (c .before .if3 .taken (words-sized w .1))
 
 add-i : tie.Need-add-i Inv-loop μ-loop
 add-i c =
@@ -55,7 +55,7 @@ loop-holds c =
     let at = ap (λ n. n + past) (c .closing .ensures) in (
       λ m ts w e few small k.
           all-start (lexemes ts) (all (m .methods)) (l .result) _ (holds-none (lexemes ts) (l .result) (l .ensures .1) (l .ensures .2))
-          (rw at (methods-at (a .file .now) m ts (a .kinds .now) (a .values .now) (a .places .now) w e (a .keep) k)),
+          (rw at (methods-at m w e (a .keep) k)),
       l .ensures .3,
       l .ensures .0,
     )
@@ -89,7 +89,7 @@ loop-again c =
     let a = q .before .before .before .before .before .before .before .before .before .before .args in
     let r = c .before .before .add-method in (
       λ m ts w e few small k.
-          all-turn (a .file .now) ts (a .kinds .now) (a .values .now) (a .places .now) w small (all (m .methods)) (few-flagged m few) (q .loop .layout) (q .loop .i) (r .result)
+          all-turn w small (all (m .methods)) (few-flagged m few) (q .loop .layout) (q .loop .i) (r .result)
           (q .loop .inv .0 m ts w e few small k) (begins (c .before .before .before)) (r .ensures .1),
       r .ensures .0 .room,
       r .ensures .0 .keep-kept ∙ q .loop .inv .2,
@@ -100,9 +100,9 @@ returns-4 c =
     let q = c .before .before in
     let a = q .before .before .before .before .before .before .before .before .before .before .args in
     λ m ts w e few small k.
-    let held = all-over (a .file .now) ts (a .kinds .now) (a .values .now) (a .places .now) w small (all (m .methods)) (few-flagged m few) (q .loop .layout) (q .loop .i)
+    let held = all-over w small (all (m .methods)) (few-flagged m few) (q .loop .layout) (q .loop .i)
     (q .loop .inv .0 m ts w e few small k) (λ h. c .if4 .left (c .before .kind-at .ensures ∙ h)) in
-    let keep = keep-at (a .file .now) m ts (a .kinds .now) (a .values .now) (a .places .now) w e (a .keep) k in
+    let keep = keep-at m w e (a .keep) k in
     laid m (lexemes ts) (q .loop .layout) held (keep .0) (rw (q .loop .inv .2) (keep .1))
 
 pub lay-out-spec : {M : Type 1} → statement M

@@ -18,7 +18,7 @@ returns : tie.Need-returns
 returns c =
     let s = c .before .before .before .before .before .before .before in
     let a = s .args in
-    λ ts w. kinds-differ (a .file .now) ts (a .kinds .now) (a .values .now) (a .places .now) w (a .a) (a .b) (s .pre .1) (s .pre .2) (c .if1 .taken)
+    λ ts w. kinds-differ w (a .a) (a .b) (s .pre .1) (s .pre .2) (c .if1 .taken)
 
 mul-if2 : tie.Need-mul-if2
 mul-if2 c = search needs
@@ -36,7 +36,7 @@ returns-2 : tie.Need-returns-2
 returns-2 c =
     let s = c .before .before .before .before .before .before .before .before .before .before in
     let a = s .args in
-    λ ts w. values-differ (a .file .now) ts (a .kinds .now) (a .values .now) (a .places .now) w (a .a) (a .b) (s .pre .1) (s .pre .2) (c .if2 .taken)
+    λ ts w. values-differ w (a .a) (a .b) (s .pre .1) (s .pre .2) (c .if2 .taken)
 
 shared-slice-read-if3 : tie.Need-shared-slice-read-if3
 shared-slice-read-if3 c = search needs
@@ -45,7 +45,7 @@ returns-3 : tie.Need-returns-3
 returns-3 c =
     let s = c .before .before .before .before .before .before .before .before .before .before .before .before in
     let a = s .args in
-    λ ts w. no-names (a .file .now) ts (a .kinds .now) (a .values .now) (a .places .now) w (a .a) (a .b) (s .pre .1) (s .pre .2)
+    λ ts w. no-names w (a .a) (a .b) (s .pre .1) (s .pre .2)
     (c .before .before .before .before .before .if1 .left) (c .before .before .if2 .left) (c .if3 .taken)
 
 shared-slice-read-wide : tie.Need-shared-slice-read-wide
@@ -89,9 +89,9 @@ names q ts w =
     let value = q .before .before .before .before .before .before .before .before .if2 .left in
     let thirty = q .before .before .before .before .before .before .if3 .left in
     rw (q .before .before .before .before .wide .ensures .0, q .before .before .wide2 .ensures .0, q .wide3 .ensures .0) (
-      first-fits (a .file .now) ts (a .kinds .now) (a .values .now) (a .places .now) w (a .a) (a .b) (s .pre .1) (s .pre .2) kind value thirty,
-      second-fits (a .file .now) ts (a .kinds .now) (a .values .now) (a .places .now) w (a .a) (a .b) (s .pre .1) (s .pre .2) kind value thirty,
-      names-agree (a .file .now) ts (a .kinds .now) (a .values .now) (a .places .now) w (a .a) (a .b) (s .pre .1) (s .pre .2) kind value thirty,
+      first-fits w (a .a) (a .b) (s .pre .1) (s .pre .2) kind value thirty,
+      second-fits w (a .a) (a .b) (s .pre .1) (s .pre .2) kind value thirty,
+      names-agree w (a .a) (a .b) (s .pre .1) (s .pre .2) kind value thirty,
     )
 
 add-if4 : tie.Need-add-if4

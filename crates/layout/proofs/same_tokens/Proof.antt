@@ -33,7 +33,7 @@ returns c =
     let q = c .before .before .before in
     let s = q .before .before .before .before .before in
     let a = s .args in
-    λ ts w. let l = kinds-length (a .file .now) ts (a .kinds .now) (a .values .now) (a .places .now) w in
+    λ ts w. let l = kinds-length w in
     sym (tokens-differ (lexemes ts) (a .a) (a .b) (a .n) (q .loop .i) (omega arith) (omega arith) (omega arith)
     (sym (c .before .same-token .ensures ts w) ∙ not-true _ (c .if1 .taken)))
     ∙ q .loop .inv .0 ts w
@@ -46,7 +46,7 @@ loop-again c =
     let q = c .before .before .before in
     let s = q .before .before .before .before .before in
     let a = s .args in (
-      λ ts w. let l = kinds-length (a .file .now) ts (a .kinds .now) (a .values .now) (a .places .now) w in
+      λ ts w. let l = kinds-length w in
           tokens-turn (lexemes ts) (a .a) (a .b) (a .n) (q .loop .i) (omega arith) (omega arith) (omega arith)
           (sym (c .before .same-token .ensures ts w) ∙ not-false _ (c .if1 .left))
           ∙ q .loop .inv .0 ts w,
