@@ -20,3 +20,7 @@ toBody = 2
 -- what stands behind a token that closes
 abbrev pub past : ℕ
 past = 1
+
+-- how far behind the end the search for a part may lead, where the tokens are no file of the grammar
+abbrev pub overrun : ℕ
+overrun = 4

@@ -11,6 +11,7 @@ ghost use Rattle.meaning.specs.Model.{regions};
 ghost use Rattle.layout.specs.Laid.{Kinds, IsKeep, Laid, Linked};
 ghost use Rattle.syntax.specs.Held.Kind.{Words};
 ghost use Rattle.layout.specs.Closing.{closeFrom};
+ghost use Rattle.layout.specs.Places.{overrun};
 ghost use Rattle.layout.specs.Promises.{Sized, SameToken, SameTokens, SameGuard, flagAt, withGuard, withRegion, Numbers, Room, AddsRegion, AddsMethod, Grown};
 
 // At most sixteen regions and guards.
@@ -327,7 +328,7 @@ fn add_method(
     layout: Layout,
     at: usize,
 ) -> Spot
-    requires { ⌜ Sized (now kinds) (now values) (now places) × (at ≤ length (now kinds) + 4) × Room layout ⌝ }
+    requires { ⌜ Sized (now kinds) (now values) (now places) × (at ≤ length (now kinds) + overrun) × Room layout ⌝ }
     ensures { λ r. ⌜ Grown (now (kinds .entry)) layout at r
         × AddsMethod (now (file .entry)) (now (kinds .entry)) (now (values .entry)) (now (places .entry)) layout at r ⌝ }
 {

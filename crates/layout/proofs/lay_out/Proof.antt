@@ -1,5 +1,5 @@
 -- `layout::lay_out` meets its contract. The loop's invariant: the regions held and those of the methods ahead make up the file's.
-use Prim.Native.Nat.{_+_, _-_, _≤_, _<_}
+use Prim.Native.Nat.{ℕ, _+_, _-_, _≤_, _<_}
 use native.Mathlib.Omega.{arith}
 use mathlib.Core.Path.{_≡_, sym, ap, _∙_}
 use mathlib.Core.List.{List}
@@ -61,24 +61,32 @@ loop-holds c =
     )
 
 -- in a turn `method` stands there
-begins : (q : tie.Then4 Inv-loop μ-loop) → getD (q .before .before .before .before .before .before .before .before .before .before .before .before .args .kinds .now) (q .before .before .loop .i) 255 ≡ 23
+abbrev kindsOf : tie.Then4 Inv-loop μ-loop → List ℕ
+kindsOf q =
+    let l = q .before .before .before .before in
+    l .before .before .before .before .before .before .before .before .args .kinds .now
+
+begins : (q : tie.Then4 Inv-loop μ-loop) → getD (kindsOf q) (q .before .before .loop .i) 255 ≡ 23
 begins q = sym (q .before .kind-at .ensures) ∙ q .if4 .taken
 
-inside : (q : tie.Then4 Inv-loop μ-loop) → q .before .before .loop .i < length (q .before .before .before .before .before .before .before .before .before .before .before .before .args .kinds .now)
-inside q = kind-within (q .before .before .before .before .before .before .before .before .before .before .before .before .args .kinds .now) (q .before .before .loop .i) 23 (begins q) (omega arith)
+inside : (q : tie.Then4 Inv-loop μ-loop) → q .before .before .loop .i < length (kindsOf q)
+inside q = kind-within (kindsOf q) (q .before .before .loop .i) 23 (begins q) (omega arith)
 
 add-add-method : tie.Need-add-add-method Inv-loop μ-loop
 add-add-method c = omega (arith, inside c)
 
 add-method-requires : tie.Need-add-method-requires Inv-loop μ-loop
-add-method-requires c κs = (
-  record { values-long = (c .before .before .before .before .before .before .if2 .left); places-long = (c .before .before .before .before .before .if3 .left) },
-  omega (arith, inside c),
-  c .before .before .loop .inv .1,
-)
+add-method-requires c κs =
+    let l = c .before .before .before .before in (
+      record { values-long = l .before .before .if2 .left; places-long = l .before .if3 .left },
+      omega (arith, inside c),
+      c .before .before .loop .inv .1,
+    )
 
 add-i-2 : tie.Need-add-i-2 Inv-loop μ-loop
-add-i-2 c = omega (arith, c .before .before .add-method .ensures .0 .within, c .before .before .before .before .before .before .before .before .before .before .before .before .before .before .before .good .1 .0)
+add-i-2 c =
+    let l = c .before .before .before .before .before .before .before in
+    omega (arith, c .before .before .add-method .ensures .0 .within, l .before .before .before .before .before .before .before .before .good .1 .0)
 
 loop-less : tie.Need-loop-less Inv-loop μ-loop
 loop-less c = omega (arith, inside (c .before .before .before), c .before .before .add-method .ensures .0 .forth)

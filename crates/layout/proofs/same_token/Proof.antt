@@ -75,7 +75,8 @@ wide-requires-3 c κs = search needs
 -- both are names: they are in the file, and their bytes tell whether they are the same
 names :
     (q : tie.After-wide3) (ts : List Token)
-    → (let a = q .before .before .before .before .before .before .before .before .before .before .before .before .before .before .before .before .before .before .args in
+    → (let r = q .before .before .before .before .before .before .before .before .before in
+    let a = r .before .before .before .before .before .before .before .before .before .args in
     let x = q .before .before .wide2 .result in
     let y = q .wide3 .result in
     let n = q .before .before .before .before .wide .result in
@@ -83,12 +84,14 @@ names :
     → (x + n ≤ length (a .file .now)) × (y + n ≤ length (a .file .now))
     × (sameBytes (take n (drop x (a .file .now))) (take n (drop y (a .file .now))) ≡ sameLexeme (lexemeAt ts (a .a)) (lexemeAt ts (a .b))))
 names q ts w =
-    let s = q .before .before .before .before .before .before .before .before .before .before .before .before .before .before .before .before .before .before in
+    let r = q .before .before .before .before .before .before .before .before .before in
+    let s = r .before .before .before .before .before .before .before .before .before in
     let a = s .args in
     let kind = q .before .before .before .before .before .before .before .before .before .before .before .if1 .left in
     let value = q .before .before .before .before .before .before .before .before .if2 .left in
     let thirty = q .before .before .before .before .before .before .if3 .left in
-    rw (q .before .before .before .before .wide .ensures .0, q .before .before .wide2 .ensures .0, q .wide3 .ensures .0) (
+    let length = q .before .before .before .before .wide .ensures .0 in
+    rw (length, q .before .before .wide2 .ensures .0, q .wide3 .ensures .0) (
       first-fits w (a .a) (a .b) (s .pre .1) (s .pre .2) kind value thirty,
       second-fits w (a .a) (a .b) (s .pre .1) (s .pre .2) kind value thirty,
       names-agree w (a .a) (a .b) (s .pre .1) (s .pre .2) kind value thirty,

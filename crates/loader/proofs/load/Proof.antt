@@ -28,9 +28,10 @@ returns-2 c l₁ l₂ l₃ =
 
 returns-3 : tie.Need-returns-3
 returns-3 c l₁ l₂ l₃ =
-    let n = c .before .before .before .before .before .before .before .before .before .before .before .before .before .before .before .before in
+    let r = c .before .before .before .before .before .before .before in
+    let n = r .before .before .before .before .before .before .before .before .before in
     let t = scanned-tokens (n .before .before .scan .ensures) (N n) (n .n .given .1) in
-    c .before .before .before .before .before .before .before .load-tokens .ensures (t .0) (t .3) (length-take-le _ _ (t .2) ∙ t .1) l₁ l₂ l₃
+    r .load-tokens .ensures (t .0) (t .3) (length-take-le _ _ (t .2) ∙ t .1) l₁ l₂ l₃
 
 pub load-spec : {M : Type 1} → statement M
 load-spec =
