@@ -149,9 +149,9 @@ module _ (m : Monitor) (ls : List Lexeme) (l : Layout) (holds : Holds ls (flagge
       }
 
 -- at first a layout holds nothing
-pub holds-none : (ls : List Lexeme) (l : Layout) → l .regions ≡ 0 → l .guards ≡ 0 → Holds ls [] l
+pub holds-none : {ls : List Lexeme} {l : Layout} → l .regions ≡ 0 → l .guards ≡ 0 → Holds ls [] l
 unfolding guardsOf
-holds-none ls l r g =
+holds-none r g =
     record {
       count = r;
       guard-count = g;

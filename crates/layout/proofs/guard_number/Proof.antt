@@ -46,11 +46,11 @@ compared q ts done d w h at-d =
     let g = q .before .before .before .before .before .before .loop .g in
     let low : g < length (found done) = omega (arith, q .before .before .before .before .before .loop-test .taken, h .guard-count) in
     let first : q .before .before .before .small .result % 16 ≡ getD (l .firsts) g 0 =
-    ap (λ n. n % 16) (q .before .before .before .small .ensures) ∙ first-small (lexemes ts) done l h d g low (s .pre .1) in
+    ap (λ n. n % 16) (q .before .before .before .small .ensures) ∙ first-small h d g low (s .pre .1) in
     let other : q .before .wide .result ≡ getD (l .«guards_at») (getD (l .firsts) g 0) 0 =
     q .before .wide .ensures .0 ∙ ap (λ n. getD (l .«guards_at») n 0) first in
     let there : GuardAt (lexemes ts) (q .before .wide .result) (getD done (getD (l .firsts) g 0) noFlagged .region .guard) =
-    rw other (first-stands (lexemes ts) done l h d g low) in
+    rw other (first-stands h d g low) in
     (low, q .same-guard .ensures ts d _ w at-d there)
 
 returns : tie.Need-returns Inv-loop μ-loop
@@ -59,7 +59,7 @@ returns c = (
   λ ts done d w h at-d.
       let q = c .before .before .before .before .before .before .before in
       let e = compared (c .before) ts done d w h at-d in
-      number-here (lexemes ts) done (q .before .before .before .before .before .args .t5) h d (q .loop .g) (e .0) (sym (e .1) ∙ c .if1 .taken) ∙ q .loop .inv .0 ts done d w h at-d,
+      number-here h d (q .loop .g) (e .0) (sym (e .1) ∙ c .if1 .taken) ∙ q .loop .inv .0 ts done d w h at-d,
 )
 
 loop-again : tie.Need-loop-again Inv-loop μ-loop
@@ -67,7 +67,7 @@ loop-again c = (
   λ ts done d w h at-d.
       let q = c .before .before .before .before .before .before .before in
       let e = compared (c .before) ts done d w h at-d in
-      number-later (lexemes ts) done (q .before .before .before .before .before .args .t5) h d (q .loop .g) (e .0) (sym (e .1) ∙ c .if1 .left) ∙ q .loop .inv .0 ts done d w h at-d,
+      number-later h d (q .loop .g) (e .0) (sym (e .1) ∙ c .if1 .left) ∙ q .loop .inv .0 ts done d w h at-d,
   omega arith,
 )
 
@@ -76,7 +76,7 @@ returns-2 c = (
   omega arith,
   λ ts done d w h at-d.
       let q = c .before in
-      number-over (lexemes ts) done (q .before .before .before .before .before .args .t5) h d (q .loop .g) (omega (arith, h .guard-count, c .loop-test .left)) ∙ q .loop .inv .0 ts done d w h at-d,
+      number-over h d (q .loop .g) (omega (arith, h .guard-count, c .loop-test .left)) ∙ q .loop .inv .0 ts done d w h at-d,
 )
 
 pub guard-number-spec : {M : Type 1} → statement M

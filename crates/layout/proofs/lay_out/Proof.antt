@@ -54,7 +54,7 @@ loop-holds c =
     let l = c .before .empty4 in
     let at = ap (λ n. n + past) (c .closing .ensures) in (
       λ m ts w e few small k.
-          all-start (lexemes ts) (all (m .methods)) (l .result) _ (holds-none (lexemes ts) (l .result) (l .ensures .1) (l .ensures .2))
+          all-start (lexemes ts) (all (m .methods)) (l .result) _ (holds-none (l .ensures .1) (l .ensures .2))
           (rw at (methods-at m w e (a .keep) k)),
       l .ensures .3,
       l .ensures .0,
