@@ -1,15 +1,16 @@
 -- Whole numbers as differences p less m, and as sums less 2 ^ 30: their sums and comparisons are those of natural numbers.
-use Prim.Native.Nat.{ℕ, zero, suc, _+_, _-_, _≤_}
+use Prim.Native.Nat.{ℕ, _+_, _-_, _≤_}
 use native.Mathlib.Omega.{arith}
 use native.Mathlib.Nat.{add-comm}
 use mathlib.Core.Path.{_≡_, refl, sym, ap, _∙_}
 use mathlib.Core.Bool.{Bool, true, false, cond}
 use lib.Dec.{ltb}
-use lib.IntN.{ℤ, pos, negsuc, negℤ, _+ℤ_, _-ℤ_, +ℤ-assoc, +ℤ-comm, +ℤ-idl, +ℤ-idr, +ℤ-invr, negℤ-+ℤ, negℤ-negℤ}
+use lib.IntN.{ℤ, pos, negℤ, _+ℤ_, _-ℤ_, +ℤ-assoc, +ℤ-comm, +ℤ-idl, +ℤ-idr, +ℤ-invr, negℤ-+ℤ, negℤ-negℤ}
 use borrow.Author.Tests.{ltb-true, ltb-false, lt-ltb, le-ltb}
 use Rattle.syntax.specs.Token.{markNumber}
 use Rattle.syntax.specs.Tree.{Comparison, eq, ne, lt, le, gt, ge, comparisonMark}
 use Rattle.meaning.specs.Value.{negative, less, compares, joined}
+use Rattle.meaning.proofs.Integers.{negative-difference}
 use Rattle.evaluator.specs.Promises.{worth, signOf, testOf}
 
 shuffle : (a b c d : ℤ) → (a +ℤ b) +ℤ (c +ℤ d) ≡ (a +ℤ c) +ℤ (b +ℤ d)
@@ -30,16 +31,6 @@ added-parts p m q n = difference (pos p) (pos m) (pos q) (pos n)
 
 taken-parts : (p m q n : ℕ) → (pos p -ℤ pos m) -ℤ (pos q -ℤ pos n) ≡ pos (p + n) -ℤ pos (m + q)
 taken-parts p m q n = ap (λ z. (pos p -ℤ pos m) +ℤ z) (turned (pos q) (pos n)) ∙ added-parts p m n q
-
-negative-cond : (c : Bool) (m n : ℕ) → negative (cond c (negsuc m) (pos n)) ≡ c
-unfolding negative
-negative-cond true m n = refl
-negative-cond false m n = refl
-
-negative-difference : (m n : ℕ) → negative (pos m -ℤ pos n) ≡ ltb m n
-unfolding negative
-negative-difference m zero = sym (le-ltb m zero (omega arith))
-negative-difference m (suc n) = negative-cond (ltb m (suc n)) (suc n - suc m) (m - suc n)
 
 pub less-parts : (p m q n : ℕ) → less (pos p -ℤ pos m) (pos q -ℤ pos n) ≡ ltb (p + n) (q + m)
 unfolding less

@@ -21,7 +21,8 @@ slotOf (v ∷ vs) x = elim (sameBytes (v .title) x) [ true ↦ 0 | false ↦ suc
 unfoldable pub Kinds : List Lexeme → List ℕ → Type 0
 Kinds ls kinds = map kindOf ls ≡ kinds
 
--- kinds, and at its place each number's value, each name's slot, and for each brace that opens a block the place of the one that closes it
+-- kinds, and the operands of a loaded file, which the evaluator has as `values`: at its place each number's value, each name's slot, and
+-- for each brace that opens a block the place of the one that closes it
 pub record Codes (vs : List Var) (ls : List Lexeme) (kinds values : List ℕ) : Type 0 where
   pub by-kind : Kinds ls kinds
   pub as-long : length values ≡ length kinds

@@ -1,7 +1,8 @@
-// Evaluates conditions and runs bodies over a file's tokens, held as numbers: kinds, and values (a number's value, a name's
-// slot among the variables, an opening brace's closing one). A place is at most the count of tokens, and the place behind the
-// last is the count. Sixteen states go at once, each in a lane: `vars` holds the value of variable v in lane j at v * 16 + j,
-// with 128 added; an expression's value is held with ZERO added, a truth as a bool for each lane.
+// Evaluates conditions and runs bodies over a file's tokens, held as numbers: kinds, and as `values` the operands of a loaded
+// file (a number's value, a name's slot among the variables, an opening brace's closing one). A place is at most the count of
+// tokens, and the place behind the last is the count. Sixteen states go at once, each in a lane: `vars` holds the value of
+// variable v in lane j at v * 16 + j, with 128 added; an expression's value is held with ZERO added, a truth as a bool for each
+// lane.
 ghost use mathlib.Core.Path.{_≡_};
 ghost use mathlib.Core.Bool.{not, _&&_, _||_, cond, false};
 ghost use mathlib.Core.List.{List, _∷_, _++_};

@@ -18,12 +18,12 @@ use Rattle.layout.proofs.Closes.{close-length, stands-below}
 use Rattle.layout.proofs.Same.{kinds-are, kinds-length}
 use Rattle.layout.proofs.Trees.{brackets-balanced}
 
-module _ (file : List ℕ) (ts : List Token) (kinds values places : List ℕ) (words : Words file ts kinds values places) where
+module _ {file : List ℕ} {ts : List Token} {kinds values places : List ℕ} (words : Words file ts kinds values places) where
   module _ (at : ℕ) (c : Cond) (g : GuardAt (lexemes ts) at c) where
     pub guard-long : closeFrom 2 3 0 (drop at kinds) ≡ length (spellCond c)
     unfolding kindOf markNumber
     guard-long =
-        rw (kinds-are file ts kinds values places words)
+        rw (kinds-are words)
         (close-length 2 3 at (lexemes ts) (spellCond c) (g .0) (mark rparen) (brackets-balanced c) (λ e. omega arith) refl (g .1))
 
     pub guard-run : take (length (spellCond c)) (drop at (lexemes ts)) ≡ spellCond c
@@ -32,7 +32,7 @@ module _ (file : List ℕ) (ts : List Token) (kinds values places : List ℕ) (w
     pub guard-below : at < length kinds
     guard-below =
         let l = stands-below at (lexemes ts) (spellCond c) (g .0) (mark rparen) (g .1) in
-        let k = kinds-length file ts kinds values places words in
+        let k = kinds-length words in
         omega arith
 
   module _ (a b : ℕ) (c d : Cond) (g : GuardAt (lexemes ts) a c) (h : GuardAt (lexemes ts) b d) where

@@ -13,6 +13,7 @@ use Rattle.syntax.specs.Token.{Lexeme, mark, lbrace, rbrace, markNumber}
 use Rattle.syntax.specs.Held.Kind.{kindOf}
 use Rattle.syntax.specs.Tree.{Block, spellBlock}
 use Rattle.logic.proofs.Bools.{split}
+use Rattle.layout.specs.Places.{past}
 use Rattle.layout.specs.Closing.{closeFrom}
 use Rattle.layout.specs.Laid.{Kinds, Linked}
 use Rattle.layout.proofs.Closes.{close-stands, stands-below}
@@ -21,7 +22,7 @@ use Rattle.layout.proofs.Trees.{braces-balanced}
 
 -- the token of the brace that closes what is opened at k
 abbrev pub linkOf : List ℕ → ℕ → ℕ
-linkOf kinds k = (k + 1 + closeFrom 0 1 0 (drop (k + 1) kinds)) % 65536
+linkOf kinds k = (k + past + closeFrom 0 1 0 (drop (k + past) kinds)) % 65536
 
 -- the braces below i are linked, and all else is as before
 pub record Links (kinds before after : List ℕ) (i : ℕ) : Type 0 where

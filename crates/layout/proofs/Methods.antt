@@ -8,6 +8,7 @@ use Rattle.syntax.specs.Token.{Token, lexemes, Lexeme, mark, rbrace, markNumber
 use Rattle.syntax.specs.Held.Kind.{kindOf, Words}
 use Rattle.syntax.specs.Tree.{Region, Method, all, each, spellRegion, spellMethod}
 use Rattle.logic.specs.Tests.{bit}
+use Rattle.layout.specs.Places.{toRegions, past}
 use Rattle.layout.specs.Promises.{Flagged, more, flagRegions, flagged, flagAt, Holds, Reached, AddsRegion, AddsMethod}
 use Rattle.layout.specs.declared.Layout.{Layout}
 use Rattle.layout.specs.declared.Spot.{Spot}
@@ -52,12 +53,12 @@ unfolding flagAt bit each spellRegion kindOf keywordNumber markNumber
 flag-ahead [] us = refl
 flag-ahead (q ∷ qs) us = refl
 
-module _ (file : List ℕ) (ts : List Token) (kinds values places : List ℕ) (words : Words file ts kinds values places) where
+module _ {file : List ℕ} {ts : List Token} {kinds values places : List ℕ} (words : Words file ts kinds values places) where
   module _ (before : List Flagged) (all-qs : List Region) (us : List Lexeme) where
     -- at `waituntil` there is a region ahead
     no-region : {C : Type 0} (i : ℕ) → drop i (lexemes ts) ≡ regionsAhead [] us → getD kinds i 255 ≡ 24 → C
     no-region i stands kind =
-        let e = kind-behind file ts kinds values places words i _ stands in
+        let e = kind-behind words i _ stands in
         let f = kind-of-end us in
         absurd (omega arith)
 
@@ -100,7 +101,7 @@ module _ (file : List ℕ) (ts : List Token) (kinds values places : List ℕ) (w
     unfolding flagRegions each
     over l i b done [] h stands whole n = rw (sym whole, append-nil done) (record { holds = h; behind = stands })
     over l i b done (q ∷ qs) h stands whole n =
-        absurd (n (kind-behind file ts kinds values places words i _ stands ∙ kind-of-region q qs us))
+        absurd (n (kind-behind words i _ stands ∙ kind-of-region q qs us))
 
     pub ahead-over : (l : Layout) (i b : ℕ) → Ahead (lexemes ts) before all-qs us l i b → (getD kinds i 255 ≡ 24 → ⊥)
         → Reached (lexemes ts) (before ++ flagRegions 1 all-qs) (mark rbrace ∷ us) record { layout = l; at = i }
@@ -121,11 +122,11 @@ pub all-start : (ls : List Lexeme) (ms : List Method) (l : Layout) (i : ℕ) →
 all-start ls ms l i h s = record { done = []; ms = ms; holds = h; stands = s; whole = refl }
 
 method-first : (x : Method) (ms : List Method) (ls : List Lexeme) (i : ℕ) → drop i ls ≡ methodsAhead (x ∷ ms)
-    → drop (i + 3) ls ≡ regionsAhead (all (x .regions)) (methodsAhead ms)
+    → drop (i + toRegions) ls ≡ regionsAhead (all (x .regions)) (methodsAhead ms)
 unfolding each spellMethod
 method-first x ms ls i h =
     let qs = each spellRegion (all (x .regions)) in
-    later 3 i ls _ h ∙ append-assoc (qs ++ (mark rbrace ∷ [])) (each spellMethod ms) (mark rbrace ∷ [])
+    later toRegions i ls _ h ∙ append-assoc (qs ++ (mark rbrace ∷ [])) (each spellMethod ms) (mark rbrace ∷ [])
     ∙ append-assoc qs (mark rbrace ∷ []) (methodsAhead ms)
 
 kind-of-method : (x : Method) (ms : List Method) → getD (map kindOf (methodsAhead (x ∷ ms))) 0 255 ≡ 23
@@ -141,14 +142,14 @@ unfolding flagRegions
 flag-count b [] = refl
 flag-count b (q ∷ qs) = ap suc (flag-count 0 qs)
 
-module _ (file : List ℕ) (ts : List Token) (kinds values places : List ℕ) (words : Words file ts kinds values places) (small : length ts ≤ 1024)
+module _ {file : List ℕ} {ts : List Token} {kinds values places : List ℕ} (words : Words file ts kinds values places) (small : length ts ≤ 1024)
     (all-ms : List Method) (few : length (flagged all-ms) ≤ 16) where
   turn-all : (l : Layout) (i : ℕ) (s : Spot) (done : List Flagged) (ms : List Method) → Holds (lexemes ts) done l
       → drop i (lexemes ts) ≡ methodsAhead ms → done ++ flagged ms ≡ flagged all-ms → getD kinds i 255 ≡ 23
-      → AddsMethod file kinds values places l (i + 3) s → AheadAll (lexemes ts) all-ms (s .layout) (s .at + 1)
+      → AddsMethod file kinds values places l (i + toRegions) s → AheadAll (lexemes ts) all-ms (s .layout) (s .at + past)
   unfolding flagged
   turn-all l i s done [] h stands whole kind adds =
-      let e = kind-behind file ts kinds values places words i _ stands in
+      let e = kind-behind words i _ stands in
       let f = kind-of-last in
       absurd (omega arith)
   turn-all l i s done (x ∷ ms) h stands whole kind adds =
@@ -162,12 +163,12 @@ module _ (file : List ℕ) (ts : List Token) (kinds values places : List ℕ) (w
         done = done ++ flagRegions 1 qs;
         ms = ms;
         holds = r .holds;
-        stands = later 1 (s .at) (lexemes ts) _ (r .behind);
+        stands = later past (s .at) (lexemes ts) _ (r .behind);
         whole = append-assoc done (flagRegions 1 qs) (flagged ms) ∙ whole;
       }
 
   pub all-turn : (l : Layout) (i : ℕ) (s : Spot) → AheadAll (lexemes ts) all-ms l i → getD kinds i 255 ≡ 23
-      → AddsMethod file kinds values places l (i + 3) s → AheadAll (lexemes ts) all-ms (s .layout) (s .at + 1)
+      → AddsMethod file kinds values places l (i + toRegions) s → AheadAll (lexemes ts) all-ms (s .layout) (s .at + past)
   all-turn l i s a = turn-all l i s (a .done) (a .ms) (a .holds) (a .stands) (a .whole)
 
   over-all : (l : Layout) (i : ℕ) (done : List Flagged) (ms : List Method) → Holds (lexemes ts) done l
@@ -176,7 +177,7 @@ module _ (file : List ℕ) (ts : List Token) (kinds values places : List ℕ) (w
   unfolding flagged
   over-all l i done [] h stands whole n = rw (sym whole, append-nil done) h
   over-all l i done (x ∷ ms) h stands whole n =
-      absurd (n (kind-behind file ts kinds values places words i _ stands ∙ kind-of-method x ms))
+      absurd (n (kind-behind words i _ stands ∙ kind-of-method x ms))
 
   pub all-over : (l : Layout) (i : ℕ) → AheadAll (lexemes ts) all-ms l i → (getD kinds i 255 ≡ 23 → ⊥) → Holds (lexemes ts) (flagged all-ms) l
   all-over l i a = over-all l i (a .done) (a .ms) (a .holds) (a .stands) (a .whole)

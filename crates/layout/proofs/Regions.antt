@@ -21,7 +21,7 @@ use Rattle.layout.specs.declared.Layout.{Layout}
 
 -- The number of a guard
 
-module _ (ls : List Lexeme) (done : List Flagged) (l : Layout) (holds : Holds ls done l) (c : Cond) (g : ℕ) where
+module _ {ls : List Lexeme} {done : List Flagged} {l : Layout} (holds : Holds ls done l) (c : Cond) (g : ℕ) where
   first-of : ℕ → Cond
   first-of h = getD done (getD (l .firsts) h 0) noFlagged .region .guard
 

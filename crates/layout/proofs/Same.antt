@@ -210,7 +210,7 @@ spells-name (Spells.named a b i) x e = cc
 spells-name (Spells.valued a b) x e = different (cc)
 spells-name (Spells.marked i) x e = different (cc)
 
-module _ (file : List ℕ) (ts : List Token) (kinds values places : List ℕ) (words : Words file ts kinds values places) where
+module _ {file : List ℕ} {ts : List Token} {kinds values places : List ℕ} (words : Words file ts kinds values places) where
   pub kinds-are : kinds ≡ map kindOf (lexemes ts)
   kinds-are = words .by-kind ∙ kinds-of ts
 

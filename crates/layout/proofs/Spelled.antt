@@ -11,6 +11,7 @@ use Rattle.syntax.specs.Token.{Token, lexemes, Lexeme, mark, lbrace, rbrace, rp
 use Rattle.syntax.specs.Held.Kind.{kindOf, Words}
 use Rattle.syntax.specs.Tree.{Region, spellCond, spellBlock, spellRegion}
 use Rattle.logic.specs.Tests.{bit}
+use Rattle.layout.specs.Places.{toGuard, toBody, past}
 use Rattle.layout.specs.Closing.{closeFrom}
 use Rattle.layout.specs.Laid.{RegionAt}
 use Rattle.layout.specs.Promises.{flagAt}
@@ -24,15 +25,15 @@ later n at ls us h = sym (drop-drop n at ls) ∙ ap (drop n) h
 
 -- where the body of a region at a token begins, and where what is behind the region does
 abbrev pub bodyOf : List ℕ → ℕ → ℕ
-bodyOf kinds at = at + 2 + closeFrom 2 3 0 (drop (at + 2) kinds) + 2
+bodyOf kinds at = at + toGuard + closeFrom 2 3 0 (drop (at + toGuard) kinds) + toBody
 
 abbrev pub nextOf : List ℕ → ℕ → ℕ
-nextOf kinds at = bodyOf kinds at + closeFrom 0 1 0 (drop (bodyOf kinds at) kinds) + 1
+nextOf kinds at = bodyOf kinds at + closeFrom 0 1 0 (drop (bodyOf kinds at) kinds) + past
 
 pub record Spelled (ls : List Lexeme) (kinds : List ℕ) (at : ℕ) (q : Region) (us : List Lexeme) : Type 0 where
-  pub stands : RegionAt ls q (at + 2) (bodyOf kinds at)
+  pub stands : RegionAt ls q (at + toGuard) (bodyOf kinds at)
   pub behind : drop (nextOf kinds at) ls ≡ us
-  pub guard-low : at + 2 < length ls
+  pub guard-low : at + toGuard < length ls
   pub body-low : bodyOf kinds at < length ls
 
 spelled-kinds : (ls : List Lexeme) (at : ℕ) (q : Region) (us : List Lexeme) → drop at ls ≡ spellRegion q ++ us
@@ -42,27 +43,27 @@ spelled-kinds ls at q us h =
     let kinds = map kindOf ls in
     let behind-body = mark rbrace ∷ us in
     let behind-guard = mark lbrace ∷ (spellBlock (q .body) ++ behind-body) in
-    let guard : drop (at + 2) ls ≡ spellCond (q .guard) ++ (mark rparen ∷ behind-guard) =
-    later 2 at ls _ h ∙ append-assoc (spellCond (q .guard)) (mark rparen ∷ mark lbrace ∷ (spellBlock (q .body) ++ (mark rbrace ∷ []))) us
+    let guard : drop (at + toGuard) ls ≡ spellCond (q .guard) ++ (mark rparen ∷ behind-guard) =
+    later toGuard at ls _ h ∙ append-assoc (spellCond (q .guard)) (mark rparen ∷ mark lbrace ∷ (spellBlock (q .body) ++ (mark rbrace ∷ []))) us
     ∙ ap (λ (x : List Lexeme). spellCond (q .guard) ++ (mark rparen ∷ mark lbrace ∷ x)) (append-assoc (spellBlock (q .body)) (mark rbrace ∷ []) us) in
-    let bracket = close-stands 2 3 (at + 2) ls (spellCond (q .guard)) behind-guard (mark rparen) (brackets-balanced (q .guard)) (λ e. omega arith) refl guard in
-    let body : drop (bodyOf kinds at) ls ≡ spellBlock (q .body) ++ behind-body = later 2 (at + 2 + closeFrom 2 3 0 (drop (at + 2) kinds)) ls _ bracket in
+    let bracket = close-stands 2 3 (at + toGuard) ls (spellCond (q .guard)) behind-guard (mark rparen) (brackets-balanced (q .guard)) (λ e. omega arith) refl guard in
+    let body : drop (bodyOf kinds at) ls ≡ spellBlock (q .body) ++ behind-body = later toBody (at + toGuard + closeFrom 2 3 0 (drop (at + toGuard) kinds)) ls _ bracket in
     let brace = close-stands 0 1 (bodyOf kinds at) ls (spellBlock (q .body)) us (mark rbrace) (braces-balanced (q .body)) (λ e. omega arith) refl body in
     record {
       stands = record { behind-guard = behind-guard; behind-body = us; guard-stands = guard; body-stands = body };
-      behind = later 1 (bodyOf kinds at + closeFrom 0 1 0 (drop (bodyOf kinds at) kinds)) ls _ brace;
-      guard-low = let e = stands-below (at + 2) ls (spellCond (q .guard)) behind-guard (mark rparen) guard in omega arith;
+      behind = later past (bodyOf kinds at + closeFrom 0 1 0 (drop (bodyOf kinds at) kinds)) ls _ brace;
+      guard-low = let e = stands-below (at + toGuard) ls (spellCond (q .guard)) behind-guard (mark rparen) guard in omega arith;
       body-low = let e = stands-below (bodyOf kinds at) ls (spellBlock (q .body)) us (mark rbrace) body in omega arith;
     }
 
-module _ (file : List ℕ) (ts : List Token) (kinds values places : List ℕ) (words : Words file ts kinds values places) where
+module _ {file : List ℕ} {ts : List Token} {kinds values places : List ℕ} (words : Words file ts kinds values places) where
   pub spelled : (at : ℕ) (q : Region) (us : List Lexeme) → drop at (lexemes ts) ≡ spellRegion q ++ us → Spelled (lexemes ts) kinds at q us
-  spelled at q us h = rw (kinds-are file ts kinds values places words) (spelled-kinds (lexemes ts) at q us h)
+  spelled at q us h = rw (kinds-are words) (spelled-kinds (lexemes ts) at q us h)
 
   -- the kind at a token is that of what stands there
   pub kind-behind : (at : ℕ) (us : List Lexeme) → drop at (lexemes ts) ≡ us → getD kinds at 255 ≡ getD (map kindOf us) 0 255
   kind-behind at us h =
-      rw (kinds-are file ts kinds values places words)
+      rw (kinds-are words)
       (ap (λ (k : ℕ). getD (map kindOf (lexemes ts)) k 255) (sym (add-zero at)) ∙ sym (getD-drop at (map kindOf (lexemes ts)) 0 255)
       ∙ ap (λ (ks : List ℕ). getD ks 0 255) (kinds-from at (lexemes ts) ∙ ap (map kindOf) h))
 

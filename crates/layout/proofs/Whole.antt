@@ -18,6 +18,7 @@ use Rattle.meaning.specs.Accepted.{regionsOf}
 use Rattle.meaning.specs.Model.{guardsOf, beginsIn, goesOnIn, noRegion, regions, guards, region, guardOf, follows}
 use Rattle.meaning.proofs.MethodLaws.{InMethod, in-method, begins-in-method, goes-on-in-method}
 use Rattle.logic.proofs.Bools.{split}
+use Rattle.layout.specs.Places.{toKept, past}
 use Rattle.layout.specs.Laid.{IsKeep, Laid}
 use Rattle.layout.specs.Closing.{closeFrom}
 use Rattle.layout.specs.Promises.{Flagged, noFlagged, more, flagRegions, flagged, parts, found, Holds}
@@ -148,9 +149,9 @@ module _ (m : Monitor) (ls : List Lexeme) (l : Layout) (holds : Holds ls (flagge
       }
 
 -- at first a layout holds nothing
-pub holds-none : (ls : List Lexeme) (l : Layout) → l .regions ≡ 0 → l .guards ≡ 0 → Holds ls [] l
+pub holds-none : {ls : List Lexeme} {l : Layout} → l .regions ≡ 0 → l .guards ≡ 0 → Holds ls [] l
 unfolding guardsOf
-holds-none ls l r g =
+holds-none r g =
     record {
       count = r;
       guard-count = g;
@@ -164,31 +165,31 @@ holds-none ls l r g =
     }
 
 -- where the code begins: at the kept condition, and behind its semicolon at the methods
-module _ (file : List ℕ) (m : Monitor) (ts : List Token) (kinds values places : List ℕ) (words : Words file ts kinds values places)
+module _ (m : Monitor) {file : List ℕ} {ts : List Token} {kinds values places : List ℕ} (words : Words file ts kinds values places)
     (spells : spell m ≡ lexemes ts) (k : ℕ) (keep : IsKeep m ts k) where
   pub keep-below : k < length kinds
   unfolding IsKeep
   keep-below =
       let low = stands-below k (lexemes ts) [] _ (key k-keep) (keep .1) in
-      let long = kinds-length file ts kinds values places words in
+      let long = kinds-length words in
       omega arith
 
-  pub keep-at : (us : List Lexeme) × (drop (k + 1) (lexemes ts) ≡ spellCond (m .keep) ++ (mark semicolon ∷ us))
+  pub keep-at : (us : List Lexeme) × (drop (k + toKept) (lexemes ts) ≡ spellCond (m .keep) ++ (mark semicolon ∷ us))
   unfolding IsKeep
-  keep-at = (keep .0, later 1 k (lexemes ts) _ (keep .1))
+  keep-at = (keep .0, later toKept k (lexemes ts) _ (keep .1))
 
-  pub methods-at : drop (k + 1 + closeFrom 255 4 0 (drop (k + 1) kinds) + 1) (lexemes ts) ≡ methodsAhead (all (m .methods))
+  pub methods-at : drop (k + toKept + closeFrom 255 4 0 (drop (k + toKept) kinds) + past) (lexemes ts) ≡ methodsAhead (all (m .methods))
   unfolding IsKeep kindOf markNumber
   methods-at =
-      let semi = close-stands 255 4 (k + 1) (lexemes ts) (spellCond (m .keep)) (keep .0) (mark semicolon) (semicolons-balanced (m .keep))
-      (λ e. omega arith) refl (later 1 k (lexemes ts) _ (keep .1)) in
-      rw (kinds-are file ts kinds values places words)
-      (later 1 (k + 1 + closeFrom 255 4 0 (drop (k + 1) (map kindOf (lexemes ts)))) (lexemes ts) _ semi
+      let semi = close-stands 255 4 (k + toKept) (lexemes ts) (spellCond (m .keep)) (keep .0) (mark semicolon) (semicolons-balanced (m .keep))
+      (λ e. omega arith) refl (later toKept k (lexemes ts) _ (keep .1)) in
+      rw (kinds-are words)
+      (later past (k + toKept + closeFrom 255 4 0 (drop (k + toKept) (map kindOf (lexemes ts)))) (lexemes ts) _ semi
       ∙ keep-once m (lexemes ts) (keep .0) k spells (keep .1))
 
-pub words-sized : (file : List ℕ) (ts : List Token) (kinds values places : List ℕ) → Words file ts kinds values places
+pub words-sized : {file : List ℕ} {ts : List Token} {kinds values places : List ℕ} → Words file ts kinds values places
     → (length values ≡ length kinds) × (length places ≡ length kinds)
-words-sized file ts kinds values places w =
+words-sized {ts = ts} w =
     let k = ap length (w .by-kind) ∙ length-map ts (λ (t : Token). kindOf (t .lexeme)) in
     let v = ap length (w .by-value) ∙ length-map ts (λ (t : Token). valueOf (t .lexeme)) in
     let p = ap length (w .by-place) ∙ length-map ts (λ (t : Token). t .at) in

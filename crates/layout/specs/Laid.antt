@@ -39,7 +39,7 @@ pub record Laid (m : Monitor) (ls : List Lexeme) (l : Layout) : Type 0 where
   pub begin-flags : (r : ℕ) → r < length (regions m) → getD (l .begins) r 0 ≡ bit (beginsIn (all (m .methods)) r)
   pub follow-flags : (r : ℕ) → r < length (regions m) → follows m r ≡ followsBy r (getD (l .«goes_on») r 0)
 
--- values as before, but that each brace which opens a block has the token of the one that closes it
+-- operands as before, but that each brace which opens a block has the token of the one that closes it
 pub record Linked (ls : List Lexeme) (before after : List ℕ) : Type 0 where
   pub as-long : length after ≡ length before
   pub others : (i : ℕ) → (getElem? ls i ≡ some (mark lbrace) → ⊥) → getD after i 0 ≡ getD before i 0

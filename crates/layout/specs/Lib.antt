@@ -1,3 +1,4 @@
+pub mod Places
 pub mod Closing
 pub mod Laid
 pub mod Promises

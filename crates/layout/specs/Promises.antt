@@ -10,6 +10,7 @@ use Rattle.syntax.specs.Held.Kind.{kindOf, Words}
 use Rattle.syntax.specs.Tree.{Cond, Region, Method, all, each, spellCond, spellRegion}
 use Rattle.logic.specs.Tests.{bit}
 use Rattle.meaning.specs.Model.{sameLexeme, sameLexemes, sameGuard, placeIn, guardsOf, noRegion}
+use Rattle.layout.specs.Places.{overrun}
 use Rattle.layout.specs.Laid.{RegionAt}
 use Rattle.layout.specs.declared.Layout.{Layout}
 use Rattle.layout.specs.declared.Spot.{Spot}
@@ -138,7 +139,7 @@ pub record Grown (kinds : List ℕ) (l : Layout) (at : ℕ) (s : Spot) : Type 0 
   pub room : Room (s .layout)
   pub keep-kept : s .layout .keep ≡ l .keep
   pub forth : at ≤ s .at
-  pub within : s .at ≤ length kinds + 4
+  pub within : s .at ≤ length kinds + overrun
 
 -- the layout holds these regions, and these lexemes stand where it goes on
 pub record Reached (ls : List Lexeme) (done : List Flagged) (us : List Lexeme) (s : Spot) : Type 0 where

@@ -11,6 +11,7 @@ ghost use Rattle.meaning.specs.Model.{regions};
 ghost use Rattle.layout.specs.Laid.{Kinds, IsKeep, Laid, Linked};
 ghost use Rattle.syntax.specs.Held.Kind.{Words};
 ghost use Rattle.layout.specs.Closing.{closeFrom};
+ghost use Rattle.layout.specs.Places.{overrun};
 ghost use Rattle.layout.specs.Promises.{Sized, SameToken, SameTokens, SameGuard, flagAt, withGuard, withRegion, Numbers, Room, AddsRegion, AddsMethod, Grown};
 
 // At most sixteen regions and guards.
@@ -53,6 +54,18 @@ const WAITUNTIL: u8 = 24;
 const NAME: u8 = 30;
 
 const END: u8 = 255;
+
+// How many tokens on a part begins: the kept condition from `keep`, a method's regions from `method` (`method NAME {`), a guard from
+// `waituntil` (`waituntil (`), a body from the bracket that closes the guard (`) {`), and what stands behind a token that closes.
+const TO_KEPT: usize = 1;
+
+const TO_REGIONS: usize = 3;
+
+const TO_GUARD: usize = 2;
+
+const TO_BODY: usize = 2;
+
+const PAST: usize = 1;
 
 fn kind_at(kinds: &[u8], at: usize) -> u8
     ensures { λ r. ⌜ r ≡ getD (now (kinds .entry)) at 255 ⌝ }
@@ -177,7 +190,8 @@ fn same_guard(file: &[u8], kinds: &[u8], values: &[u16], places: &[u16], a: usiz
     same_tokens(file, kinds, values, places, a, b, n)
 }
 
-fn empty(keep: usize) -> Layout
+// No regions, and the kept condition at a token.
+pub fn empty(keep: usize) -> Layout
     ensures { λ r. ⌜ (r .keep ≡ keep) × (r .regions ≡ 0) × (r .guards ≡ 0) × Room r ⌝ }
 {
     Layout {
@@ -284,9 +298,9 @@ fn add_region(
     ensures { λ r. ⌜ Grown (now (kinds .entry)) layout at r × (at < r .at) × (r .layout .regions ≡ layout .regions + 1)
         × AddsRegion (now (file .entry)) (now (kinds .entry)) (now (values .entry)) (now (places .entry)) layout at begins r ⌝ }
 {
-    let guard_at = at + 2;
-    let body_at = closing(kinds, guard_at, LPAREN, RPAREN) + 2;
-    let next = closing(kinds, body_at, LBRACE, RBRACE) + 1;
+    let guard_at = at + TO_GUARD;
+    let body_at = closing(kinds, guard_at, LPAREN, RPAREN) + TO_BODY;
+    let next = closing(kinds, body_at, LBRACE, RBRACE) + PAST;
     let number = guard_number(file, kinds, values, places, layout, guard_at);
     let mut numbered = layout;
     if number == layout.guards {
@@ -314,7 +328,7 @@ fn add_method(
     layout: Layout,
     at: usize,
 ) -> Spot
-    requires { ⌜ Sized (now kinds) (now values) (now places) × (at ≤ length (now kinds) + 4) × Room layout ⌝ }
+    requires { ⌜ Sized (now kinds) (now values) (now places) × (at ≤ length (now kinds) + overrun) × Room layout ⌝ }
     ensures { λ r. ⌜ Grown (now (kinds .entry)) layout at r
         × AddsMethod (now (file .entry)) (now (kinds .entry)) (now (values .entry)) (now (places .entry)) layout at r ⌝ }
 {
@@ -354,29 +368,29 @@ pub fn lay_out(file: &[u8], kinds: &[u8], values: &[u16], places: &[u16], keep: 
     if places.len() != kinds.len() {
         return empty(0);
     }
-    let mut layout = empty(keep + 1);
-    let mut i = closing(kinds, keep + 1, END, SEMICOLON) + 1;
+    let mut layout = empty(keep + TO_KEPT);
+    let mut i = closing(kinds, keep + TO_KEPT, END, SEMICOLON) + PAST;
     while kind_at(kinds, i) == METHOD {
-        let spot = add_method(file, kinds, values, places, layout, i + 3);
+        let spot = add_method(file, kinds, values, places, layout, i + TO_REGIONS);
         let next = spot.layout;
         layout = next;
-        i = spot.at + 1;
+        i = spot.at + PAST;
     }
     layout
 }
 
-// Each opening brace's value becomes the token of its closing one.
-pub fn link_braces(kinds: &[u8], values: &mut [u16])
-    ensures { λ _. ⌜ ((ls : List Lexeme) → Kinds ls (now (kinds .entry)) → length (now (values .entry)) ≡ length ls → length ls ≤ 1024
-        → Linked ls (now (values .entry)) (now (values .exit))) ⌝ }
+// At each opening brace the operand becomes the token of the closing one; the others stay.
+pub fn link_braces(kinds: &[u8], operands: &mut [u16])
+    ensures { λ _. ⌜ ((ls : List Lexeme) → Kinds ls (now (kinds .entry)) → length (now (operands .entry)) ≡ length ls → length ls ≤ 1024
+        → Linked ls (now (operands .entry)) (now (operands .exit))) ⌝ }
 {
-    if values.len() != kinds.len() {
+    if operands.len() != kinds.len() {
         return;
     }
     let mut i = 0;
     while i < kinds.len() {
         if kinds[i] == LBRACE {
-            values[i] = held(closing(kinds, i + 1, LBRACE, RBRACE));
+            operands[i] = held(closing(kinds, i + PAST, LBRACE, RBRACE));
         }
         i += 1;
     }

@@ -19,6 +19,7 @@ use Rattle.meaning.proofs.KeywordPlaces.{behindKeep}
 use Rattle.grammar.specs.Reads.{Reads}
 use Rattle.grammar.specs.declared.Pos.the-variants.{Stuck}
 use Rattle.variables.specs.Bounded.{RangedBy}
+use Rattle.variables.specs.Places.{firstVar}
 use Rattle.variables.specs.declared.Declared.{Declared}
 use Rattle.answers.specs.Says.{Is, answerOf}
 use Rattle.loader.proofs.TokenSlices.{lexemes-length}
@@ -61,7 +62,7 @@ module _ {file : List ℕ} {ts : List Token} {kinds values places : List ℕ} (w
 
     -- 3 to 7 do not arise
     pub past-7 : (m : Monitor) (spelt : spell m ≡ lexemes ts) → pastLimit 0 0 0 ts ≡ none → misnamed (number 0) [] [] ts ≡ none
-        → (d : Declared) → RangedBy true (all (m .vars)) (lexemes ts) (key k-keep ∷ behindKeep m) 3 d
+        → (d : Declared) → RangedBy true (all (m .vars)) (lexemes ts) (key k-keep ∷ behindKeep m) firstVar d
         → (j : Judged) → j .keep ≡ d .token → j .bounds ≡ d .bounds → Past7 ts m j
     unfolding RangedBy
     past-7 m spelt few names d r j k b =

@@ -3,9 +3,9 @@ use Prim.Native.Nat.{ℕ, zero, suc, _≤_}
 use native.Mathlib.Omega.{arith}
 use mathlib.Core.Path.{_≡_, refl, sym, subst, ap, _∙_}
 use mathlib.Core.Bool.{true}
-use mathlib.Core.List.{List, [], _∷_, map}
+use mathlib.Core.List.{List}
 use mathlib.Core.Option.{Option, none, some}
-use lib.ListN.{length, take, getD, length-map}
+use lib.ListN.{length, getD, length-map}
 use Rattle.syntax.specs.Token.{Token, lexemes}
 use Rattle.syntax.specs.Tree.{Monitor}
 use Rattle.syntax.specs.Held.Kind.{Words}
@@ -35,18 +35,6 @@ use Rattle.loader.specs.Filling.{Filling, Filled}
 use Rattle.loader.specs.declared.Judged.{Judged}
 use Rattle.loader.specs.declared.Loaded.{Loaded}
 use Rattle.loader.proofs.Fills.{numbers-of}
-
--- as many elements as tokens were taken, so there are as many
-pub taken : (f : Token → ℕ) (ts : List Token) (n : ℕ) (xs : List ℕ) → n ≡ length ts → take n xs ≡ map f ts → n ≡ length (take n xs)
-taken f ts n xs e t = rw (t, length-map) e
-
-short : (n : ℕ) (xs : List ℕ) → length (take n xs) ≤ length xs
-short zero xs = omega arith
-short (suc n) [] = omega arith
-short (suc n) (x ∷ xs) = omega (arith, short n xs)
-
-pub room : (n : ℕ) (xs : List ℕ) → n ≡ length (take n xs) → n ≤ length xs
-room n xs e = omega (arith, short n xs)
 
 -- an answer other than 0 is that of no accepted file
 loads-refused : (file : List ℕ) (l : Loaded) (kept holds after : List ℕ) → (l .answer .number ≡ 0 → ⊥) → Is (l .answer) (check file)

@@ -25,6 +25,7 @@ use Rattle.grammar.specs.declared.Pos.the-variants.{Next, Stuck}
 use Rattle.passes.specs.Tokens.{foundOf}
 use Rattle.passes.specs.declared.Found.the-variants.{At, Nothing}
 use Rattle.variables.specs.Bounded.{RangedBy}
+use Rattle.variables.specs.Places.{firstVar}
 use Rattle.variables.specs.declared.Declared.{Declared}
 use Rattle.loader.proofs.TokenSlices.{lexemes-length, lexemes-map}
 use Rattle.loader.proofs.TokensStand.{keep-byte, ill-ranged-byte, stuck-byte, stuck-end}
@@ -87,13 +88,13 @@ module _ {file : List ℕ} {ts : List Token} {kinds values places : List ℕ} (w
 
         module _ (names : misnamed (number 0) [] [] ts ≡ none) where
           -- 7
-          pub says-7 : (d : Declared) → RangedBy false (all (m .vars)) (lexemes ts) (key k-keep ∷ behindKeep m) 3 d
+          pub says-7 : (d : Declared) → RangedBy false (all (m .vars)) (lexemes ts) (key k-keep ∷ behindKeep m) firstVar d
               → check file ≡ refused (answer 7 (getD places (d .token) 0) 0)
           unfolding RangedBy
           says-7 d (i, t, at) =
               check-7 file (w .short) (w .cut) room tree few names (rw at (ill-ranged-byte ts m spelt w t))
 
-          pub no-7 : (d : Declared) → RangedBy true (all (m .vars)) (lexemes ts) (key k-keep ∷ behindKeep m) 3 d
+          pub no-7 : (d : Declared) → RangedBy true (all (m .vars)) (lexemes ts) (key k-keep ∷ behindKeep m) firstVar d
               → illRanged 1 (all (m .vars)) (placesOf k-var ts) ≡ none
           unfolding RangedBy
           no-7 d r = ill-ranged-good (placesOf k-var ts) (r .0 .good) (r .0 .few-states)

@@ -1,16 +1,16 @@
 -- What a scan's answer says of a file: refusals 1 and 2, or its tokens and how they are held.
-use Prim.Native.Nat.{ℕ, suc, _+_, _≤_, _<_}
+use Prim.Native.Nat.{ℕ, zero, suc, _+_, _≤_, _<_}
 use native.Mathlib.Omega.{arith}
 use mathlib.Core.Path.{_≡_, refl, sym, subst, _∙_}
-use mathlib.Core.List.{List, [], _∷_, List·Memᴰ, List·Memᴰ·head, List·Memᴰ·tail}
-use lib.ListN.{length, take}
+use mathlib.Core.List.{List, [], _∷_, map, List·Memᴰ, List·Memᴰ·head, List·Memᴰ·tail}
+use lib.ListN.{length, take, length-map}
 use lib.Dec.{ltb}
 use borrow.Author.Tests.{ltb-true, ltb-false, le-ltb}
 use Rattle.syntax.specs.Token.{Token}
 use Rattle.syntax.specs.Decide.Scan.{Tokens, tokens, none-at, tokenize}
 use Rattle.syntax.specs.Spelling.{Rising}
 use Rattle.syntax.proofs.Scanning.{token-stands, tokens-rise}
-use Rattle.syntax.specs.Held.Kind.{Words}
+use Rattle.syntax.specs.Held.Kind.{kindOf, valueOf, Words}
 use Rattle.meaning.specs.Answer.{answer, refused}
 use Rattle.meaning.specs.Decide.Check.{check}
 use Rattle.meaning.proofs.Stages.{check-1, check-2}
@@ -48,6 +48,27 @@ outcome file =
     go h (tokens ts) e = cut ts h e
     go h (none-at k) e = bad h e
 
+-- a part from the front, by how many elements it has
+pub record Part (n : ℕ) (xs : List ℕ) : Type 0 where
+  pub room : n ≤ length xs
+  pub long : n ≡ length (take n xs)
+
+short : (n : ℕ) (xs : List ℕ) → length (take n xs) ≤ length xs
+short zero xs = omega arith
+short (suc n) [] = omega arith
+short (suc n) (x ∷ xs) = omega (arith, short n xs)
+
+part : (f : Token → ℕ) (ts : List Token) (n : ℕ) (xs : List ℕ) → n ≡ length ts → take n xs ≡ map f ts → Part n xs
+part f ts n xs e t =
+    let long : n ≡ length (take n xs) = rw (t, length-map) e in
+    record { room = omega (arith, short n xs); long = long }
+
+pub record Counted (n : ℕ) (kinds values places : List ℕ) : Type 0 where
+  pub few : n ≤ 8192
+  pub in-kinds : Part n kinds
+  pub in-values : Part n values
+  pub in-places : Part n places
+
 module _ {file : List ℕ} {r : Scanned} {kinds values places : List ℕ} (s : Scans file r kinds values places) where
   outcome-of : {q : Scanned} → r ≡ q → Outcome file q
   outcome-of e = subst (Outcome file) (sym (s .answer) ∙ e) (outcome file)
@@ -76,3 +97,14 @@ module _ {file : List ℕ} {r : Scanned} {kinds values places : List ℕ} (s : S
       go (cut ts h c) =
           let answered : scannedOf file ≡ scanned.Tokens (length ts) = cc (le-ltb 8192 (length file) h) in
           (ts, refl, omega (arith, tokens-few file ts c), words h c (s .coded ts answered c))
+
+  -- each slice has as many elements as there are tokens
+  pub scanned-counted : (n : ℕ) → r ≡ scanned.Tokens n → Counted n kinds values places
+  scanned-counted n e =
+      let (ts, same, few, w) = scanned-tokens n e in
+      record {
+        few = few;
+        in-kinds = part (λ t. kindOf (t .lexeme)) ts n kinds same (w .by-kind);
+        in-values = part (λ t. valueOf (t .lexeme)) ts n values same (w .by-value);
+        in-places = part (λ t. t .at) ts n places same (w .by-place);
+      }

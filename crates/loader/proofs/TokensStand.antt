@@ -16,6 +16,7 @@ use Rattle.logic.proofs.Bools.{different}
 use Rattle.meaning.specs.Refusal.{Stands, upTo}
 use Rattle.meaning.proofs.KeywordPlaces.{behindKeep, spell-from, var-place, keep-place}
 use Rattle.variables.specs.Bounded.{EndsVars}
+use Rattle.variables.specs.Places.{firstVar}
 use Rattle.loader.proofs.TokenSlices.{lexemes-length}
 
 place-at : (front : List Token) (t : Token) (back : List Token) → getD (map (λ u. u .at) (front ++ (t ∷ back))) (length front) 0 ≡ t .at
@@ -29,10 +30,10 @@ stands-at s =
     rw (s .whole, ← s .passed, lexemes-length) (place-at (s .front) (s .token) (s .back) ∙ s .place)
 
 module _ (ts : List Token) (m : Monitor) (spelt : spell m ≡ lexemes ts) where
-  -- the variables begin at the fourth token, and `keep` is behind them
-  pub vars-stand : drop 3 (lexemes ts) ≡ each spellVar (all (m .vars)) ++ (key k-keep ∷ behindKeep m)
+  -- the variables begin at the fourth token, behind `monitor NAME {`, and `keep` is behind them
+  pub vars-stand : drop firstVar (lexemes ts) ≡ each spellVar (all (m .vars)) ++ (key k-keep ∷ behindKeep m)
   unfolding spell behindKeep
-  vars-stand = ap (drop 3) (sym spelt)
+  vars-stand = ap (drop firstVar) (sym spelt)
 
   pub vars-end : EndsVars (key k-keep ∷ behindKeep m)
   unfolding EndsVars
@@ -59,12 +60,12 @@ module _ (ts : List Token) (m : Monitor) (spelt : spell m ≡ lexemes ts) where
   -- 7: "byte of `var`"
   pub ill-ranged-byte : {file kinds values places : List ℕ} {i : ℕ} → Words file ts kinds values places → FirstIllRanged (all (m .vars)) i
       → illRanged 1 (all (m .vars)) (placesOf k-var ts)
-      ≡ some (getD places (3 + length (each spellVar (take i (all (m .vars))))) 0)
+      ≡ some (getD places (firstVar + length (each spellVar (take i (all (m .vars))))) 0)
   unfolding upTo
   ill-ranged-byte {i = i} w t =
       let vs = all (m .vars) in
       let front : take i vs ≡ t .before = ap (take i) (t .parts) ∙ take-at (t .before) (t .var ∷ t .after) i (t .place) in
-      let counted : 3 + length (each spellVar (take i vs)) ≡ length (upTo m (t .before)) = rw front (omega arith) in
+      let counted : firstVar + length (each spellVar (take i vs)) ≡ length (upTo m (t .before)) = rw front (omega arith) in
       ill-ranged-first (placesOf k-var ts) t
       ∙ ap {B = Option ℕ} some (sym (rw (w .by-place, counted, ← t .place) (stands-at (var-place ts m (sym spelt) (t .before) (t .var) (t .after) (t .parts)))))
 

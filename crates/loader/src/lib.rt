@@ -30,31 +30,6 @@ pub struct Loaded {
     pub layout: Layout,
 }
 
-fn no_bounds() -> Bounds {
-    Bounds {
-        lows: [1u16; 6],
-        highs: [0u16; 6],
-        starts: [128u16; 6],
-        weights: [1u16; 6],
-        count: 0,
-        states: 1,
-    }
-}
-
-fn no_layout() -> Layout {
-    Layout {
-        keep: 0,
-        regions: 0,
-        guards: 0,
-        guards_at: [0u16; 16],
-        bodies_at: [0u16; 16],
-        guard_of: [0u8; 16],
-        begins: [0u8; 16],
-        goes_on: [0u8; 16],
-        firsts: [0u8; 16],
-    }
-}
-
 // A place as an index; as a call it asks no proof that it fits.
 fn wide(x: u16) -> usize
     ensures { λ r. ⌜ r ≡ x ⌝ }
@@ -80,7 +55,7 @@ fn not_judged(number: u8, place: usize) -> Judged
     Judged {
         answer: answers::say(number, place, 0),
         keep: 0,
-        bounds: no_bounds(),
+        bounds: variables::no_bounds(),
     }
 }
 
@@ -101,7 +76,7 @@ fn judge(file: &[u8], kinds: &[u8], values: &[u16], places: &[u16]) -> Judged
     if let Found::At(k) = passes::find_misnamed(file, kinds, values, places) {
         return not_judged(6, wide(k));
     }
-    let declared = variables::read(kinds, values, 3);
+    let declared = variables::read(kinds, values, variables::FIRST);
     let token = declared.token;
     let bounds = declared.bounds;
     if !declared.ok {
@@ -179,22 +154,24 @@ fn not_loaded(answer: Answer) -> Loaded
 {
     Loaded {
         answer: answer,
-        bounds: no_bounds(),
-        layout: no_layout(),
+        bounds: variables::no_bounds(),
+        layout: layout::empty(0),
     }
 }
 
-// 3 to 9, over a file's tokens.
+// 3 to 9, over a file's tokens; into `operands` goes what the evaluator looks up at each.
 fn load_tokens(
     file: &[u8],
     kinds: &[u8],
-    values: &mut [u16],
+    values: &[u16],
     places: &[u16],
+    operands: &mut [u16],
     kept: &mut [u8],
     holds: &mut [u16],
     after: &mut [u16],
 ) -> Loaded
     ensures { λ r. ⌜ ((ts : List Token) → Words (now (file .entry)) ts (now (kinds .entry)) (now (values .entry)) (now (places .entry))
+        → length (now (operands .entry)) ≡ length ts
         → 4096 ≤ length (now (kept .entry)) → 4096 ≤ length (now (holds .entry)) → 65536 ≤ length (now (after .entry))
         → Loads (now (file .entry)) r (now (kept .exit)) (now (holds .exit)) (now (after .exit))) ⌝ }
 {
@@ -206,11 +183,11 @@ fn load_tokens(
     let keep = judged.keep;
     let bounds = judged.bounds;
     let layout = layout::lay_out(file, kinds, values, places, keep);
-    passes::resolve(file, kinds, values, places);
-    layout::link_braces(kinds, values);
+    passes::resolve(file, kinds, values, places, operands);
+    layout::link_braces(kinds, operands);
     let last = fill(
         kinds,
-        values,
+        operands,
         bounds,
         layout,
         place_of(places, keep, 0),
@@ -233,22 +210,19 @@ pub fn load(file: &[u8], kept: &mut [u8], holds: &mut [u16], after: &mut [u16]) 
     let mut kinds = [0u8; 8192];
     let mut values = [0u16; 8192];
     let mut places = [0u16; 8192];
+    let mut operands = [0u16; 8192];
     match scanner::scan(file, &mut kinds, &mut values, &mut places) {
         Scanned::TooLong => not_loaded(answers::say(1, 0, 0)),
         Scanned::Bad(k) => not_loaded(answers::say(2, k, 0)),
-        Scanned::Tokens(n) => {
-            if 8192 < n {
-                return not_loaded(answers::say(1, 0, 0));
-            }
-            load_tokens(
-                file,
-                &kinds[..n],
-                &mut values[..n],
-                &places[..n],
-                kept,
-                holds,
-                after,
-            )
-        }
+        Scanned::Tokens(n) => load_tokens(
+            file,
+            &kinds[..n],
+            &values[..n],
+            &places[..n],
+            &mut operands[..n],
+            kept,
+            holds,
+            after,
+        ),
     }
 }

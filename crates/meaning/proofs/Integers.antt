@@ -52,7 +52,7 @@ unfolding negative
 negative-cond true m n = refl
 negative-cond false m n = refl
 
-negative-difference : (m n : ℕ) → negative (pos m -ℤ pos n) ≡ ltb m n
+pub negative-difference : (m n : ℕ) → negative (pos m -ℤ pos n) ≡ ltb m n
 unfolding negative
 negative-difference m zero = sym (le-ltb m zero (omega arith))
 negative-difference m (suc n) = negative-cond (ltb m (suc n)) (suc n - suc m) (m - suc n)

@@ -45,6 +45,7 @@ fn show(file: &[u8], bytes: &[u8]) {
     let mut kinds = [0u8; 8192];
     let mut values = [0u16; 8192];
     let mut places = [0u16; 8192];
+    let mut operands = [0u16; 8192];
     let loaded = loader::load(file, &mut kept, &mut holds, &mut after);
     let answer = loaded.answer;
     let bounds = loaded.bounds;
@@ -68,8 +69,9 @@ fn show(file: &[u8], bytes: &[u8]) {
             bytes,
             loaded,
             &kinds[..n],
-            &mut values[..n],
+            &values[..n],
             &places[..n],
+            &mut operands[..n],
             &holds,
             &after,
             &entries,
@@ -80,9 +82,10 @@ fn show(file: &[u8], bytes: &[u8]) {
 // A file that is not cut into tokens (1, 2).
 fn show_uncut(file: &[u8], answer: Answer) {
     let kinds = [0u8; 1];
-    let mut values = [0u16; 1];
+    let values = [0u16; 1];
     let places = [0u16; 1];
-    refused::show(file, &kinds, &mut values, &places, answer);
+    let mut operands = [0u16; 1];
+    refused::show(file, &kinds, &values, &places, &mut operands, answer);
 }
 
 // A refused file; or an accepted one, and its trace.
@@ -91,15 +94,16 @@ fn show_tokens(
     bytes: &[u8],
     loaded: Loaded,
     kinds: &[u8],
-    values: &mut [u16],
+    values: &[u16],
     places: &[u16],
+    operands: &mut [u16],
     holds: &[u16; 4096],
     after: &[u16; 65536],
     entries: &[u8; 256],
 ) {
     let answer = loaded.answer;
     if answer.number != 0 {
-        refused::show(file, kinds, values, places, answer);
+        refused::show(file, kinds, values, places, operands, answer);
         return;
     }
     let bounds = loaded.bounds;

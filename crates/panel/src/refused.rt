@@ -296,9 +296,16 @@ fn print_line(answer: Answer) {
 }
 
 // A refused file, with the tokens into which it is cut, if it is. The names are told for 9 alone; the body is run again
-// to say what it does.
-pub(crate) fn show(file: &[u8], kinds: &[u8], values: &mut [u16], places: &[u16], answer: Answer) {
-    let declared = variables::read(kinds, values, 3);
+// to say what it does, with the operands that the evaluator looks up at the tokens.
+pub(crate) fn show(
+    file: &[u8],
+    kinds: &[u8],
+    values: &[u16],
+    places: &[u16],
+    operands: &mut [u16],
+    answer: Answer,
+) {
+    let declared = variables::read(kinds, values, variables::FIRST);
     let bounds = declared.bounds;
     let layout = layout::lay_out(file, kinds, values, places, declared.token);
     let sheet = names::read(kinds, values, places, bounds, layout);
@@ -309,10 +316,10 @@ pub(crate) fn show(file: &[u8], kinds: &[u8], values: &mut [u16], places: &[u16]
         let from = variables::values_of(bounds, answer.second);
         let bodies = layout.bodies_at;
         let at = names::of16(bodies, answer.first);
-        passes::resolve(file, kinds, values, places);
-        layout::link_braces(kinds, values);
+        passes::resolve(file, kinds, values, places, operands);
+        layout::link_braces(kinds, operands);
         let lanes = in_first_lane(from);
-        let ran = evaluator::run_body(kinds, values, lows, highs, lanes, at);
+        let ran = evaluator::run_body(kinds, operands, lows, highs, lanes, at);
         print_body(file, sheet, answer, from, ran);
         print_end(file, sheet, answer);
         return;

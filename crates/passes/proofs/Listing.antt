@@ -1,4 +1,4 @@
--- The names that stand behind a keyword, as `declared` holds them; the variables of a file; and the values with each name's slot in place of its length.
+-- The names that stand behind a keyword, as `declared` holds them; the variables of a file; and the operands: each name's slot, and any other token's value.
 use Prim.Native.Nat.{ℕ, _+_, _≤_, _<_}
 use native.Mathlib.Omega.{arith}
 use mathlib.Core.Path.{_≡_, refl, ap, _∙_}
@@ -6,7 +6,7 @@ use mathlib.Core.Bool.{Bool, true, false, _&&_}
 use mathlib.Core.List.{List, [], _∷_, _++_, append-nil, append-assoc, map, map-append}
 use mathlib.Core.Option.{none}
 use lib.ListN.{length, take, drop, getD, set, length-append, length-map, drop-of-length-le}
-use lib.Seq.{length-take-le, take-all, set-at, append-snoc, getD-at}
+use lib.Seq.{length-take-le, take-all, set-at, append-snoc}
 use lib.Dec.{eqb}
 use Rattle.syntax.specs.Token.{Lexeme, name, key, number, mark, Token, k-var, Keyword, keywordNumber, isKey, isName}
 use Rattle.syntax.specs.Held.Kind.{kindOf, valueOf, Words}
@@ -15,7 +15,7 @@ use Rattle.meaning.specs.Decide.Check.{tally, pastLimit}
 use Rattle.passes.specs.declared.Names.{Names}
 use Rattle.passes.specs.Tokens.{titlesOf, titlesFrom, slotOrValue, Stands, Titles, Resolved, Grows}
 use Rattle.passes.specs.Kinds.{kind-name, kind-key}
-use Rattle.passes.proofs.ByIndex.{rest-at, tokenAt, kinds-long, values-long, value-at, kind-at, here, front-more, at-end, tally-least, Few, few-first, few-next, room}
+use Rattle.passes.proofs.ByIndex.{rest-at, tokenAt, kinds-long, value-at, kind-at, here, front-more, at-end, tally-least, Few, few-first, few-next, room}
 use Rattle.passes.proofs.Naming.{name-stands}
 
 -- Names behind a keyword
@@ -99,35 +99,30 @@ pub listing-last : {file : List ℕ} {ts : List Token} {kinds values places : Li
 unfolding titlesFrom
 listing-last h {i = i} s l = rw (s .so-far, at-end h i l, append-nil) (s .held)
 
--- The values, resolved as far as an index
+-- The operands, filled as far as an index
 
-module _ {file : List ℕ} {ts : List Token} {kinds values places : List ℕ} (h : Words file ts kinds values places) (now : List ℕ) (i : ℕ) where
+module _ {file : List ℕ} {ts : List Token} {kinds values places : List ℕ} (h : Words file ts kinds values places) (first now : List ℕ)
+    (long : length first ≡ length ts) (i : ℕ) where
   abbrev value : Token → ℕ
   value t = slotOrValue (titlesOf ts) (t .lexeme)
 
-  module _ (l : i < length kinds) (so-far : now ≡ map value (take i ts) ++ drop i values) where
-    split-now : now ≡ map value (take i ts) ++ getD values i 0 ∷ drop (i + 1) values
-    split-now = so-far ∙ ap (λ (r : List ℕ). map value (take i ts) ++ r) (rest-at values i 0 (omega (arith, values-long h)))
-
+  module _ (l : i < length kinds) (so-far : now ≡ map value (take i ts) ++ drop i first) where
     front-long : length (map value (take i ts)) ≡ i
     front-long = length-map (take i ts) value ∙ length-take-le i ts (omega (arith, kinds-long h))
 
-    value-now : getD now i 0 ≡ getD values i 0
-    value-now = rw split-now (getD-at (map value (take i ts)) (getD values i 0) (drop (i + 1) values) 0 i front-long)
-
     pub resolved-next : {vars : Names} {r : ℕ} → Titles file (titlesOf ts) vars
-        → ((titles : List (List ℕ)) (l : Lexeme) → Titles file titles vars → getD kinds i 0 ≡ kindOf l → getD now i 0 ≡ valueOf l
-        → ((x : List ℕ) → l ≡ name x → Stands file x (getD places i 0) (getD now i 0)) → r ≡ slotOrValue titles l)
-        → set now i r ≡ map value (take (i + 1) ts) ++ drop (i + 1) values
+        → ((titles : List (List ℕ)) (l : Lexeme) → Titles file titles vars → getD kinds i 0 ≡ kindOf l → getD values i 0 ≡ valueOf l
+        → ((x : List ℕ) → l ≡ name x → Stands file x (getD places i 0) (getD values i 0)) → r ≡ slotOrValue titles l)
+        → set now i r ≡ map value (take (i + 1) ts) ++ drop (i + 1) first
     resolved-next {r = r} t d =
-        let e : r ≡ value (tokenAt ts i) =
-        d (titlesOf ts) (tokenAt ts i .lexeme) t (kind-at h i) (value-now ∙ value-at h i) (λ x q. rw value-now (name-stands h i l x q))
-        in
+        let e : r ≡ value (tokenAt ts i) = d (titlesOf ts) (tokenAt ts i .lexeme) t (kind-at h i) (value-at h i) (name-stands h i l) in
         let f = map value (take i ts) in
-        ap (λ (v : List ℕ). set v i r) split-now ∙ set-at f (getD values i 0) (drop (i + 1) values) r i front-long
+        ap (λ (v : List ℕ). set v i r)
+        (so-far ∙ ap (λ (r : List ℕ). f ++ r) (rest-at first i 0 (omega (arith, kinds-long h))))
+        ∙ set-at f (getD first i 0) (drop (i + 1) first) r i front-long
         ∙ rw (front-more h i l, map-append, append-snoc, e)
 
-  pub resolved-last : length kinds ≤ i → now ≡ map value (take i ts) ++ drop i values → Resolved ts now
+  pub resolved-last : length kinds ≤ i → now ≡ map value (take i ts) ++ drop i first → Resolved ts now
   unfolding Resolved
   resolved-last l e =
-      e ∙ rw (take-all i ts (omega (arith, kinds-long h)), drop-of-length-le values {i = i} (omega (arith, values-long h)), append-nil)
+      e ∙ rw (take-all i ts (omega (arith, kinds-long h)), drop-of-length-le first {i = i} (omega (arith, kinds-long h)), append-nil)

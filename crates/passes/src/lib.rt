@@ -4,6 +4,7 @@ ghost use mathlib.Core.Bool.{_&&_, _||_};
 ghost use Prim.Native.Nat.{ℕ, _+_, _≤_, _<_};
 ghost use mathlib.Core.List.{List, []};
 ghost use mathlib.Core.Option.{none};
+ghost use lib.ListN.{length};
 ghost use lib.Dec.{leb, eqb};
 ghost use Rattle.syntax.specs.Bytes.{sameBytes};
 ghost use Rattle.syntax.specs.Token.{Token, Lexeme, name, number, k-var, k-method, k-waituntil, isKey};
@@ -312,10 +313,10 @@ fn slot_or_value(file: &[u8], vars: Names, kind: u8, start: u16, value: u16) -> 
     value
 }
 
-// Each name's slot takes the place of its length.
-pub fn resolve(file: &[u8], kinds: &[u8], values: &mut [u16], places: &[u16])
+// What the evaluator looks up at each token: a name's slot among the variables, and any other token's value.
+pub fn resolve(file: &[u8], kinds: &[u8], values: &[u16], places: &[u16], operands: &mut [u16])
     ensures { λ _. ⌜ ((ts : List Token) → Words (now (file .entry)) ts (now (kinds .entry)) (now (values .entry)) (now (places .entry))
-        → pastLimit 0 0 0 ts ≡ none → misnamed (number 0) [] [] ts ≡ none → Resolved ts (now (values .exit))) ⌝ }
+        → pastLimit 0 0 0 ts ≡ none → length (now (operands .entry)) ≡ length ts → Resolved ts (now (operands .exit))) ⌝ }
 {
     if values.len() != kinds.len() {
         return;
@@ -323,11 +324,13 @@ pub fn resolve(file: &[u8], kinds: &[u8], values: &mut [u16], places: &[u16])
     if places.len() != kinds.len() {
         return;
     }
+    if operands.len() != kinds.len() {
+        return;
+    }
     let vars = variables(kinds, values, places);
     let mut i = 0;
     while i < kinds.len() {
-        let value = values[i];
-        values[i] = slot_or_value(file, vars, kinds[i], places[i], value);
+        operands[i] = slot_or_value(file, vars, kinds[i], places[i], values[i]);
         i += 1;
     }
 }

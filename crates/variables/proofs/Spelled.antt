@@ -9,6 +9,7 @@ use Rattle.syntax.specs.Held.Kind.{kindOf}
 use Rattle.syntax.specs.Tree.{Int, plain, negated, Var, spellInt, spellVar}
 use Rattle.meaning.specs.Value.{intOf}
 use Rattle.variables.specs.Bounded.{Numbers}
+use Rattle.variables.specs.Places.{toStart, plainLong, negatedLong}
 use Rattle.variables.proofs.Offsets.{pos-shifted, neg-shifted}
 use Rattle.variables.specs.Promises.{SpelledInt, IntAt, SpelledVar}
 use Rattle.variables.specs.declared.Integer.{Integer}
@@ -29,13 +30,13 @@ module _ {ls : List Lexeme} {kinds values : List ℕ} (held : Numbers ls kinds v
 
   module _ (rest : List Lexeme) (at : ℕ) where
     pub minus-int : (n : Int) → drop at ls ≡ spellInt n ++ rest → getD kinds at 0 ≡ 15
-        → SpelledInt ls rest n at (record { value = 65536 - getD values (at + 1) 0; next = at + 2 })
+        → SpelledInt ls rest n at (record { value = 65536 - getD values (at + 1) 0; next = at + negatedLong })
     unfolding spellInt intOf kindOf markNumber
     minus-int (plain n) e k = absurd (omega (arith, kind-is at (number n) rest e))
     minus-int (negated n) e k =
         let one : drop (at + 1) ls ≡ number n ∷ rest = drop-next ls at (mark minus) (number n ∷ rest) e in
         let v = value-is (at + 1) n rest one in
-        let two : at + 1 + 1 ≡ at + 2 = omega arith in
+        let two : at + 1 + 1 ≡ at + negatedLong = omega arith in
         record {
           held = rw (v .0) (neg-shifted 65536 n (omega arith));
           behind = ap (λ (i : ℕ). drop i ls) (sym two) ∙ drop-next ls (at + 1) (number n) rest one;
@@ -43,7 +44,7 @@ module _ {ls : List Lexeme} {kinds values : List ℕ} (held : Numbers ls kinds v
         }
 
     pub plain-int : (n : Int) → drop at ls ≡ spellInt n ++ rest → (getD kinds at 0 ≡ 15 → ⊥)
-        → SpelledInt ls rest n at (record { value = 65536 + getD values at 0; next = at + 1 })
+        → SpelledInt ls rest n at (record { value = 65536 + getD values at 0; next = at + plainLong })
     unfolding spellInt intOf kindOf markNumber
     plain-int (plain n) e k =
         let v = value-is at n rest e in
@@ -56,7 +57,7 @@ module _ {ls : List Lexeme} {kinds values : List ℕ} (held : Numbers ls kinds v
 
   -- a variable, from its three integers
   module _ (v : Var) (rest : List Lexeme) (at : ℕ) (e : drop at ls ≡ spellVar v ++ rest) (start low high : Integer)
-      (r₁ : IntAt kinds values (at + 3) start) (r₂ : IntAt kinds values (start .next + 1) low)
+      (r₁ : IntAt kinds values (at + toStart) start) (r₂ : IntAt kinds values (start .next + 1) low)
       (r₃ : IntAt kinds values (low .next + 1) high) where
     abbrev after-high : List Lexeme
     after-high = mark semicolon ∷ rest
@@ -71,9 +72,9 @@ module _ {ls : List Lexeme} {kinds values : List ℕ} (held : Numbers ls kinds v
     unfolding spellVar
     parts = simp append-assoc
 
-    begins : drop (at + 3) ls ≡ spellInt (v .start) ++ after-start
+    begins : drop (at + toStart) ls ≡ spellInt (v .start) ++ after-start
     begins =
-        let three : at + 3 ≡ at + 1 + 1 + 1 = omega arith in
+        let three : at + toStart ≡ at + 1 + 1 + 1 = omega arith in
         let d₁ = drop-next ls at _ _ (e ∙ parts) in
         let d₂ = drop-next ls (at + 1) _ _ d₁ in
         ap (λ (i : ℕ). drop i ls) three ∙ drop-next ls (at + 1 + 1) _ _ d₂

@@ -11,8 +11,8 @@ use Rattle.syntax.specs.Tree.{Int, Var, spellInt, spellVar}
 use Rattle.meaning.specs.Value.{intOf}
 use Rattle.meaning.specs.State.{count}
 use Rattle.meaning.specs.Accepted.{GoodRanges}
-use Rattle.variables.specs.Bounded.{Shifted}
-use Rattle.variables.specs.Bounded.{Numbers}
+use Rattle.variables.specs.Bounded.{Shifted, Numbers}
+use Rattle.variables.specs.Places.{negatedLong}
 use Rattle.variables.specs.declared.Bounds.{Bounds}
 use Rattle.variables.specs.declared.Integer.{Integer}
 use Rattle.variables.specs.declared.Triple.{Triple}
@@ -26,7 +26,7 @@ pub record SpelledInt (ls rest : List Lexeme) (n : Int) (at : ℕ) (r : Integer)
 
 pub record IntAt (kinds values : List ℕ) (at : ℕ) (r : Integer) : Type 0 where
   pub further : at < r .next
-  pub near : r .next ≤ at + 2
+  pub near : r .next ≤ at + negatedLong
   pub spelled : (ls rest : List Lexeme) (n : Int) → Numbers ls kinds values → drop at ls ≡ spellInt n ++ rest → SpelledInt ls rest n at r
 
 -- the start value and the bounds of a variable

@@ -35,6 +35,20 @@ const MINUS: u8 = 15;
 
 const VAR: u8 = 20;
 
+// The token at which a file's variables begin: behind `monitor NAME {`.
+pub const FIRST: usize = 3;
+
+// How many tokens behind `var` a variable's start value begins: `var NAME =`.
+const TO_START: usize = 3;
+
+// One token: the minus of a number, and what stands behind an integer of a variable, `in`, `..` or `;`.
+const MARK: usize = 1;
+
+// How many tokens an integer has, without a minus and with one.
+const PLAIN: usize = 1;
+
+const NEGATED: usize = 2;
+
 // What is added to an integer so that it is never below 0.
 const OFFSET: u32 = 65536;
 
@@ -78,13 +92,13 @@ fn int_at(kinds: &[u8], values: &[u16], at: usize) -> Integer
 {
     if kind_at(kinds, at) == MINUS {
         Integer {
-            value: OFFSET - value_at(values, at + 1) as u32,
-            next: at + 2,
+            value: OFFSET - value_at(values, at + MARK) as u32,
+            next: at + NEGATED,
         }
     } else {
         Integer {
             value: OFFSET + value_at(values, at) as u32,
-            next: at + 1,
+            next: at + PLAIN,
         }
     }
 }
@@ -94,14 +108,14 @@ fn triple_at(kinds: &[u8], values: &[u16], at: usize) -> Triple
     requires { ⌜ at < 2 ^ 63 ⌝ }
     ensures { λ r. ⌜ TripleAt (now (kinds .entry)) (now (values .entry)) at r ⌝ }
 {
-    let start = int_at(kinds, values, at + 3);
-    let low = int_at(kinds, values, start.next + 1);
-    let high = int_at(kinds, values, low.next + 1);
+    let start = int_at(kinds, values, at + TO_START);
+    let low = int_at(kinds, values, start.next + MARK);
+    let high = int_at(kinds, values, low.next + MARK);
     Triple {
         start: start.value,
         low: low.value,
         high: high.value,
-        next: high.next + 1,
+        next: high.next + MARK,
     }
 }
 
@@ -129,7 +143,7 @@ fn fits(states: usize, v: Triple) -> bool
 }
 
 // No variables: slots without a variable have an empty range, and 0 as their start value.
-fn no_bounds() -> Bounds
+pub fn no_bounds() -> Bounds
     ensures { λ r. ⌜ Loaded [] r ⌝ }
 {
     Bounds {

@@ -28,9 +28,6 @@ loop-holds c =
       record { room = s .pre .2; keep-kept = refl; forth = omega arith; within = s .pre .1 },
     )
 
-kind-at-requires : tie.Need-kind-at-requires Inv-loop μ-loop
-kind-at-requires c κs = tt
-
 -- in a turn `waituntil` stands there
 waits : (q : tie.Then1 Inv-loop μ-loop) → getD (q .before .before .before .before .before .before .before .args .kinds .now) (q .before .before .loop .i) 255 ≡ 24
 waits q = sym (q .before .kind-at .ensures) ∙ q .if1 .taken
@@ -41,7 +38,7 @@ returns c =
     let a = q .before .before .before .before .before .args in (
       q .loop .inv .1,
       λ ts done qs us w small h few stands.
-          ahead-full (a .file .now) ts (a .kinds .now) (a .values .now) (a .places .now) w done qs us (q .loop .so-far) (q .loop .i) (q .loop .begins) (q .loop .inv .0 ts done qs us w small h few stands)
+          ahead-full w done qs us (q .loop .so-far) (q .loop .i) (q .loop .begins) (q .loop .inv .0 ts done qs us w small h few stands)
           (waits (c .before .before)) (c .if2 .taken),
     )
 
@@ -64,7 +61,7 @@ loop-again c =
     let r = c .before .add-region in
     let g = q .loop .inv .1 in (
       λ ts done qs us w small h few stands.
-          ahead-turn (a .file .now) ts (a .kinds .now) (a .values .now) (a .places .now) w done qs us (q .loop .so-far) (q .loop .i) (q .loop .begins) (r .result)
+          ahead-turn w done qs us (q .loop .so-far) (q .loop .i) (q .loop .begins) (r .result)
           (q .loop .inv .0 ts done qs us w small h few stands) small (waits (c .before .before .before .before)) (r .ensures .3),
       record {
         room = r .ensures .0 .room;
@@ -80,7 +77,7 @@ returns-2 c =
     let a = q .before .before .before .before .before .args in (
       q .loop .inv .1,
       λ ts done qs us w small h few stands.
-          ahead-over (a .file .now) ts (a .kinds .now) (a .values .now) (a .places .now) w done qs us (q .loop .so-far) (q .loop .i) (q .loop .begins) (q .loop .inv .0 ts done qs us w small h few stands)
+          ahead-over w done qs us (q .loop .so-far) (q .loop .i) (q .loop .begins) (q .loop .inv .0 ts done qs us w small h few stands)
           (λ e. c .if1 .left (c .before .kind-at .ensures ∙ e)),
     )
 
@@ -91,7 +88,7 @@ add-method-spec =
     Inv-loop
     μ-loop
     loop-holds
-    kind-at-requires
+    (λ c κs. tt)
     returns
     add-region-requires
     loop-less

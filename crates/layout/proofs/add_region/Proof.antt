@@ -7,6 +7,7 @@ use mathlib.Core.Logic.{inl, inr, ⊎-elim}
 use mathlib.Core.List.{map}
 use lib.ListN.{length, drop}
 use Rattle.syntax.specs.Token.{lexemes}
+use Rattle.layout.specs.Places.{toGuard, toBody, past}
 use Rattle.layout.specs.Promises.{flagAt}
 use Rattle.layout.specs.Closing.{closeFrom}
 use Rattle.syntax.specs.Held.Kind.{kindOf}
@@ -19,55 +20,37 @@ use Rattle.layout.proofs.add_region.Statement.{statement}
 use Rattle.layout.proofs.add_region.Tie as tie
 
 -- the guard's closing bracket
-bracket : (q : tie.After-closing) → (q .closing .result ≤ length (q .before .before .before .before .before .args .kinds .now) + 1) × (q .before .before .before .before .before .args .at + 2 ≤ q .closing .result)
+bracket : (q : tie.After-closing) → (q .closing .result ≤ length (q .before .before .before .before .before .args .kinds .now) + 1) × (q .before .before .before .before .before .args .at + toGuard ≤ q .closing .result)
 bracket q =
     let a = q .before .before .before .before .before .args in
     let ks = a .kinds .now in
     let e = q .closing .ensures in
-    let w = close-within 2 3 (a .at + 2) ks (length ks + 1) (omega (arith, q .before .before .before .before .before .pre .1)) (omega arith) in
+    let w = close-within 2 3 (a .at + toGuard) ks (length ks + 1) (omega (arith, q .before .before .before .before .before .pre .1)) (omega arith) in
     (omega (arith, e, w), omega (arith, e))
 
 -- the body's closing brace
 brace : (q : tie.After-closing2)
     → (q .closing2 .result ≤ length (q .before .before .before .before .before .before .args .kinds .now) + 3) × (q .before .before .before .before .before .before .args .at + 4 ≤ q .closing2 .result)
-    × (q .before .closing .result + 2 ≡ bodyOf (q .before .before .before .before .before .before .args .kinds .now) (q .before .before .before .before .before .before .args .at))
-    × (q .closing2 .result + 1 ≡ nextOf (q .before .before .before .before .before .before .args .kinds .now) (q .before .before .before .before .before .before .args .at))
+    × (q .before .closing .result + toBody ≡ bodyOf (q .before .before .before .before .before .before .args .kinds .now) (q .before .before .before .before .before .before .args .at))
+    × (q .closing2 .result + past ≡ nextOf (q .before .before .before .before .before .before .args .kinds .now) (q .before .before .before .before .before .before .args .at))
 brace q =
     let a = q .before .before .before .before .before .before .args in
     let ks = a .kinds .now in
     let b = bracket (q .before) in
     let e = q .closing2 .ensures in
-    let body : q .before .closing .result + 2 ≡ bodyOf ks (a .at) = ap (λ n. n + 2) (q .before .closing .ensures) in
-    let w = close-within 0 1 (q .before .closing .result + 2) ks (length ks + 3) (omega (arith, b .0)) (omega arith) in
-    (omega (arith, e, w), omega (arith, e, b .1), body, ap (λ n. n + 1) (e ∙ ap (λ n. n + closeFrom 0 1 0 (drop n ks)) body))
+    let body : q .before .closing .result + toBody ≡ bodyOf ks (a .at) = ap (λ n. n + toBody) (q .before .closing .ensures) in
+    let w = close-within 0 1 (q .before .closing .result + toBody) ks (length ks + 3) (omega (arith, b .0)) (omega arith) in
+    (omega (arith, e, w), omega (arith, e, b .1), body, ap (λ n. n + past) (e ∙ ap (λ n. n + closeFrom 0 1 0 (drop n ks)) body))
 
 -- a guard's number is new or known
 numbered-as : (q : tie.Joined1) → Numbered (q .before .before .before .before .before .before .before .before .before .args .layout) (q .before .before .guard-number .result) (q .if1 .numbered)
 numbered-as q = ⊎-elim (λ w. inl (w .0 .taken, w .2 ∙ w .1 .ensures)) (λ w. inr (w .0 .left, w .1)) (q .if1 .came)
 
-add-guard-at : tie.Need-add-guard-at
-add-guard-at c = search needs
-
-closing-requires : tie.Need-closing-requires
-closing-requires c κs = search needs
-
 add-body-at : tie.Need-add-body-at
 add-body-at c = let b = bracket c in omega (arith, b .0)
 
-closing-requires-2 : tie.Need-closing-requires-2
-closing-requires-2 c κs = search needs
-
 add-next : tie.Need-add-next
 add-next c = let b = brace c in omega (arith, b .0)
-
-guard-number-requires : tie.Need-guard-number-requires
-guard-number-requires c κs = search needs
-
-with-guard-requires : tie.Need-with-guard-requires
-with-guard-requires c κs = search needs
-
-held-requires : tie.Need-held-requires
-held-requires c κs = search needs
 
 held-requires-2 : tie.Need-held-requires-2
 held-requires-2 c κs = search needs
@@ -102,14 +85,14 @@ returns c =
       omega (arith, b .1),
       rw e (ap (λ n. n + 1) (same .0)),
       λ ts done q us w few h at-q.
-          let there = spelled (a .file .now) ts ks (a .values .now) (a .places .now) w (a .at) q us at-q in
+          let there = spelled w (a .at) q us at-q in
           let long = lexemes-length ts in
-          let guard : c .before .before .before .held .result ≡ a .at + 2 =
+          let guard : c .before .before .before .held .result ≡ a .at + toGuard =
           c .before .before .before .held .ensures ∙ omega (arith, there .guard-low) in
           let body : c .before .before .held2 .result ≡ bodyOf ks (a .at) =
           c .before .before .held2 .ensures ∙ ap (λ n. n % 65536) (b .2) ∙ omega (arith, there .body-low) in
-          let behind : drop (c .before .before .before .before .before .before .before .closing2 .result + 1) (lexemes ts) ≡ us = rw (b .3) (there .behind) in
-          let flags = c .before .flag .ensures ∙ flag-behind (a .file .now) ts ks (a .values .now) (a .places .now) w _ us behind in
+          let behind : drop (c .before .before .before .before .before .before .before .closing2 .result + past) (lexemes ts) ≡ us = rw (b .3) (there .behind) in
+          let flags = c .before .flag .ensures ∙ flag-behind w _ us behind in
           record {
             holds = rw (e, guard, body, flags)
                 (numbered-holds (a .layout) _ _ (numbered-as j) (lexemes ts) done
@@ -124,14 +107,14 @@ pub add-region-spec : {M : Type 1} → statement M
 add-region-spec =
     tie.close
     (tie.spec
-    add-guard-at
-    closing-requires
+    (λ c. search needs)
+    (λ c κs. search needs)
     add-body-at
-    closing-requires-2
+    (λ c κs. search needs)
     add-next
-    guard-number-requires
-    with-guard-requires
-    held-requires
+    (λ c κs. search needs)
+    (λ c κs. search needs)
+    (λ c κs. search needs)
     held-requires-2
     cast-with-region
     flag-requires

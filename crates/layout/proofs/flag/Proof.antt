@@ -7,9 +7,6 @@ use Rattle.layout.specs.Promises.{flagAt}
 use Rattle.layout.proofs.flag.Statement.{statement}
 use Rattle.layout.proofs.flag.Tie as tie
 
-kind-at-requires : tie.Need-kind-at-requires
-kind-at-requires c κs = search needs
-
 returns : tie.Need-returns
 unfolding flagAt bit
 returns c = rw (eq-eqb _ 24 (sym (c .before .kind-at .ensures) ∙ c .if1 .taken), bit)
@@ -19,4 +16,4 @@ unfolding flagAt bit
 returns-2 c = rw (ne-eqb _ 24 (λ e. c .if1 .left (c .before .kind-at .ensures ∙ e)), bit)
 
 pub flag-spec : {M : Type 1} → statement M
-flag-spec = tie.close (tie.spec kind-at-requires returns returns-2)
+flag-spec = tie.close (tie.spec (λ c κs. search needs) returns returns-2)

@@ -28,18 +28,6 @@ element-copy-out-small : tie.Need-element-copy-out-small Inv-loop μ-loop
 element-copy-out-small c =
     let room = c .before .before .before .before .before .before .pre .1 in omega (arith, room .few-guards, room .few-regions)
 
-small-requires : tie.Need-small-requires Inv-loop μ-loop
-small-requires c κs = tt
-
-mul-wide : tie.Need-mul-wide Inv-loop μ-loop
-mul-wide c = omega arith
-
-element-copy-out-wide : tie.Need-element-copy-out-wide Inv-loop μ-loop
-element-copy-out-wide c = omega arith
-
-wide-requires : tie.Need-wide-requires Inv-loop μ-loop
-wide-requires c κs = tt
-
 same-guard-requires : tie.Need-same-guard-requires Inv-loop μ-loop
 same-guard-requires c κs = c .before .before .before .before .before .before .before .before .before .before .pre .0
 
@@ -58,11 +46,11 @@ compared q ts done d w h at-d =
     let g = q .before .before .before .before .before .before .loop .g in
     let low : g < length (found done) = omega (arith, q .before .before .before .before .before .loop-test .taken, h .guard-count) in
     let first : q .before .before .before .small .result % 16 ≡ getD (l .firsts) g 0 =
-    ap (λ n. n % 16) (q .before .before .before .small .ensures) ∙ first-small (lexemes ts) done l h d g low (s .pre .1) in
+    ap (λ n. n % 16) (q .before .before .before .small .ensures) ∙ first-small h d g low (s .pre .1) in
     let other : q .before .wide .result ≡ getD (l .«guards_at») (getD (l .firsts) g 0) 0 =
     q .before .wide .ensures .0 ∙ ap (λ n. getD (l .«guards_at») n 0) first in
     let there : GuardAt (lexemes ts) (q .before .wide .result) (getD done (getD (l .firsts) g 0) noFlagged .region .guard) =
-    rw other (first-stands (lexemes ts) done l h d g low) in
+    rw other (first-stands h d g low) in
     (low, q .same-guard .ensures ts d _ w at-d there)
 
 returns : tie.Need-returns Inv-loop μ-loop
@@ -71,21 +59,15 @@ returns c = (
   λ ts done d w h at-d.
       let q = c .before .before .before .before .before .before .before in
       let e = compared (c .before) ts done d w h at-d in
-      number-here (lexemes ts) done (q .before .before .before .before .before .args .t5) h d (q .loop .g) (e .0) (sym (e .1) ∙ c .if1 .taken) ∙ q .loop .inv .0 ts done d w h at-d,
+      number-here h d (q .loop .g) (e .0) (sym (e .1) ∙ c .if1 .taken) ∙ q .loop .inv .0 ts done d w h at-d,
 )
-
-add-g : tie.Need-add-g Inv-loop μ-loop
-add-g c = omega arith
-
-loop-less : tie.Need-loop-less Inv-loop μ-loop
-loop-less c = omega arith
 
 loop-again : tie.Need-loop-again Inv-loop μ-loop
 loop-again c = (
   λ ts done d w h at-d.
       let q = c .before .before .before .before .before .before .before in
       let e = compared (c .before) ts done d w h at-d in
-      number-later (lexemes ts) done (q .before .before .before .before .before .args .t5) h d (q .loop .g) (e .0) (sym (e .1) ∙ c .if1 .left) ∙ q .loop .inv .0 ts done d w h at-d,
+      number-later h d (q .loop .g) (e .0) (sym (e .1) ∙ c .if1 .left) ∙ q .loop .inv .0 ts done d w h at-d,
   omega arith,
 )
 
@@ -94,7 +76,7 @@ returns-2 c = (
   omega arith,
   λ ts done d w h at-d.
       let q = c .before in
-      number-over (lexemes ts) done (q .before .before .before .before .before .args .t5) h d (q .loop .g) (omega (arith, h .guard-count, c .loop-test .left)) ∙ q .loop .inv .0 ts done d w h at-d,
+      number-over h d (q .loop .g) (omega (arith, h .guard-count, c .loop-test .left)) ∙ q .loop .inv .0 ts done d w h at-d,
 )
 
 pub guard-number-spec : {M : Type 1} → statement M
@@ -105,13 +87,13 @@ guard-number-spec =
     μ-loop
     loop-holds
     element-copy-out-small
-    small-requires
-    mul-wide
-    element-copy-out-wide
-    wide-requires
+    (λ c κs. tt)
+    (λ c. omega arith)
+    (λ c. omega arith)
+    (λ c κs. tt)
     same-guard-requires
     returns
-    add-g
-    loop-less
+    (λ c. omega arith)
+    (λ c. omega arith)
     loop-again
     returns-2)

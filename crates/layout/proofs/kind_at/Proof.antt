@@ -6,9 +6,6 @@ use Rattle.layout.proofs.Closes.{getD-below}
 use Rattle.layout.proofs.kind_at.Statement.{statement}
 use Rattle.layout.proofs.kind_at.Tie as tie
 
-shared-slice-read-result : tie.Need-shared-slice-read-result
-shared-slice-read-result c = search needs
-
 returns : tie.Need-returns
 returns c = getD-below (c .before .before .args .kinds .now) (c .before .before .args .at) 0 255 (c .before .if1 .taken)
 
@@ -16,4 +13,4 @@ returns-2 : tie.Need-returns-2
 returns-2 c = sym (List·getD-eq-default (c .before .args .kinds .now) 255 (c .if1 .left))
 
 pub kind-at-spec : {M : Type 1} → statement M
-kind-at-spec = tie.close (tie.spec shared-slice-read-result returns returns-2)
+kind-at-spec = tie.close (tie.spec (λ c. search needs) returns returns-2)

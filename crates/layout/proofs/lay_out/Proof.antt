@@ -1,5 +1,5 @@
 -- `layout::lay_out` meets its contract. The loop's invariant: the regions held and those of the methods ahead make up the file's.
-use Prim.Native.Nat.{_+_, _-_, _≤_, _<_}
+use Prim.Native.Nat.{ℕ, _+_, _-_, _≤_, _<_}
 use native.Mathlib.Omega.{arith}
 use mathlib.Core.Path.{_≡_, sym, ap, _∙_}
 use mathlib.Core.List.{List}
@@ -7,6 +7,7 @@ use lib.ListN.{length, getD}
 use Rattle.syntax.specs.Token.{Token, lexemes}
 use Rattle.syntax.specs.Tree.{Monitor, all, spell}
 use Rattle.meaning.specs.Model.{regions}
+use Rattle.layout.specs.Places.{toKept, past}
 use Rattle.layout.specs.Laid.{IsKeep}
 use Rattle.syntax.specs.Held.Kind.{Words}
 use Rattle.layout.specs.Promises.{Room}
@@ -20,88 +21,72 @@ abbrev Inv-loop : tie.InvT-loop
 Inv-loop file kinds values places keep layout₀ i₀ layout i =
     ((m : Monitor) (ts : List Token) → Words file ts kinds values places → spell m ≡ lexemes ts → length (regions m) ≤ 16
     → length ts ≤ 1024 → IsKeep m ts keep → AheadAll (lexemes ts) (all (m .methods)) layout i)
-    × Room layout × (layout .keep ≡ keep + 1)
+    × Room layout × (layout .keep ≡ keep + toKept)
 
 abbrev μ-loop : tie.MeasureT-loop
 μ-loop file kinds values places keep layout₀ i₀ layout i = length kinds - i
 
-empty-requires : tie.Need-empty-requires Inv-loop μ-loop
-empty-requires c κs = tt
-
 returns : tie.Need-returns Inv-loop μ-loop
 returns c =
     let a = c .before .before .before .before .before .before .args in
-    λ m ts w e few small k. absurd (omega (arith, c .before .if1 .taken, keep-below (a .file .now) m ts (a .kinds .now) (a .values .now) (a .places .now) w e (a .keep) k))
-
-empty-requires-2 : tie.Need-empty-requires-2 Inv-loop μ-loop
-empty-requires-2 c κs = tt
+    λ m ts w e few small k. absurd (omega (arith, c .before .if1 .taken, keep-below m w e (a .keep) k))
 
 returns-2 : tie.Need-returns-2 Inv-loop μ-loop
 returns-2 c =
     let a = c .before .before .before .before .before .before .before .args in
-    λ m ts w e few small k. absurd (c .before .if2 .taken (words-sized (a .file .now) ts (a .kinds .now) (a .values .now) (a .places .now) w .0))
-
-empty-requires-3 : tie.Need-empty-requires-3 Inv-loop μ-loop
-empty-requires-3 c κs = tt
+    λ m ts w e few small k. absurd (c .before .if2 .taken (words-sized w .0))
 
 returns-3 : tie.Need-returns-3 Inv-loop μ-loop
 returns-3 c =
     let a = c .before .before .before .before .before .before .before .before .args in
-    λ m ts w e few small k. absurd (c .before .if3 .taken (words-sized (a .file .now) ts (a .kinds .now) (a .values .now) (a .places .now) w .1))
-
-add-empty : tie.Need-add-empty Inv-loop μ-loop
-add-empty c = omega arith
-
-empty-requires-4 : tie.Need-empty-requires-4 Inv-loop μ-loop
-empty-requires-4 c κs = tt
-
-add-closing : tie.Need-add-closing Inv-loop μ-loop
-add-closing c = omega arith
-
-closing-requires : tie.Need-closing-requires Inv-loop μ-loop
-closing-requires c κs = tt
+    λ m ts w e few small k. absurd (c .before .if3 .taken (words-sized w .1))
 
 add-i : tie.Need-add-i Inv-loop μ-loop
 add-i c =
     let a = c .before .before .before .before .before .before .before .before .before .args in
     let ks = a .kinds .now in
-    let w = close-within 255 4 (a .keep + 1) ks (length ks) (omega arith) (omega arith) in
+    let w = close-within 255 4 (a .keep + toKept) ks (length ks) (omega arith) (omega arith) in
     omega (arith, c .closing .ensures, w)
 
 loop-holds : tie.Need-loop-holds Inv-loop μ-loop
 loop-holds c =
     let a = c .before .before .before .before .before .before .before .before .before .args in
     let l = c .before .empty4 in
-    let at = ap (λ n. n + 1) (c .closing .ensures) in (
+    let at = ap (λ n. n + past) (c .closing .ensures) in (
       λ m ts w e few small k.
-          all-start (lexemes ts) (all (m .methods)) (l .result) _ (holds-none (lexemes ts) (l .result) (l .ensures .1) (l .ensures .2))
-          (rw at (methods-at (a .file .now) m ts (a .kinds .now) (a .values .now) (a .places .now) w e (a .keep) k)),
+          all-start (lexemes ts) (all (m .methods)) (l .result) _ (holds-none (l .ensures .1) (l .ensures .2))
+          (rw at (methods-at m w e (a .keep) k)),
       l .ensures .3,
       l .ensures .0,
     )
 
-kind-at-requires : tie.Need-kind-at-requires Inv-loop μ-loop
-kind-at-requires c κs = tt
-
 -- in a turn `method` stands there
-begins : (q : tie.Then4 Inv-loop μ-loop) → getD (q .before .before .before .before .before .before .before .before .before .before .before .before .args .kinds .now) (q .before .before .loop .i) 255 ≡ 23
+abbrev kindsOf : tie.Then4 Inv-loop μ-loop → List ℕ
+kindsOf q =
+    let l = q .before .before .before .before in
+    l .before .before .before .before .before .before .before .before .args .kinds .now
+
+begins : (q : tie.Then4 Inv-loop μ-loop) → getD (kindsOf q) (q .before .before .loop .i) 255 ≡ 23
 begins q = sym (q .before .kind-at .ensures) ∙ q .if4 .taken
 
-inside : (q : tie.Then4 Inv-loop μ-loop) → q .before .before .loop .i < length (q .before .before .before .before .before .before .before .before .before .before .before .before .args .kinds .now)
-inside q = kind-within (q .before .before .before .before .before .before .before .before .before .before .before .before .args .kinds .now) (q .before .before .loop .i) 23 (begins q) (omega arith)
+inside : (q : tie.Then4 Inv-loop μ-loop) → q .before .before .loop .i < length (kindsOf q)
+inside q = kind-within (kindsOf q) (q .before .before .loop .i) 23 (begins q) (omega arith)
 
 add-add-method : tie.Need-add-add-method Inv-loop μ-loop
 add-add-method c = omega (arith, inside c)
 
 add-method-requires : tie.Need-add-method-requires Inv-loop μ-loop
-add-method-requires c κs = (
-  record { values-long = (c .before .before .before .before .before .before .if2 .left); places-long = (c .before .before .before .before .before .if3 .left) },
-  omega (arith, inside c),
-  c .before .before .loop .inv .1,
-)
+add-method-requires c κs =
+    let l = c .before .before .before .before in (
+      record { values-long = l .before .before .if2 .left; places-long = l .before .if3 .left },
+      omega (arith, inside c),
+      c .before .before .loop .inv .1,
+    )
 
 add-i-2 : tie.Need-add-i-2 Inv-loop μ-loop
-add-i-2 c = omega (arith, c .before .before .add-method .ensures .0 .within, c .before .before .before .before .before .before .before .before .before .before .before .before .before .before .before .good .1 .0)
+add-i-2 c =
+    let l = c .before .before .before .before .before .before .before in
+    omega (arith, c .before .before .add-method .ensures .0 .within, l .before .before .before .before .before .before .before .before .good .1 .0)
 
 loop-less : tie.Need-loop-less Inv-loop μ-loop
 loop-less c = omega (arith, inside (c .before .before .before), c .before .before .add-method .ensures .0 .forth)
@@ -112,7 +97,7 @@ loop-again c =
     let a = q .before .before .before .before .before .before .before .before .before .before .args in
     let r = c .before .before .add-method in (
       λ m ts w e few small k.
-          all-turn (a .file .now) ts (a .kinds .now) (a .values .now) (a .places .now) w small (all (m .methods)) (few-flagged m few) (q .loop .layout) (q .loop .i) (r .result)
+          all-turn w small (all (m .methods)) (few-flagged m few) (q .loop .layout) (q .loop .i) (r .result)
           (q .loop .inv .0 m ts w e few small k) (begins (c .before .before .before)) (r .ensures .1),
       r .ensures .0 .room,
       r .ensures .0 .keep-kept ∙ q .loop .inv .2,
@@ -123,9 +108,9 @@ returns-4 c =
     let q = c .before .before in
     let a = q .before .before .before .before .before .before .before .before .before .before .args in
     λ m ts w e few small k.
-    let held = all-over (a .file .now) ts (a .kinds .now) (a .values .now) (a .places .now) w small (all (m .methods)) (few-flagged m few) (q .loop .layout) (q .loop .i)
+    let held = all-over w small (all (m .methods)) (few-flagged m few) (q .loop .layout) (q .loop .i)
     (q .loop .inv .0 m ts w e few small k) (λ h. c .if4 .left (c .before .kind-at .ensures ∙ h)) in
-    let keep = keep-at (a .file .now) m ts (a .kinds .now) (a .values .now) (a .places .now) w e (a .keep) k in
+    let keep = keep-at m w e (a .keep) k in
     laid m (lexemes ts) (q .loop .layout) held (keep .0) (rw (q .loop .inv .2) (keep .1))
 
 pub lay-out-spec : {M : Type 1} → statement M
@@ -134,19 +119,19 @@ lay-out-spec =
     (tie.spec
     Inv-loop
     μ-loop
-    empty-requires
+    (λ c κs. tt)
     returns
-    empty-requires-2
+    (λ c κs. tt)
     returns-2
-    empty-requires-3
+    (λ c κs. tt)
     returns-3
-    add-empty
-    empty-requires-4
-    add-closing
-    closing-requires
+    (λ c. omega arith)
+    (λ c κs. tt)
+    (λ c. omega arith)
+    (λ c κs. tt)
     add-i
     loop-holds
-    kind-at-requires
+    (λ c κs. tt)
     add-add-method
     add-method-requires
     add-i-2

@@ -11,10 +11,10 @@ use Rattle.layout.proofs.link_braces.Statement.{statement}
 use Rattle.layout.proofs.link_braces.Tie as tie
 
 abbrev Inv-loop : tie.InvT-loop
-Inv-loop kinds values₀ i₀ values i = Links kinds values₀ values i × (i ≤ length kinds)
+Inv-loop kinds operands₀ i₀ operands i = Links kinds operands₀ operands i × (i ≤ length kinds)
 
 abbrev μ-loop : tie.MeasureT-loop
-μ-loop kinds values₀ i₀ values i = length kinds - i
+μ-loop kinds operands₀ i₀ operands i = length kinds - i
 
 same-length : tie.Need-same-length Inv-loop μ-loop
 same-length c = c .before .loop .inv .0 .as-long
@@ -24,13 +24,7 @@ unfolding Kinds
 returns c = λ ls are long few. absurd (c .if1 .taken (long ∙ sym (length-map ls kindOf) ∙ ap length are))
 
 loop-holds : tie.Need-loop-holds Inv-loop μ-loop
-loop-holds c = (links-none (c .before .before .before .args .kinds .now) (c .before .before .before .args .values .now), omega arith)
-
-shared-slice-read-if2 : tie.Need-shared-slice-read-if2 Inv-loop μ-loop
-shared-slice-read-if2 c = omega arith
-
-add-closing : tie.Need-add-closing Inv-loop μ-loop
-add-closing c = omega arith
+loop-holds c = (links-none (c .before .before .before .args .kinds .now) (c .before .before .before .args .operands .now), omega arith)
 
 closing-requires : tie.Need-closing-requires Inv-loop μ-loop
 closing-requires c κs = tt
@@ -38,14 +32,11 @@ closing-requires c κs = tt
 held-requires : tie.Need-held-requires Inv-loop μ-loop
 held-requires c κs = tt
 
-mul-values : tie.Need-mul-values Inv-loop μ-loop
-mul-values c = omega arith
+mul-operands : tie.Need-mul-operands Inv-loop μ-loop
+mul-operands c = omega arith
 
-slice-write-values : tie.Need-slice-write-values Inv-loop μ-loop
-slice-write-values c = omega (arith, c .before .before .before .before .before .loop .inv .0 .as-long)
-
-add-i : tie.Need-add-i Inv-loop μ-loop
-add-i c = omega arith
+slice-write-operands : tie.Need-slice-write-operands Inv-loop μ-loop
+slice-write-operands c = omega (arith, c .before .before .before .before .before .loop .inv .0 .as-long)
 
 loop-less : tie.Need-loop-less Inv-loop μ-loop
 loop-less c = omega arith
@@ -56,11 +47,11 @@ loop-again c =
     let a = q .before .before .before .before .args in
     let ks = a .kinds .now in
     let i = q .loop .i in
-    let low : i < length (a .values .now) = omega (arith, q .before .if1 .left) in
+    let low : i < length (a .operands .now) = omega (arith, q .before .if1 .left) in
     ⊎-elim
     (λ w. let e : w .2 .result ≡ linkOf ks i = w .2 .ensures ∙ ap (λ x. x % 65536) (w .1 .ensures) in
-    (rw (w .3, e) (links-store ks (a .values .now) (q .loop .values) i (q .loop .inv .0) low (w .0 .taken)), omega arith))
-    (λ w. (rw (w .1) (links-pass ks (a .values .now) (q .loop .values) i (q .loop .inv .0) (w .0 .left)), omega arith))
+    (rw (w .3, e) (links-store ks (a .operands .now) (q .loop .operands) i (q .loop .inv .0) low (w .0 .taken)), omega arith))
+    (λ w. (rw (w .1) (links-pass ks (a .operands .now) (q .loop .operands) i (q .loop .inv .0) (w .0 .left)), omega arith))
     (c .if2 .came)
 
 returns-2 : tie.Need-returns-2 Inv-loop μ-loop
@@ -68,7 +59,7 @@ returns-2 c =
     let q = c .before in
     let a = q .before .before .before .before .args in
     let e : q .loop .i ≡ length (a .kinds .now) = omega arith in
-    λ ls are long few. links-linked ls (a .kinds .now) (a .values .now) (q .loop .values) are few (rw e at (q .loop .inv .0))
+    λ ls are long few. links-linked ls (a .kinds .now) (a .operands .now) (q .loop .operands) are few (rw e at (q .loop .inv .0))
 
 pub link-braces-spec : {M : Type 1} → statement M
 link-braces-spec =
@@ -78,13 +69,13 @@ link-braces-spec =
     μ-loop
     returns
     loop-holds
-    shared-slice-read-if2
-    add-closing
+    (λ c. omega arith)
+    (λ c. omega arith)
     closing-requires
     held-requires
-    mul-values
-    slice-write-values
-    add-i
+    mul-operands
+    slice-write-operands
+    (λ c. omega arith)
     loop-less
     loop-again
     same-length

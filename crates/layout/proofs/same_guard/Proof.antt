@@ -21,21 +21,12 @@ lengths q = (omega (arith, q .before .closing .ensures), omega (arith, q .closin
 returns : tie.Need-returns
 returns c =
     let a = c .before .before .before .before .before .args in
-    λ ts g h w at-a at-b. absurd (omega (arith, c .if1 .taken, guard-below (a .file .now) ts (a .kinds .now) (a .values .now) (a .places .now) w (a .a) g at-a))
+    λ ts g h w at-a at-b. absurd (omega (arith, c .if1 .taken, guard-below w (a .a) g at-a))
 
 returns-2 : tie.Need-returns-2
 returns-2 c =
     let a = c .before .before .before .before .before .before .args in
-    λ ts g h w at-a at-b. absurd (omega (arith, c .if2 .taken, guard-below (a .file .now) ts (a .kinds .now) (a .values .now) (a .places .now) w (a .b) h at-b))
-
-closing-requires : tie.Need-closing-requires
-closing-requires c κs = search needs
-
-sub-m : tie.Need-sub-m
-sub-m c = search needs
-
-closing-requires-2 : tie.Need-closing-requires-2
-closing-requires-2 c κs = search needs
+    λ ts g h w at-a at-b. absurd (omega (arith, c .if2 .taken, guard-below w (a .b) h at-b))
 
 sub-n : tie.Need-sub-n
 sub-n c = search needs
@@ -44,7 +35,7 @@ returns-3 : tie.Need-returns-3
 returns-3 c =
     let a = c .before .before .before .before .before .before .before .before .before .args in
     let e = lengths (c .before) in
-    λ ts g h w at-a at-b. lengths-differ (a .file .now) ts (a .kinds .now) (a .values .now) (a .places .now) w (a .a) (a .b) g h at-a at-b (λ same. c .if3 .taken (e .0 ∙ same ∙ sym (e .1)))
+    λ ts g h w at-a at-b. lengths-differ w (a .a) (a .b) g h at-a at-b (λ same. c .if3 .taken (e .0 ∙ same ∙ sym (e .1)))
 
 same-tokens-requires : tie.Need-same-tokens-requires
 same-tokens-requires c κs =
@@ -59,7 +50,7 @@ returns-4 c =
     let a = c .before .before .before .before .before .before .before .before .before .before .args in
     let e = lengths (c .before .before) in
     λ ts g h w at-a at-b. c .same-tokens .ensures ts w
-    ∙ rw (e .1) (guards-agree (a .file .now) ts (a .kinds .now) (a .values .now) (a .places .now) w (a .a) (a .b) g h at-a at-b (sym (e .0) ∙ c .before .if3 .left ∙ e .1))
+    ∙ rw (e .1) (guards-agree w (a .a) (a .b) g h at-a at-b (sym (e .0) ∙ c .before .if3 .left ∙ e .1))
 
 pub same-guard-spec : {M : Type 1} → statement M
 same-guard-spec =
@@ -67,9 +58,9 @@ same-guard-spec =
     (tie.spec
     returns
     returns-2
-    closing-requires
-    sub-m
-    closing-requires-2
+    (λ c κs. search needs)
+    (λ c. search needs)
+    (λ c κs. search needs)
     sub-n
     returns-3
     same-tokens-requires

@@ -19,12 +19,6 @@ abbrev μ-loop : tie.MeasureT-loop
 loop-holds : tie.Need-loop-holds Inv-loop μ-loop
 loop-holds c = (bytes-start (c .args .file .now) (c .args .a) (c .args .b) (c .args .n), omega arith)
 
-add-if1 : tie.Need-add-if1 Inv-loop μ-loop
-add-if1 c = omega arith
-
-shared-slice-read-if1 : tie.Need-shared-slice-read-if1 Inv-loop μ-loop
-shared-slice-read-if1 c = omega arith
-
 add-if1-2 : tie.Need-add-if1-2 Inv-loop μ-loop
 add-if1-2 c = omega arith
 
@@ -37,9 +31,6 @@ returns c =
     let a = q .before .args in
     sym (bytes-differ (a .file .now) (a .a) (a .b) (a .n) (q .loop .i) (omega arith) (omega arith) (omega arith) (c .if1 .taken))
     ∙ q .loop .inv .0
-
-add-i : tie.Need-add-i Inv-loop μ-loop
-add-i c = omega arith
 
 loop-less : tie.Need-loop-less Inv-loop μ-loop
 loop-less c = omega arith
@@ -66,12 +57,12 @@ same-name-spec =
     Inv-loop
     μ-loop
     loop-holds
-    add-if1
-    shared-slice-read-if1
+    (λ c. omega arith)
+    (λ c. omega arith)
     add-if1-2
     shared-slice-read-if1-2
     returns
-    add-i
+    (λ c. omega arith)
     loop-less
     loop-again
     returns-2)

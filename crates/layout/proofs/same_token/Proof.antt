@@ -14,17 +14,11 @@ use borrow.Author.Needs.{needs}
 use Rattle.layout.proofs.same_token.Statement.{statement}
 use Rattle.layout.proofs.same_token.Tie as tie
 
-shared-slice-read-if1 : tie.Need-shared-slice-read-if1
-shared-slice-read-if1 c = search needs
-
-shared-slice-read-if1-2 : tie.Need-shared-slice-read-if1-2
-shared-slice-read-if1-2 c = search needs
-
 returns : tie.Need-returns
 returns c =
     let s = c .before .before .before .before .before .before .before in
     let a = s .args in
-    λ ts w. kinds-differ (a .file .now) ts (a .kinds .now) (a .values .now) (a .places .now) w (a .a) (a .b) (s .pre .1) (s .pre .2) (c .if1 .taken)
+    λ ts w. kinds-differ w (a .a) (a .b) (s .pre .1) (s .pre .2) (c .if1 .taken)
 
 mul-if2 : tie.Need-mul-if2
 mul-if2 c = search needs
@@ -42,7 +36,7 @@ returns-2 : tie.Need-returns-2
 returns-2 c =
     let s = c .before .before .before .before .before .before .before .before .before .before in
     let a = s .args in
-    λ ts w. values-differ (a .file .now) ts (a .kinds .now) (a .values .now) (a .places .now) w (a .a) (a .b) (s .pre .1) (s .pre .2) (c .if2 .taken)
+    λ ts w. values-differ w (a .a) (a .b) (s .pre .1) (s .pre .2) (c .if2 .taken)
 
 shared-slice-read-if3 : tie.Need-shared-slice-read-if3
 shared-slice-read-if3 c = search needs
@@ -51,11 +45,8 @@ returns-3 : tie.Need-returns-3
 returns-3 c =
     let s = c .before .before .before .before .before .before .before .before .before .before .before .before in
     let a = s .args in
-    λ ts w. no-names (a .file .now) ts (a .kinds .now) (a .values .now) (a .places .now) w (a .a) (a .b) (s .pre .1) (s .pre .2)
+    λ ts w. no-names w (a .a) (a .b) (s .pre .1) (s .pre .2)
     (c .before .before .before .before .before .if1 .left) (c .before .before .if2 .left) (c .if3 .taken)
-
-mul-wide : tie.Need-mul-wide
-mul-wide c = search needs
 
 shared-slice-read-wide : tie.Need-shared-slice-read-wide
 shared-slice-read-wide c = search needs
@@ -84,7 +75,8 @@ wide-requires-3 c κs = search needs
 -- both are names: they are in the file, and their bytes tell whether they are the same
 names :
     (q : tie.After-wide3) (ts : List Token)
-    → (let a = q .before .before .before .before .before .before .before .before .before .before .before .before .before .before .before .before .before .before .args in
+    → (let r = q .before .before .before .before .before .before .before .before .before in
+    let a = r .before .before .before .before .before .before .before .before .before .args in
     let x = q .before .before .wide2 .result in
     let y = q .wide3 .result in
     let n = q .before .before .before .before .wide .result in
@@ -92,15 +84,17 @@ names :
     → (x + n ≤ length (a .file .now)) × (y + n ≤ length (a .file .now))
     × (sameBytes (take n (drop x (a .file .now))) (take n (drop y (a .file .now))) ≡ sameLexeme (lexemeAt ts (a .a)) (lexemeAt ts (a .b))))
 names q ts w =
-    let s = q .before .before .before .before .before .before .before .before .before .before .before .before .before .before .before .before .before .before in
+    let r = q .before .before .before .before .before .before .before .before .before in
+    let s = r .before .before .before .before .before .before .before .before .before in
     let a = s .args in
     let kind = q .before .before .before .before .before .before .before .before .before .before .before .if1 .left in
     let value = q .before .before .before .before .before .before .before .before .if2 .left in
     let thirty = q .before .before .before .before .before .before .if3 .left in
-    rw (q .before .before .before .before .wide .ensures .0, q .before .before .wide2 .ensures .0, q .wide3 .ensures .0) (
-      first-fits (a .file .now) ts (a .kinds .now) (a .values .now) (a .places .now) w (a .a) (a .b) (s .pre .1) (s .pre .2) kind value thirty,
-      second-fits (a .file .now) ts (a .kinds .now) (a .values .now) (a .places .now) w (a .a) (a .b) (s .pre .1) (s .pre .2) kind value thirty,
-      names-agree (a .file .now) ts (a .kinds .now) (a .values .now) (a .places .now) w (a .a) (a .b) (s .pre .1) (s .pre .2) kind value thirty,
+    let length = q .before .before .before .before .wide .ensures .0 in
+    rw (length, q .before .before .wide2 .ensures .0, q .wide3 .ensures .0) (
+      first-fits w (a .a) (a .b) (s .pre .1) (s .pre .2) kind value thirty,
+      second-fits w (a .a) (a .b) (s .pre .1) (s .pre .2) kind value thirty,
+      names-agree w (a .a) (a .b) (s .pre .1) (s .pre .2) kind value thirty,
     )
 
 add-if4 : tie.Need-add-if4
@@ -125,8 +119,8 @@ pub same-token-spec : {M : Type 1} → statement M
 same-token-spec =
     tie.close
     (tie.spec
-    shared-slice-read-if1
-    shared-slice-read-if1-2
+    (λ c. search needs)
+    (λ c. search needs)
     returns
     mul-if2
     shared-slice-read-if2
@@ -135,7 +129,7 @@ same-token-spec =
     returns-2
     shared-slice-read-if3
     returns-3
-    mul-wide
+    (λ c. search needs)
     shared-slice-read-wide
     wide-requires
     mul-wide-2

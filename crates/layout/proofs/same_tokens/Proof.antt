@@ -25,12 +25,6 @@ loop-holds c =
     let a = c .before .before .before .before .args in
     (λ ts w. tokens-start (lexemes ts) (a .a) (a .b) (a .n), omega arith)
 
-add-same-token : tie.Need-add-same-token Inv-loop μ-loop
-add-same-token c = omega arith
-
-add-same-token-2 : tie.Need-add-same-token-2 Inv-loop μ-loop
-add-same-token-2 c = omega arith
-
 same-token-requires : tie.Need-same-token-requires Inv-loop μ-loop
 same-token-requires c κs = (c .before .before .before .before .before .before .pre .0, omega arith, omega arith)
 
@@ -39,13 +33,10 @@ returns c =
     let q = c .before .before .before in
     let s = q .before .before .before .before .before in
     let a = s .args in
-    λ ts w. let l = kinds-length (a .file .now) ts (a .kinds .now) (a .values .now) (a .places .now) w in
+    λ ts w. let l = kinds-length w in
     sym (tokens-differ (lexemes ts) (a .a) (a .b) (a .n) (q .loop .i) (omega arith) (omega arith) (omega arith)
     (sym (c .before .same-token .ensures ts w) ∙ not-true _ (c .if1 .taken)))
     ∙ q .loop .inv .0 ts w
-
-add-i : tie.Need-add-i Inv-loop μ-loop
-add-i c = omega arith
 
 loop-less : tie.Need-loop-less Inv-loop μ-loop
 loop-less c = omega arith
@@ -55,7 +46,7 @@ loop-again c =
     let q = c .before .before .before in
     let s = q .before .before .before .before .before in
     let a = s .args in (
-      λ ts w. let l = kinds-length (a .file .now) ts (a .kinds .now) (a .values .now) (a .places .now) w in
+      λ ts w. let l = kinds-length w in
           tokens-turn (lexemes ts) (a .a) (a .b) (a .n) (q .loop .i) (omega arith) (omega arith) (omega arith)
           (sym (c .before .same-token .ensures ts w) ∙ not-false _ (c .if1 .left))
           ∙ q .loop .inv .0 ts w,
@@ -76,11 +67,11 @@ same-tokens-spec =
     Inv-loop
     μ-loop
     loop-holds
-    add-same-token
-    add-same-token-2
+    (λ c. omega arith)
+    (λ c. omega arith)
     same-token-requires
     returns
-    add-i
+    (λ c. omega arith)
     loop-less
     loop-again
     returns-2)

@@ -16,6 +16,7 @@ use Rattle.meaning.proofs.KeywordPlaces.{behindKeep}
 use Rattle.grammar.specs.declared.Pos.{Pos}
 use Rattle.grammar.specs.Reads.{Reads}
 use Rattle.variables.specs.Bounded.{RangedBy, Ranged}
+use Rattle.variables.specs.Places.{firstVar}
 use Rattle.loader.proofs.TokenSlices.{numbers}
 use Rattle.loader.proofs.TokensStand.{vars-stand, vars-end}
 use Rattle.loader.proofs.Counts.{few-parts}
@@ -59,24 +60,15 @@ ranged : (c : tie.After-read2) (ts : List Token)
     → (w : Given (c .before .before .before .before .before .before .before .before .before .before .before .before) ts)
     → (b : Bool) → c .read2 .result .ok ≡ b
     → let m = tree (c .before .before .before .before .before .before .before) ts w .0 in
-    RangedBy b (all (m .vars)) (lexemes ts) (key k-keep ∷ behindKeep m) 3 (c .read2 .result)
+    RangedBy b (all (m .vars)) (lexemes ts) (key k-keep ∷ behindKeep m) firstVar (c .read2 .result)
 unfolding Ranged
 ranged c ts w b e =
     let k = c .before .before .before .before in
     let l = k .before .before .before in
     let (m, spelt) = tree l ts w in
-    subst (λ (x : Bool). RangedBy x (all (m .vars)) (lexemes ts) (key k-keep ∷ behindKeep m) 3 (c .read2 .result)) e
+    subst (λ (x : Bool). RangedBy x (all (m .vars)) (lexemes ts) (key k-keep ∷ behindKeep m) firstVar (c .read2 .result)) e
     (c .read2 .ensures (all (m .vars)) (lexemes ts) (key k-keep ∷ behindKeep m) (numbers w) (vars-stand ts m spelt) (vars-end ts m spelt)
     (few-parts ts m spelt (few k ts w) .vars) (few-lexemes ts (room (l .before .before .before) ts w)))
-
-find-crowded-requires : tie.Need-find-crowded-requires
-find-crowded-requires c κs = search needs
-
-enum-known-k : tie.Need-enum-known-k
-enum-known-k c = search needs
-
-wide-requires : tie.Need-wide-requires
-wide-requires c κs = search needs
 
 not-judged-requires : tie.Need-not-judged-requires
 not-judged-requires c κs = search needs
@@ -200,9 +192,9 @@ pub judge-spec : {M : Type 1} → statement M
 judge-spec =
     tie.close
     (tie.spec
-    find-crowded-requires
-    enum-known-k
-    wide-requires
+    (λ c κs. search needs)
+    (λ c. search needs)
+    (λ c κs. search needs)
     not-judged-requires
     returns
     enum-told

@@ -7,15 +7,6 @@ use Rattle.loader.proofs.Judging.{within-getD}
 use Rattle.loader.proofs.place_of.Statement.{statement}
 use Rattle.loader.proofs.place_of.Tie as tie
 
-mul-wide : tie.Need-mul-wide
-mul-wide c = search needs
-
-shared-slice-read-wide : tie.Need-shared-slice-read-wide
-shared-slice-read-wide c = search needs
-
-wide-requires : tie.Need-wide-requires
-wide-requires c κs = search needs
-
 returns : tie.Need-returns
 returns c =
     let a = c .before .before .before .before .args in
@@ -26,4 +17,4 @@ returns-2 c = let a = c .before .before .args in sym (List·getD-eq-default (now
 
 pub place-of-spec : {M : Type 1} → statement M
 place-of-spec =
-    tie.close (tie.spec mul-wide shared-slice-read-wide wide-requires returns returns-2)
+    tie.close (tie.spec (λ c. search needs) (λ c. search needs) (λ c κs. search needs) returns returns-2)

@@ -4,11 +4,8 @@ use Rattle.passes.proofs.Naming.{slot-member}
 use Rattle.passes.proofs.among.Statement.{statement}
 use Rattle.passes.proofs.among.Tie as tie
 
-slot-of-requires : tie.Need-slot-of-requires
-slot-of-requires c κs = search needs
-
 returns : tie.Need-returns
 returns c titles x t s = rw (c .before .slot-of .ensures .1 titles x t s, t .counted) (slot-member titles x)
 
 pub among-spec : {M : Type 1} → statement M
-among-spec = tie.close (tie.spec slot-of-requires returns)
+among-spec = tie.close (tie.spec (λ c κs. search needs) returns)

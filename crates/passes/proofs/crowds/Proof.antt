@@ -8,12 +8,6 @@ use Rattle.passes.proofs.crowds.Tie as tie
 returns : tie.Need-returns
 returns c l e = rw (le-leb 1024 _ (c .if1 .taken))
 
-either-requires : tie.Need-either-requires
-either-requires c κs = search needs
-
-add-result : tie.Need-add-result
-add-result c = search needs
-
 returns-2 : tie.Need-returns-2
 returns-2 c l e = rw (lt-leb 1024 _ (c .before .before .if1 .left), kind-opens l, ← e, ← c .before .either .ensures, c .if2 .taken)
 
@@ -21,4 +15,4 @@ returns-3 : tie.Need-returns-3
 returns-3 c l e = rw (lt-leb 1024 _ (c .before .before .if1 .left), kind-opens l, ← e, ← c .before .either .ensures, c .if2 .left)
 
 pub crowds-spec : {M : Type 1} → statement M
-crowds-spec = tie.close (tie.spec returns either-requires add-result returns-2 returns-3)
+crowds-spec = tie.close (tie.spec returns (λ c κs. search needs) (λ c. search needs) returns-2 returns-3)

@@ -14,17 +14,8 @@ returns-2 : tie.Need-returns-2
 returns-2 c file titles t = ((λ e. t), λ x e room s. absurd (omega (arith, t .counted)))
 
 -- src/lib.rt:211:5
-mul-more : tie.Need-mul-more
-mul-more c = search needs
-
 -- src/lib.rt:211:5
-element-write-more : tie.Need-element-write-more
-element-write-more c = search needs
-
 -- src/lib.rt:212:5
-mul-more-2 : tie.Need-mul-more-2
-mul-more-2 c = search needs
-
 -- src/lib.rt:212:5
 element-write-more-2 : tie.Need-element-write-more-2
 element-write-more-2 c = search needs
@@ -43,9 +34,9 @@ declared-spec =
     (tie.spec
     returns
     returns-2
-    mul-more
-    element-write-more
-    mul-more-2
+    (λ c. search needs)
+    (λ c. search needs)
+    (λ c. search needs)
     element-write-more-2
     add-more
     returns-3)

@@ -25,44 +25,11 @@ abbrev μ-loop : tie.MeasureT-loop
 returns : tie.Need-returns Inv-loop μ-loop
 returns c file ts values h = absurd (c .if1 .taken (places-long h))
 
-loop-holds : tie.Need-loop-holds Inv-loop μ-loop
-loop-holds c = search needs
-
-shared-slice-read-kind : tie.Need-shared-slice-read-kind Inv-loop μ-loop
-shared-slice-read-kind c = omega arith
-
-crowds-requires : tie.Need-crowds-requires Inv-loop μ-loop
-crowds-requires c κs = omega arith
-
-mul-t15 : tie.Need-mul-t15 Inv-loop μ-loop
-mul-t15 c = search needs
-
-shared-slice-read-t17 : tie.Need-shared-slice-read-t17 Inv-loop μ-loop
-shared-slice-read-t17 c = omega arith
-
 returns-2 : tie.Need-returns-2 Inv-loop μ-loop
 returns-2 c file ts values h =
     let a = c .before .before .before .before .before .loop in
     let t = c .before .before .crowds .ensures (tokenAt ts (a .i) .lexeme) (kind-at h (a .i)) in
     offends crowding h (0, 0, 0) (a .i, a .opened, a .closed) (a .i) (a .inv .3 file ts values h) (omega arith) (sym t ∙ c .before .if2 .taken)
-
-either-requires : tie.Need-either-requires Inv-loop μ-loop
-either-requires c κs = search needs
-
-more-requires : tie.Need-more-requires Inv-loop μ-loop
-more-requires c κs = omega arith
-
-either-requires-2 : tie.Need-either-requires-2 Inv-loop μ-loop
-either-requires-2 c κs = search needs
-
-more-requires-2 : tie.Need-more-requires-2 Inv-loop μ-loop
-more-requires-2 c κs = omega arith
-
-add-i : tie.Need-add-i Inv-loop μ-loop
-add-i c = omega arith
-
-loop-less : tie.Need-loop-less Inv-loop μ-loop
-loop-less c = omega arith
 
 loop-again : tie.Need-loop-again Inv-loop μ-loop
 loop-again c = (
@@ -98,17 +65,17 @@ find-crowded-spec =
     Inv-loop
     μ-loop
     returns
-    loop-holds
-    shared-slice-read-kind
-    crowds-requires
-    mul-t15
-    shared-slice-read-t17
+    (λ c. search needs)
+    (λ c. omega arith)
+    (λ c κs. omega arith)
+    (λ c. search needs)
+    (λ c. omega arith)
     returns-2
-    either-requires
-    more-requires
-    either-requires-2
-    more-requires-2
-    add-i
-    loop-less
+    (λ c κs. search needs)
+    (λ c κs. omega arith)
+    (λ c κs. search needs)
+    (λ c κs. omega arith)
+    (λ c. omega arith)
+    (λ c. omega arith)
     loop-again
     returns-3)

@@ -29,29 +29,8 @@ returns c ts h n = absurd (c .if1 .taken (values-long h))
 returns-2 : tie.Need-returns-2 Inv-loop μ-loop
 returns-2 c ts h n = absurd (c .if2 .taken (places-long h))
 
-no-names-requires : tie.Need-no-names-requires Inv-loop μ-loop
-no-names-requires c κs = search needs
-
-no-names-requires-2 : tie.Need-no-names-requires-2 Inv-loop μ-loop
-no-names-requires-2 c κs = search needs
-
 loop-holds : tie.Need-loop-holds Inv-loop μ-loop
 loop-holds c = (omega arith, λ ts h n. naming-first _ ts _ _ (c .before .no-names .ensures _) (c .no-names2 .ensures _))
-
-shared-slice-read-kind : tie.Need-shared-slice-read-kind Inv-loop μ-loop
-shared-slice-read-kind c = omega arith
-
-mul-start : tie.Need-mul-start Inv-loop μ-loop
-mul-start c = search needs
-
-shared-slice-read-start : tie.Need-shared-slice-read-start Inv-loop μ-loop
-shared-slice-read-start c = omega arith
-
-mul-len : tie.Need-mul-len Inv-loop μ-loop
-mul-len c = search needs
-
-shared-slice-read-len : tie.Need-shared-slice-read-len Inv-loop μ-loop
-shared-slice-read-len c = omega arith
 
 wrong-requires : tie.Need-wrong-requires Inv-loop μ-loop
 wrong-requires c κs = search needs
@@ -74,9 +53,6 @@ declared-requires-2 c κs = search needs
 add-i : tie.Need-add-i Inv-loop μ-loop
 add-i c = omega (arith, c .before .before .before .before .before .before .before .before .before)
 
-loop-less : tie.Need-loop-less Inv-loop μ-loop
-loop-less c = omega arith
-
 loop-again : tie.Need-loop-again Inv-loop μ-loop
 loop-again c = (
   omega arith,
@@ -97,14 +73,14 @@ find-misnamed-spec =
     μ-loop
     returns
     returns-2
-    no-names-requires
-    no-names-requires-2
+    (λ c κs. search needs)
+    (λ c κs. search needs)
     loop-holds
-    shared-slice-read-kind
-    mul-start
-    shared-slice-read-start
-    mul-len
-    shared-slice-read-len
+    (λ c. omega arith)
+    (λ c. search needs)
+    (λ c. omega arith)
+    (λ c. search needs)
+    (λ c. omega arith)
     wrong-requires
     returns-3
     declares-requires
@@ -112,6 +88,6 @@ find-misnamed-spec =
     declares-requires-2
     declared-requires-2
     add-i
-    loop-less
+    (λ c. omega arith)
     loop-again
     returns-4)

@@ -25,41 +25,11 @@ abbrev μ-loop : tie.MeasureT-loop
 returns : tie.Need-returns Inv-loop μ-loop
 returns c file ts values h = absurd (c .if1 .taken (places-long h))
 
-loop-holds : tie.Need-loop-holds Inv-loop μ-loop
-loop-holds c = search needs
-
-shared-slice-read-kind : tie.Need-shared-slice-read-kind Inv-loop μ-loop
-shared-slice-read-kind c = omega arith
-
-mul-place : tie.Need-mul-place Inv-loop μ-loop
-mul-place c = search needs
-
-shared-slice-read-place : tie.Need-shared-slice-read-place Inv-loop μ-loop
-shared-slice-read-place c = omega arith
-
-exceeds-requires : tie.Need-exceeds-requires Inv-loop μ-loop
-exceeds-requires c κs = search needs
-
 returns-2 : tie.Need-returns-2 Inv-loop μ-loop
 returns-2 c file ts values h =
     let a = c .before .before .before .before .before .loop in
     let t = c .before .exceeds .ensures (tokenAt ts (a .i) .lexeme) (kind-at h (a .i)) in
     offends limiting h (0, 0, 0) (a .vars, a .methods, a .regions) (a .i) (a .inv .4 file ts values h) (omega arith) (sym t ∙ c .if2 .taken)
-
-more-requires : tie.Need-more-requires Inv-loop μ-loop
-more-requires c κs = omega arith
-
-more-requires-2 : tie.Need-more-requires-2 Inv-loop μ-loop
-more-requires-2 c κs = omega arith
-
-more-requires-3 : tie.Need-more-requires-3 Inv-loop μ-loop
-more-requires-3 c κs = omega arith
-
-add-i : tie.Need-add-i Inv-loop μ-loop
-add-i c = omega arith
-
-loop-less : tie.Need-loop-less Inv-loop μ-loop
-loop-less c = omega arith
 
 loop-again : tie.Need-loop-again Inv-loop μ-loop
 unfolding keywordNumber
@@ -89,16 +59,16 @@ find-past-limit-spec =
     Inv-loop
     μ-loop
     returns
-    loop-holds
-    shared-slice-read-kind
-    mul-place
-    shared-slice-read-place
-    exceeds-requires
+    (λ c. search needs)
+    (λ c. omega arith)
+    (λ c. search needs)
+    (λ c. omega arith)
+    (λ c κs. search needs)
     returns-2
-    more-requires
-    more-requires-2
-    more-requires-3
-    add-i
-    loop-less
+    (λ c κs. omega arith)
+    (λ c κs. omega arith)
+    (λ c κs. omega arith)
+    (λ c. omega arith)
+    (λ c. omega arith)
     loop-again
     returns-3)

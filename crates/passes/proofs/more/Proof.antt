@@ -4,9 +4,6 @@ use Rattle.meaning.specs.Decide.Check.{tally}
 use Rattle.passes.proofs.more.Statement.{statement}
 use Rattle.passes.proofs.more.Tie as tie
 
-add-result : tie.Need-add-result
-add-result c = search needs
-
 returns : tie.Need-returns
 unfolding tally
 returns c = rw (c .if1 .taken)
@@ -16,4 +13,4 @@ unfolding tally
 returns-2 c = rw (c .if1 .left)
 
 pub more-spec : {M : Type 1} → statement M
-more-spec = tie.close (tie.spec add-result returns returns-2)
+more-spec = tie.close (tie.spec (λ c. search needs) returns returns-2)

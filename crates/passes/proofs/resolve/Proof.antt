@@ -1,7 +1,7 @@
--- `passes::resolve` puts slots in: at each turn the values are those of the tokens passed, resolved, and those that are left, as they came.
+-- `passes::resolve` fills the operands: at each turn they are those of the tokens passed, and behind them as they came.
 use Prim.Native.Nat.{_≤_, _-_}
 use native.Mathlib.Omega.{arith}
-use mathlib.Core.Path.{_≡_, refl}
+use mathlib.Core.Path.{_≡_, refl, sym, _∙_}
 use mathlib.Core.List.{List, _++_, map}
 use mathlib.Core.Option.{none}
 use lib.ListN.{length, take, drop, length-set}
@@ -10,76 +10,40 @@ use Rattle.syntax.specs.Token.{Token}
 use Rattle.meaning.specs.Decide.Check.{pastLimit}
 use Rattle.passes.specs.Tokens.{titlesOf, slotOrValue}
 use Rattle.syntax.specs.Held.Kind.{Words}
-use Rattle.passes.proofs.ByIndex.{values-long, places-long}
+use Rattle.passes.proofs.ByIndex.{kinds-long, values-long, places-long}
 use Rattle.passes.proofs.Listing.{resolved-next, resolved-last}
 use Rattle.passes.proofs.resolve.Statement.{statement}
 use Rattle.passes.proofs.resolve.Tie as tie
 
 abbrev Inv-loop : tie.InvT-loop
-Inv-loop file kinds values₀ places vars i₀ values i =
-    (i ≤ length kinds) × (length values ≡ length values₀)
-    × ((ts : List Token) → Words file ts kinds values₀ places → pastLimit 0 0 0 ts ≡ none
-    → values ≡ map (λ t. slotOrValue (titlesOf ts) (t .lexeme)) (take i ts) ++ drop i values₀)
+Inv-loop file kinds values places operands₀ vars i₀ operands i =
+    (i ≤ length kinds) × (length operands ≡ length operands₀)
+    × ((ts : List Token) → Words file ts kinds values places → pastLimit 0 0 0 ts ≡ none → length operands₀ ≡ length ts
+    → operands ≡ map (λ t. slotOrValue (titlesOf ts) (t .lexeme)) (take i ts) ++ drop i operands₀)
 
 abbrev μ-loop : tie.MeasureT-loop
-μ-loop file kinds values₀ places vars i₀ values i = length kinds - i
+μ-loop file kinds values places operands₀ vars i₀ operands i = length kinds - i
 
 returns : tie.Need-returns Inv-loop μ-loop
-returns c ts h n m = absurd (c .if1 .taken (values-long h))
+returns c ts h n long = absurd (c .if1 .taken (values-long h))
 
 returns-2 : tie.Need-returns-2 Inv-loop μ-loop
-returns-2 c ts h n m = absurd (c .if2 .taken (places-long h))
+returns-2 c ts h n long = absurd (c .if2 .taken (places-long h))
 
-variables-requires : tie.Need-variables-requires Inv-loop μ-loop
-variables-requires c κs = search needs
-
-loop-holds : tie.Need-loop-holds Inv-loop μ-loop
-loop-holds c = (omega arith, refl, λ ts h n. refl)
-
-mul-value : tie.Need-mul-value Inv-loop μ-loop
-mul-value c = search needs
-
-slice-read-value : tie.Need-slice-read-value Inv-loop μ-loop
-slice-read-value c = omega arith
-
-shared-slice-read-slot-or-value : tie.Need-shared-slice-read-slot-or-value Inv-loop μ-loop
-shared-slice-read-slot-or-value c = omega arith
-
-mul-slot-or-value : tie.Need-mul-slot-or-value Inv-loop μ-loop
-mul-slot-or-value c = search needs
-
-shared-slice-read-slot-or-value-2 : tie.Need-shared-slice-read-slot-or-value-2 Inv-loop μ-loop
-shared-slice-read-slot-or-value-2 c = omega arith
-
-slot-or-value-requires : tie.Need-slot-or-value-requires Inv-loop μ-loop
-slot-or-value-requires c κs = search needs
-
-mul-values : tie.Need-mul-values Inv-loop μ-loop
-mul-values c = search needs
-
-slice-write-values : tie.Need-slice-write-values Inv-loop μ-loop
-slice-write-values c = omega arith
-
-add-i : tie.Need-add-i Inv-loop μ-loop
-add-i c = omega arith
-
-loop-less : tie.Need-loop-less Inv-loop μ-loop
-loop-less c = omega arith
+returns-3 : tie.Need-returns-3 Inv-loop μ-loop
+returns-3 c ts h n long = absurd (c .if3 .taken (long ∙ sym (kinds-long h)))
 
 loop-again : tie.Need-loop-again Inv-loop μ-loop
 loop-again c = (
   omega arith,
   simp length-set (omega arith),
-  λ ts h n.
-      resolved-next h _ _ (omega arith) (c .before .before .before .before .before .loop .inv .2 ts h n)
+  λ ts h n long.
+      resolved-next h _ _ long _ (omega arith) (c .before .before .before .before .before .loop .inv .2 ts h n long)
       (c .before .before .before .before .before .before .variables .ensures _ ts h n) (c .slot-or-value .ensures),
 )
 
-same-length : tie.Need-same-length Inv-loop μ-loop
-same-length c = omega arith
-
-returns-3 : tie.Need-returns-3 Inv-loop μ-loop
-returns-3 c ts h n m = resolved-last h _ (c .before .loop .i) (omega arith) (c .before .loop .inv .2 ts h n)
+returns-4 : tie.Need-returns-4 Inv-loop μ-loop
+returns-4 c ts h n long = resolved-last h _ _ long (c .before .loop .i) (omega arith) (c .before .loop .inv .2 ts h n long)
 
 pub resolve-spec : {M : Type 1} → statement M
 resolve-spec =
@@ -89,18 +53,19 @@ resolve-spec =
     μ-loop
     returns
     returns-2
-    variables-requires
-    loop-holds
-    mul-value
-    slice-read-value
-    shared-slice-read-slot-or-value
-    mul-slot-or-value
-    shared-slice-read-slot-or-value-2
-    slot-or-value-requires
-    mul-values
-    slice-write-values
-    add-i
-    loop-less
+    returns-3
+    (λ c κs. search needs)
+    (λ c. (omega arith, refl, λ ts h n long. refl))
+    (λ c. omega arith)
+    (λ c. search needs)
+    (λ c. omega arith)
+    (λ c. search needs)
+    (λ c. omega arith)
+    (λ c κs. search needs)
+    (λ c. search needs)
+    (λ c. omega arith)
+    (λ c. omega arith)
+    (λ c. omega arith)
     loop-again
-    same-length
-    returns-3)
+    (λ c. omega arith)
+    returns-4)

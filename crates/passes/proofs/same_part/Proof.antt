@@ -6,20 +6,11 @@ use Rattle.passes.proofs.Naming.{same-test, stood}
 use Rattle.passes.proofs.same_part.Statement.{statement}
 use Rattle.passes.proofs.same_part.Tie as tie
 
-add-e : tie.Need-add-e
-add-e c = search needs
-
-add-f : tie.Need-add-f
-add-f c = search needs
-
 returns : tie.Need-returns
 returns c x y s t = absurd (omega (arith, s .inside))
 
 returns-2 : tie.Need-returns-2
 returns-2 c x y s t = absurd (omega (arith, t .inside))
-
-sub-same : tie.Need-sub-same
-sub-same c = search needs
 
 part-same-start : tie.Need-part-same-start
 part-same-start c = search needs
@@ -48,11 +39,11 @@ pub same-part-spec : {M : Type 1} → statement M
 same-part-spec =
     tie.close
     (tie.spec
-    add-e
-    add-f
+    (λ c. search needs)
+    (λ c. search needs)
     returns
     returns-2
-    sub-same
+    (λ c. search needs)
     part-same-start
     part-same-end
     sub-same-2

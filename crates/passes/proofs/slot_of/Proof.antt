@@ -22,20 +22,11 @@ abbrev μ-loop : tie.MeasureT-loop
 loop-holds : tie.Need-loop-holds Inv-loop μ-loop
 loop-holds c = (omega arith, λ titles x t s. omega arith)
 
-mul-same-part : tie.Need-mul-same-part Inv-loop μ-loop
-mul-same-part c = search needs
-
 element-copy-out-same-part : tie.Need-element-copy-out-same-part Inv-loop μ-loop
 element-copy-out-same-part c = omega (arith, ltb-true)
 
-mul-same-part-2 : tie.Need-mul-same-part-2 Inv-loop μ-loop
-mul-same-part-2 c = search needs
-
 element-copy-out-same-part-2 : tie.Need-element-copy-out-same-part-2 Inv-loop μ-loop
 element-copy-out-same-part-2 c = omega (arith, ltb-true)
-
-same-part-requires : tie.Need-same-part-requires Inv-loop μ-loop
-same-part-requires c κs = search needs
 
 returns : tie.Need-returns Inv-loop μ-loop
 returns c = (
@@ -46,9 +37,6 @@ returns c = (
       let e = slot-hit titles x (a .i) l (sym (c .before .same-part .ensures (getD titles (a .i) []) x (t .held (a .i) l) s) ∙ c .if2 .taken) in
       omega (arith, a .inv .1 titles x t s),
 )
-
-add-i : tie.Need-add-i Inv-loop μ-loop
-add-i c = omega arith
 
 loop-less : tie.Need-loop-less Inv-loop μ-loop
 loop-less c = omega (arith, ltb-true)
@@ -88,13 +76,13 @@ slot-of-spec =
     Inv-loop
     μ-loop
     loop-holds
-    mul-same-part
+    (λ c. search needs)
     element-copy-out-same-part
-    mul-same-part-2
+    (λ c. search needs)
     element-copy-out-same-part-2
-    same-part-requires
+    (λ c κs. search needs)
     returns
-    add-i
+    (λ c. omega arith)
     loop-less
     loop-again
     returns-2

@@ -6,12 +6,6 @@ use Rattle.passes.proofs.Naming.{a-name, value-other}
 use Rattle.passes.proofs.slot_or_value.Statement.{statement}
 use Rattle.passes.proofs.slot_or_value.Tie as tie
 
-slot-of-requires : tie.Need-slot-of-requires
-slot-of-requires c κs = search needs
-
-cast-result : tie.Need-cast-result
-cast-result c = search needs
-
 returns : tie.Need-returns
 unfolding slotOrValue
 returns c titles l t k v s =
@@ -22,4 +16,4 @@ returns-2 : tie.Need-returns-2
 returns-2 c titles l t k v s = v ∙ sym (value-other titles l (λ e. c .if1 .left (k ∙ e)))
 
 pub slot-or-value-spec : {M : Type 1} → statement M
-slot-or-value-spec = tie.close (tie.spec slot-of-requires cast-result returns returns-2)
+slot-or-value-spec = tie.close (tie.spec (λ c κs. search needs) (λ c. search needs) returns returns-2)

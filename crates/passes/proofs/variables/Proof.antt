@@ -22,9 +22,6 @@ Inv-loop kinds values places vars₀ before₀ i₀ vars before i =
 abbrev μ-loop : tie.MeasureT-loop
 μ-loop kinds values places vars₀ before₀ i₀ vars before i = length kinds - i
 
-no-names-requires : tie.Need-no-names-requires Inv-loop μ-loop
-no-names-requires c κs = search needs
-
 returns : tie.Need-returns Inv-loop μ-loop
 returns c file ts h n = absurd (c .if1 .taken (values-long h))
 
@@ -33,33 +30,6 @@ returns-2 c file ts h n = absurd (c .if2 .taken (places-long h))
 
 loop-holds : tie.Need-loop-holds Inv-loop μ-loop
 loop-holds c = (omega arith, λ file ts h n. listing-first file ts _ (c .before .before .no-names .ensures file))
-
-shared-slice-read-kind : tie.Need-shared-slice-read-kind Inv-loop μ-loop
-shared-slice-read-kind c = omega arith
-
-declares-requires : tie.Need-declares-requires Inv-loop μ-loop
-declares-requires c κs = search needs
-
-mul-declared : tie.Need-mul-declared Inv-loop μ-loop
-mul-declared c = search needs
-
-shared-slice-read-declared : tie.Need-shared-slice-read-declared Inv-loop μ-loop
-shared-slice-read-declared c = omega arith
-
-mul-declared-2 : tie.Need-mul-declared-2 Inv-loop μ-loop
-mul-declared-2 c = search needs
-
-shared-slice-read-declared-2 : tie.Need-shared-slice-read-declared-2 Inv-loop μ-loop
-shared-slice-read-declared-2 c = omega arith
-
-declared-requires : tie.Need-declared-requires Inv-loop μ-loop
-declared-requires c κs = search needs
-
-add-i : tie.Need-add-i Inv-loop μ-loop
-add-i c = omega arith
-
-loop-less : tie.Need-loop-less Inv-loop μ-loop
-loop-less c = omega arith
 
 loop-again : tie.Need-loop-again Inv-loop μ-loop
 loop-again c = (
@@ -78,18 +48,18 @@ variables-spec =
     (tie.spec
     Inv-loop
     μ-loop
-    no-names-requires
+    (λ c κs. search needs)
     returns
     returns-2
     loop-holds
-    shared-slice-read-kind
-    declares-requires
-    mul-declared
-    shared-slice-read-declared
-    mul-declared-2
-    shared-slice-read-declared-2
-    declared-requires
-    add-i
-    loop-less
+    (λ c. omega arith)
+    (λ c κs. search needs)
+    (λ c. search needs)
+    (λ c. omega arith)
+    (λ c. search needs)
+    (λ c. omega arith)
+    (λ c κs. search needs)
+    (λ c. omega arith)
+    (λ c. omega arith)
     loop-again
     returns-3)

@@ -11,9 +11,6 @@ use Rattle.passes.proofs.wrong.Tie as tie
 returns : tie.Need-returns
 returns c vs ms l last t u k b s = sym (wrong-other last l vs ms (λ e. c .if1 .taken (k ∙ e)))
 
-among-requires : tie.Need-among-requires
-among-requires c κs = search needs
-
 returns-2 : tie.Need-returns-2
 unfolding wrongBy
 returns-2 c vs ms l last t u k b s =
@@ -25,9 +22,6 @@ unfolding wrongBy
 returns-3 c vs ms l last t u k b s =
     let n = a-name l (sym k ∙ c .before .before .if1 .left) in
     rw (n .1, wrong-name last vs ms (n .0), ← b, c .if3 .taken)
-
-among-requires-2 : tie.Need-among-requires-2
-among-requires-2 c κs = search needs
 
 returns-4 : tie.Need-returns-4
 unfolding wrongBy
@@ -52,4 +46,4 @@ returns-5 c vs ms l last t u k b s =
 pub wrong-spec : {M : Type 1} → statement M
 wrong-spec =
     tie.close
-    (tie.spec returns among-requires returns-2 returns-3 among-requires-2 returns-4 returns-5)
+    (tie.spec returns (λ c κs. search needs) returns-2 returns-3 (λ c κs. search needs) returns-4 returns-5)

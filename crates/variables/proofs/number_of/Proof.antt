@@ -34,12 +34,6 @@ returns c vs as′ b x s =
     let g = c .before .before in
     omega (arith, g .loop .inv .2 vs as′ b x s, number-end vs (drop (g .loop .k) as′) (g .loop .k) (omega (arith, b .counted, c .if1 .taken)))
 
-mul-share-of : tie.Need-mul-share-of Inv-loop μ-loop
-mul-share-of c = search needs
-
-array-read-share-of : tie.Need-array-read-share-of Inv-loop μ-loop
-array-read-share-of c = search needs
-
 mul-share-of-2 : tie.Need-mul-share-of-2 Inv-loop μ-loop
 mul-share-of-2 c = search needs
 
@@ -60,9 +54,6 @@ add-number c = search needs
 
 add-k : tie.Need-add-k Inv-loop μ-loop
 add-k c = search needs
-
-loop-less : tie.Need-loop-less Inv-loop μ-loop
-loop-less c = search needs
 
 loop-again : tie.Need-loop-again Inv-loop μ-loop
 loop-again c =
@@ -89,8 +80,8 @@ number-of-spec =
     μ-loop
     loop-holds
     returns
-    mul-share-of
-    array-read-share-of
+    (λ c. search needs)
+    (λ c. search needs)
     mul-share-of-2
     element-copy-out-share-of
     mul-share-of-3
@@ -98,6 +89,6 @@ number-of-spec =
     share-of-requires
     add-number
     add-k
-    loop-less
+    (λ c. search needs)
     loop-again
     returns-2)

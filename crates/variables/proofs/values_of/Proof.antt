@@ -29,15 +29,6 @@ returns c vs b h =
     filled-all vs (g .before .args .t1) (g .before .args .state) (g .loop .values) (g .loop .rest) (g .loop .k) b (g .loop .inv .1)
     (omega (arith, b .counted, c .if1 .taken)) (g .loop .inv .2 vs b h)
 
-mul-digit-of : tie.Need-mul-digit-of Inv-loop μ-loop
-mul-digit-of c = search needs
-
-element-copy-out-digit-of : tie.Need-element-copy-out-digit-of Inv-loop μ-loop
-element-copy-out-digit-of c = search needs
-
-mul-digit-of-2 : tie.Need-mul-digit-of-2 Inv-loop μ-loop
-mul-digit-of-2 c = search needs
-
 element-copy-out-digit-of-2 : tie.Need-element-copy-out-digit-of-2 Inv-loop μ-loop
 element-copy-out-digit-of-2 c = search needs
 
@@ -82,9 +73,9 @@ values-of-spec =
     μ-loop
     loop-holds
     returns
-    mul-digit-of
-    element-copy-out-digit-of
-    mul-digit-of-2
+    (λ c. search needs)
+    (λ c. search needs)
+    (λ c. search needs)
     element-copy-out-digit-of-2
     digit-of-requires
     mul-values

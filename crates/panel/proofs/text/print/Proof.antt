@@ -10,4 +10,5 @@ print-spec =
     tie.close
     (tie.spec
     (λ c. sym (length-take-le (c .before .before .before .args .n) (c .before .before .before .args .buffer .now)
-    (search needs))) (λ c κs. search needs) (λ c. search needs) (λ c. search needs))
+    (search needs)))
+    (λ c κs. search needs) (λ c. search needs) (λ c. search needs))

@@ -1,0 +1,26 @@
+-- How many tokens on a part of a file begins; as the code's constants.
+use Prim.Native.Nat.{ℕ}
+
+-- the kept condition, from `keep`
+abbrev pub toKept : ℕ
+toKept = 1
+
+-- a method's regions, from `method`, behind `method NAME {`
+abbrev pub toRegions : ℕ
+toRegions = 3
+
+-- a guard, from `waituntil`, behind `waituntil (`
+abbrev pub toGuard : ℕ
+toGuard = 2
+
+-- a body, from the bracket that closes the guard, behind `) {`
+abbrev pub toBody : ℕ
+toBody = 2
+
+-- what stands behind a token that closes
+abbrev pub past : ℕ
+past = 1
+
+-- how far behind the end the search for a part may lead, where the tokens are no file of the grammar
+abbrev pub overrun : ℕ
+overrun = 4
