@@ -1,5 +1,6 @@
-// Shows a hand-in whole, for people: reads monitor.txt and trace.txt, and prints what is refused and why, or the variables, guards,
-// regions and table in words and both machines' runs frame by frame; and at the end what `runner` prints.
+// Shows a hand-in whole, for people: reads monitor.txt and trace.txt, and prints what is refused and why, or the
+// variables, guards, regions and table in words and both machines' runs frame by frame; and at the end what `runner`
+// prints.
 mod frames;
 mod listing;
 mod names;

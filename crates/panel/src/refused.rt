@@ -295,8 +295,8 @@ fn print_line(answer: Answer) {
     text::print(&out, end);
 }
 
-// A refused file, with the tokens into which it is cut, if it is. The names are told for 9 alone; the body is run again to say what
-// it does, with the operands that the evaluator looks up at the tokens.
+// A refused file, with the tokens into which it is cut, if it is. The names are told for 9 alone; the body is run again
+// to say what it does, with the operands that the evaluator looks up at the tokens.
 pub(crate) fn show(
     file: &[u8],
     kinds: &[u8],

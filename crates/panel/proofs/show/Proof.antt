@@ -12,7 +12,8 @@ N c = c .n .given .0 .0
 
 -- the arrays have room for that many tokens
 counted : (c : tie.After-n)
-    → Counted (N c) (c .before .before .scan .last .1 .0) (c .before .before .scan .last .1 .1 .0) (c .before .before .scan .last .1 .1 .1 .0)
+    → Counted (N c) (c .before .before .scan .last .1 .0) (c .before .before .scan .last .1 .1 .0)
+    (c .before .before .scan .last .1 .1 .1 .0)
 counted c = scanned-counted (c .before .before .scan .ensures) (N c) (c .n .given .1)
 
 pub show-spec : {M : Type 1} → statement M
