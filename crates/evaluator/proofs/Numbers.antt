@@ -1,4 +1,5 @@
--- Whole numbers as differences p less m, and as sums less 2 ^ 30: their sums and comparisons are those of natural numbers.
+-- Whole numbers as differences p less m, and as sums less 2 ^ 30: their sums and comparisons are those of natural
+-- numbers.
 use Prim.Native.Nat.{ℕ, _+_, _-_, _≤_}
 use native.Mathlib.Omega.{arith}
 use native.Mathlib.Nat.{add-comm}
@@ -60,7 +61,8 @@ shifted p q m = go (ltb p q) refl
 less-worth : (p q : ℕ) → less (worth p) (worth q) ≡ ltb p q
 less-worth p q = less-parts p 1073741824 q 1073741824 ∙ shifted p q 1073741824
 
-pub compares-worth : (o : Comparison) (p q : ℕ) → testOf (markNumber (comparisonMark o)) p q ≡ compares o (worth p) (worth q)
+pub compares-worth : (o : Comparison) (p q : ℕ)
+    → testOf (markNumber (comparisonMark o)) p q ≡ compares o (worth p) (worth q)
 unfolding testOf compares comparisonMark markNumber
 compares-worth eq p q = sym (rw (less-worth p q, less-worth q p))
 compares-worth ne p q = sym (rw (less-worth p q, less-worth q p))

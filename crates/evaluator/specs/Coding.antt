@@ -21,8 +21,8 @@ slotOf (v ∷ vs) x = elim (sameBytes (v .title) x) [ true ↦ 0 | false ↦ suc
 unfoldable pub Kinds : List Lexeme → List ℕ → Type 0
 Kinds ls kinds = map kindOf ls ≡ kinds
 
--- kinds, and the operands of a loaded file, which the evaluator has as `values`: at its place each number's value, each name's slot, and
--- for each brace that opens a block the place of the one that closes it
+-- kinds, and the operands of a loaded file, which the evaluator has as `values`: at its place each number's value, each
+-- name's slot, and for each brace that opens a block the place of the one that closes it
 pub record Codes (vs : List Var) (ls : List Lexeme) (kinds values : List ℕ) : Type 0 where
   pub by-kind : Kinds ls kinds
   pub as-long : length values ≡ length kinds
@@ -39,7 +39,8 @@ EndsCond us = (rest : List Lexeme) × (l : Lexeme) × (us ≡ l ∷ rest) × ((k
 -- the six values of a lane: that of variable v in lane j stands at v * 16 + j
 unfoldable pub lane : List ℕ → ℕ → List ℕ
 lane xs j =
-    getD xs j 0 ∷ getD xs (16 + j) 0 ∷ getD xs (32 + j) 0 ∷ getD xs (48 + j) 0 ∷ getD xs (64 + j) 0 ∷ getD xs (80 + j) 0 ∷ []
+    getD xs j 0 ∷ getD xs (16 + j) 0 ∷ getD xs (32 + j) 0
+    ∷ getD xs (48 + j) 0 ∷ getD xs (64 + j) 0 ∷ getD xs (80 + j) 0 ∷ []
 
 -- a body's run, as the code answers it: whether it stayed in its ranges, and the values held after it
 unfoldable pub RunAs : List Var → Bool → List ℕ → Option (List ℤ) → Type 0

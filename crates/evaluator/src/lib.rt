@@ -1,8 +1,8 @@
-// Evaluates conditions and runs bodies over a file's tokens, held as numbers: kinds, and as `values` the operands of a loaded
-// file (a number's value, a name's slot among the variables, an opening brace's closing one). A place is at most the count of
-// tokens, and the place behind the last is the count. Sixteen states go at once, each in a lane: `vars` holds the value of
-// variable v in lane j at v * 16 + j, with 128 added; an expression's value is held with ZERO added, a truth as a bool for each
-// lane.
+// Evaluates conditions and runs bodies over a file's tokens, held as numbers: kinds, and as `values` the operands of a
+// loaded file (a number's value, a name's slot among the variables, an opening brace's closing one). A place is at most
+// the count of tokens, and the place behind the last is the count. Sixteen states go at once, each in a lane: `vars`
+// holds the value of variable v in lane j at v * 16 + j, with 128 added; an expression's value is held with ZERO added,
+// a truth as a bool for each lane.
 ghost use mathlib.Core.Path.{_≡_};
 ghost use mathlib.Core.Bool.{not, _&&_, _||_, cond, false};
 ghost use mathlib.Core.List.{List, _∷_, _++_};
@@ -16,7 +16,9 @@ ghost use Rattle.syntax.specs.Tree.{Var, Cond, Block, spellCond, spellBlock};
 ghost use Rattle.meaning.specs.Value.{truth, runBlock};
 ghost use Rattle.meaning.specs.Held.{Biased, Ranges};
 ghost use Rattle.evaluator.specs.Coding.{Codes, EndsCond, RunAs, lane};
-ghost use Rattle.evaluator.specs.Promises.{Placed, Next, Closes, operand, AtomRead, Near, TermRead, ExprRead, testOf, CompareRead, CondRead, ConjRead, SimpleRead, Stored, BlockRun, StmtRun, BranchRun};
+ghost use Rattle.evaluator.specs.Promises.{Placed, Next, Closes, operand, AtomRead, Near, TermRead, ExprRead};
+ghost use Rattle.evaluator.specs.Promises.{testOf, CompareRead, CondRead, ConjRead, SimpleRead, Stored, BlockRun};
+ghost use Rattle.evaluator.specs.Promises.{StmtRun, BranchRun};
 
 const RBRACE: u8 = 1;
 
@@ -168,7 +170,8 @@ fn operands(vars: &[u16; 96], slot: usize, plus: u32) -> [u32; 16]
 
 // Numbers with others added and others taken away, lane by lane.
 fn moved(lanes: [u32; 16], plus: [u32; 16], minus: [u32; 16]) -> [u32; 16]
-    requires { ⌜ ((j : ℕ) → j < 16 → (getD lanes j 0 + getD plus j 0 < 4294967296) × (getD minus j 0 ≤ getD lanes j 0 + getD plus j 0)) ⌝ }
+    requires { ⌜ ((j : ℕ) → j < 16
+        → (getD lanes j 0 + getD plus j 0 < 4294967296) × (getD minus j 0 ≤ getD lanes j 0 + getD plus j 0)) ⌝ }
     ensures { λ r. ⌜ ((j : ℕ) → j < 16 → getD r j 0 ≡ getD lanes j 0 + getD plus j 0 - getD minus j 0) ⌝ }
 {
     let mut sums = [0u32; 16];
@@ -191,7 +194,8 @@ fn eval_term(
 ) -> Sum
     requires { ⌜ Placed (now kinds) at ⌝ }
     requires { ⌜ Near at lanes ⌝ }
-    ensures { λ r. ⌜ TermRead (now (kinds .entry)) (now (values .entry)) (now (vars .entry)) taken lanes at (r .lanes) (r .next) ⌝ }
+    ensures { λ r. ⌜ TermRead (now (kinds .entry)) (now (values .entry)) (now (vars .entry)) taken lanes at (r .lanes)
+        (r .next) ⌝ }
 {
     let atom = read_atom(kinds, values, at);
     let one = operands(vars, atom.slot, atom.plus);
@@ -312,7 +316,8 @@ fn compare(kind: u8, a: [u32; 16], b: [u32; 16]) -> [bool; 16]
 
 fn eval_compare(kinds: &[u8], values: &[u16], vars: &[u16; 96], at: usize) -> Truth
     requires { ⌜ Placed (now kinds) at ⌝ }
-    ensures { λ r. ⌜ CompareRead (now (kinds .entry)) (now (values .entry)) (now (vars .entry)) at (r .holds) (r .next) ⌝ }
+    ensures { λ r. ⌜ CompareRead (now (kinds .entry)) (now (values .entry)) (now (vars .entry)) at (r .holds)
+        (r .next) ⌝ }
 {
     let one = eval_expr(kinds, values, vars, at);
     let kind = kind_at(kinds, one.next);
@@ -365,7 +370,8 @@ fn eval_conj(kinds: &[u8], values: &[u16], vars: &[u16; 96], at: usize) -> Truth
 
 fn eval_simple(kinds: &[u8], values: &[u16], vars: &[u16; 96], at: usize) -> Truth
     requires { ⌜ Placed (now kinds) at ⌝ }
-    ensures { λ r. ⌜ SimpleRead (now (kinds .entry)) (now (values .entry)) (now (vars .entry)) at (r .holds) (r .next) ⌝ }
+    ensures { λ r. ⌜ SimpleRead (now (kinds .entry)) (now (values .entry)) (now (vars .entry)) at (r .holds)
+        (r .next) ⌝ }
 {
     let kind = kind_at(kinds, at);
     let next = after(kinds, at);
@@ -443,7 +449,8 @@ fn put(vars: &mut [u16; 96], slot: usize, lanes: [u32; 16])
     }
 }
 
-// An assignment in the lanes of a set: it stores the values, and says in which lanes they are in range, or nothing was stored.
+// An assignment in the lanes of a set: it stores the values, and says in which lanes they are in range, or nothing was
+// stored.
 fn store(
     lows: [u16; 6],
     highs: [u16; 6],
@@ -541,7 +548,8 @@ fn run_stmt(
     Step { ok, next }
 }
 
-// The block that opens at a token where the condition in front of it holds, and where not the one behind `else`, if there is one.
+// The block that opens at a token where the condition in front of it holds, and where not the one behind `else`, if
+// there is one.
 fn run_branch(
     kinds: &[u8],
     values: &[u16],

@@ -52,7 +52,8 @@ module _ (kinds before after : List ℕ) (i : ℕ) (links : Links kinds before a
         as-long = length-set after i (linkOf kinds i) ∙ links .as-long;
         done = λ k h z. split (eqb k i)
             (λ e. let same : k ≡ i = eqb-true k i e in rw same (getD-set-same after i (linkOf kinds i) 0 in-after))
-            (λ e. let n = eqb-false k i e in getD-set-other after i k (linkOf kinds i) 0 n ∙ links .done k (below k h n) z);
+            (λ e. let n = eqb-false k i e in getD-set-other after i k (linkOf kinds i) 0 n
+            ∙ links .done k (below k h n) z);
         kept = λ k n. getD-set-other after i k (linkOf kinds i) 0 (λ e. n (omega arith) (rw e brace))
             ∙ links .kept k (λ h z. n (omega arith) z);
       }
@@ -76,12 +77,14 @@ module _ (ls : List Lexeme) (kinds before after : List ℕ) (are : Kinds ls kind
 
   kind-at : (i : ℕ) → i < length kinds → getD kinds i 0 ≡ kindOf (getD ls i (mark rbrace))
   unfolding Kinds
-  kind-at i h = let l = long in ap (λ (ks : List ℕ). getD ks i 0) (sym are) ∙ getD-map kindOf ls i (mark rbrace) (omega arith)
+  kind-at i h =
+      let l = long in ap (λ (ks : List ℕ). getD ks i 0) (sym are) ∙ getD-map kindOf ls i (mark rbrace) (omega arith)
 
   others : (i : ℕ) → (getElem? ls i ≡ some (mark lbrace) → ⊥) → getD after i 0 ≡ getD before i 0
   others i n =
       links .kept i (λ h z. let l = long in
-      n (element ls i (mark rbrace) (omega arith) ∙ ap some (is-lbrace (getD ls i (mark rbrace)) (sym (kind-at i h) ∙ z))))
+      n (element ls i (mark rbrace) (omega arith)
+      ∙ ap some (is-lbrace (getD ls i (mark rbrace)) (sym (kind-at i h) ∙ z))))
 
   linked : (i : ℕ) (b : Block) (us : List Lexeme) → drop i ls ≡ mark lbrace ∷ (spellBlock b ++ (mark rbrace ∷ us))
       → drop (getD after i 0) ls ≡ mark rbrace ∷ us
@@ -95,7 +98,8 @@ module _ (ls : List Lexeme) (kinds before after : List ℕ) (are : Kinds ls kind
       let l = long in
       let in-kinds : i < length kinds = omega arith in
       let closes : drop (i + 1 + closeFrom 0 1 0 (drop (i + 1) kinds)) ls ≡ mark rbrace ∷ us =
-      rw (sym are) (close-stands 0 1 (i + 1) ls (spellBlock b) us (mark rbrace) (braces-balanced b) (λ e. omega arith) refl inside) in
+      rw (sym are) (close-stands 0 1 (i + 1) ls (spellBlock b) us (mark rbrace) (braces-balanced b)
+      (λ e. omega arith) refl inside) in
       let end = stands-below (i + 1 + closeFrom 0 1 0 (drop (i + 1) kinds)) ls [] us (mark rbrace) closes in
       let whole : linkOf kinds i ≡ i + 1 + closeFrom 0 1 0 (drop (i + 1) kinds) = omega arith in
       rw (links .done i in-kinds (kind-at i in-kinds ∙ ap kindOf first), whole) closes

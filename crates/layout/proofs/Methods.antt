@@ -1,4 +1,5 @@
--- The loops over a method's regions and over the methods: what is held so far, with what stands ahead, makes up the whole.
+-- The loops over a method's regions and over the methods: what is held so far, with what stands ahead, makes up the
+-- whole.
 use Prim.Native.Nat.{ℕ, zero, suc, _+_, _≤_, _<_}
 use native.Mathlib.Omega.{arith}
 use mathlib.Core.Path.{_≡_, refl, sym, ap, _∙_}
@@ -9,7 +10,8 @@ use Rattle.syntax.specs.Held.Kind.{kindOf, Words}
 use Rattle.syntax.specs.Tree.{Region, Method, all, each, spellRegion, spellMethod}
 use Rattle.logic.specs.Tests.{bit}
 use Rattle.layout.specs.Places.{toRegions, past}
-use Rattle.layout.specs.Promises.{Flagged, more, flagRegions, flagged, flagAt, Holds, Reached, AddsRegion, AddsMethod}
+use Rattle.layout.specs.Promises.{Flagged, more, flagRegions, flagged, flagAt, Holds, Reached, AddsRegion}
+use Rattle.layout.specs.Promises.{AddsMethod}
 use Rattle.layout.specs.declared.Layout.{Layout}
 use Rattle.layout.specs.declared.Spot.{Spot}
 use Rattle.layout.proofs.Spelled.{later, kind-behind}
@@ -24,7 +26,8 @@ kind-within (x ∷ ks) (suc i) k h low = let r = kind-within ks i k h low in ome
 abbrev pub regionsAhead : List Region → List Lexeme → List Lexeme
 regionsAhead qs us = each spellRegion qs ++ (mark rbrace ∷ us)
 
-pub record Ahead (ls : List Lexeme) (before : List Flagged) (all-qs : List Region) (us : List Lexeme) (l : Layout) (i b : ℕ) : Type 0 where
+pub record Ahead (ls : List Lexeme) (before : List Flagged) (all-qs : List Region) (us : List Lexeme) (l : Layout)
+    (i b : ℕ) : Type 0 where
   pub done : List Flagged
   pub qs : List Region
   pub holds : Holds ls done l
@@ -36,11 +39,13 @@ pub ahead-start : (ls : List Lexeme) (before : List Flagged) (qs : List Region) 
     → Holds ls before l → length before + length qs ≤ 16 → drop i ls ≡ regionsAhead qs us → Ahead ls before qs us l i 1
 ahead-start ls before qs us l i h f s = record { done = before; qs = qs; holds = h; few = f; stands = s; whole = refl }
 
-region-first : (q : Region) (qs : List Region) (us : List Lexeme) → regionsAhead (q ∷ qs) us ≡ spellRegion q ++ regionsAhead qs us
+region-first : (q : Region) (qs : List Region) (us : List Lexeme)
+    → regionsAhead (q ∷ qs) us ≡ spellRegion q ++ regionsAhead qs us
 unfolding each
 region-first q qs us = append-assoc (spellRegion q) (each spellRegion qs) (mark rbrace ∷ us)
 
-kind-of-region : (q : Region) (qs : List Region) (us : List Lexeme) → getD (map kindOf (regionsAhead (q ∷ qs) us)) 0 255 ≡ 24
+kind-of-region : (q : Region) (qs : List Region) (us : List Lexeme)
+    → getD (map kindOf (regionsAhead (q ∷ qs) us)) 0 255 ≡ 24
 unfolding each spellRegion kindOf keywordNumber
 kind-of-region q qs us = refl
 
@@ -53,7 +58,8 @@ unfolding flagAt bit each spellRegion kindOf keywordNumber markNumber
 flag-ahead [] us = refl
 flag-ahead (q ∷ qs) us = refl
 
-module _ {file : List ℕ} {ts : List Token} {kinds values places : List ℕ} (words : Words file ts kinds values places) where
+module _ {file : List ℕ} {ts : List Token} {kinds values places : List ℕ}
+    (words : Words file ts kinds values places) where
   module _ (before : List Flagged) (all-qs : List Region) (us : List Lexeme) where
     -- at `waituntil` there is a region ahead
     no-region : {C : Type 0} (i : ℕ) → drop i (lexemes ts) ≡ regionsAhead [] us → getD kinds i 255 ≡ 24 → C
@@ -62,9 +68,12 @@ module _ {file : List ℕ} {ts : List Token} {kinds values places : List ℕ} (w
         let f = kind-of-end us in
         absurd (omega arith)
 
-    turn : (l : Layout) (i b : ℕ) (s : Spot) (done : List Flagged) (qs : List Region) → Holds (lexemes ts) done l → length done + length qs ≤ 16
-        → drop i (lexemes ts) ≡ regionsAhead qs us → done ++ flagRegions b qs ≡ before ++ flagRegions 1 all-qs → length ts ≤ 1024
-        → getD kinds i 255 ≡ 24 → AddsRegion file kinds values places l i b s → Ahead (lexemes ts) before all-qs us (s .layout) (s .at) 0
+    turn : (l : Layout) (i b : ℕ) (s : Spot) (done : List Flagged) (qs : List Region) → Holds (lexemes ts) done l
+        → length done + length qs ≤ 16
+        → drop i (lexemes ts) ≡ regionsAhead qs us → done ++ flagRegions b qs ≡ before ++ flagRegions 1 all-qs
+        → length ts ≤ 1024
+        → getD kinds i 255 ≡ 24 → AddsRegion file kinds values places l i b s
+        → Ahead (lexemes ts) before all-qs us (s .layout) (s .at) 0
     unfolding flagRegions
     turn l i b s done [] h f stands whole small kind adds = no-region i stands kind
     turn l i b s done (q ∷ qs) h f stands whole small kind adds =
@@ -83,21 +92,25 @@ module _ {file : List ℕ} {ts : List Token} {kinds values places : List ℕ} (w
         }
 
     pub ahead-turn : (l : Layout) (i b : ℕ) (s : Spot) → Ahead (lexemes ts) before all-qs us l i b → length ts ≤ 1024
-        → getD kinds i 255 ≡ 24 → AddsRegion file kinds values places l i b s → Ahead (lexemes ts) before all-qs us (s .layout) (s .at) 0
+        → getD kinds i 255 ≡ 24 → AddsRegion file kinds values places l i b s
+        → Ahead (lexemes ts) before all-qs us (s .layout) (s .at) 0
     ahead-turn l i b s a = turn l i b s (a .done) (a .qs) (a .holds) (a .few) (a .stands) (a .whole)
 
-    full : {C : Type 0} (l : Layout) (i : ℕ) (done : List Flagged) (qs : List Region) → Holds (lexemes ts) done l → length done + length qs ≤ 16
+    full : {C : Type 0} (l : Layout) (i : ℕ) (done : List Flagged) (qs : List Region) → Holds (lexemes ts) done l
+        → length done + length qs ≤ 16
         → drop i (lexemes ts) ≡ regionsAhead qs us → getD kinds i 255 ≡ 24 → 16 ≤ l .regions → C
     full l i done [] h f stands kind many = no-region i stands kind
     full l i done (q ∷ qs) h f stands kind many = absurd (omega (arith, h .count))
 
     -- a layout that is full has no region ahead
-    pub ahead-full : {C : Type 0} (l : Layout) (i b : ℕ) → Ahead (lexemes ts) before all-qs us l i b → getD kinds i 255 ≡ 24 → 16 ≤ l .regions → C
+    pub ahead-full : {C : Type 0} (l : Layout) (i b : ℕ) → Ahead (lexemes ts) before all-qs us l i b
+        → getD kinds i 255 ≡ 24 → 16 ≤ l .regions → C
     ahead-full l i b a = full l i (a .done) (a .qs) (a .holds) (a .few) (a .stands)
 
     over : (l : Layout) (i b : ℕ) (done : List Flagged) (qs : List Region) → Holds (lexemes ts) done l
         → drop i (lexemes ts) ≡ regionsAhead qs us → done ++ flagRegions b qs ≡ before ++ flagRegions 1 all-qs
-        → (getD kinds i 255 ≡ 24 → ⊥) → Reached (lexemes ts) (before ++ flagRegions 1 all-qs) (mark rbrace ∷ us) record { layout = l; at = i }
+        → (getD kinds i 255 ≡ 24 → ⊥)
+        → Reached (lexemes ts) (before ++ flagRegions 1 all-qs) (mark rbrace ∷ us) record { layout = l; at = i }
     unfolding flagRegions each
     over l i b done [] h stands whole n = rw (sym whole, append-nil done) (record { holds = h; behind = stands })
     over l i b done (q ∷ qs) h stands whole n =
@@ -118,7 +131,8 @@ pub record AheadAll (ls : List Lexeme) (all-ms : List Method) (l : Layout) (i : 
   pub stands : drop i ls ≡ methodsAhead ms
   pub whole : done ++ flagged ms ≡ flagged all-ms
 
-pub all-start : (ls : List Lexeme) (ms : List Method) (l : Layout) (i : ℕ) → Holds ls [] l → drop i ls ≡ methodsAhead ms → AheadAll ls ms l i
+pub all-start : (ls : List Lexeme) (ms : List Method) (l : Layout) (i : ℕ) → Holds ls [] l → drop i ls ≡ methodsAhead ms
+    → AheadAll ls ms l i
 all-start ls ms l i h s = record { done = []; ms = ms; holds = h; stands = s; whole = refl }
 
 method-first : (x : Method) (ms : List Method) (ls : List Lexeme) (i : ℕ) → drop i ls ≡ methodsAhead (x ∷ ms)
@@ -142,11 +156,13 @@ unfolding flagRegions
 flag-count b [] = refl
 flag-count b (q ∷ qs) = ap suc (flag-count 0 qs)
 
-module _ {file : List ℕ} {ts : List Token} {kinds values places : List ℕ} (words : Words file ts kinds values places) (small : length ts ≤ 1024)
+module _ {file : List ℕ} {ts : List Token} {kinds values places : List ℕ} (words : Words file ts kinds values places)
+    (small : length ts ≤ 1024)
     (all-ms : List Method) (few : length (flagged all-ms) ≤ 16) where
   turn-all : (l : Layout) (i : ℕ) (s : Spot) (done : List Flagged) (ms : List Method) → Holds (lexemes ts) done l
       → drop i (lexemes ts) ≡ methodsAhead ms → done ++ flagged ms ≡ flagged all-ms → getD kinds i 255 ≡ 23
-      → AddsMethod file kinds values places l (i + toRegions) s → AheadAll (lexemes ts) all-ms (s .layout) (s .at + past)
+      → AddsMethod file kinds values places l (i + toRegions) s
+      → AheadAll (lexemes ts) all-ms (s .layout) (s .at + past)
   unfolding flagged
   turn-all l i s done [] h stands whole kind adds =
       let e = kind-behind words i _ stands in
@@ -168,7 +184,8 @@ module _ {file : List ℕ} {ts : List Token} {kinds values places : List ℕ} (w
       }
 
   pub all-turn : (l : Layout) (i : ℕ) (s : Spot) → AheadAll (lexemes ts) all-ms l i → getD kinds i 255 ≡ 23
-      → AddsMethod file kinds values places l (i + toRegions) s → AheadAll (lexemes ts) all-ms (s .layout) (s .at + past)
+      → AddsMethod file kinds values places l (i + toRegions) s
+      → AheadAll (lexemes ts) all-ms (s .layout) (s .at + past)
   all-turn l i s a = turn-all l i s (a .done) (a .ms) (a .holds) (a .stands) (a .whole)
 
   over-all : (l : Layout) (i : ℕ) (done : List Flagged) (ms : List Method) → Holds (lexemes ts) done l
@@ -179,5 +196,6 @@ module _ {file : List ℕ} {ts : List Token} {kinds values places : List ℕ} (w
   over-all l i done (x ∷ ms) h stands whole n =
       absurd (n (kind-behind words i _ stands ∙ kind-of-method x ms))
 
-  pub all-over : (l : Layout) (i : ℕ) → AheadAll (lexemes ts) all-ms l i → (getD kinds i 255 ≡ 23 → ⊥) → Holds (lexemes ts) (flagged all-ms) l
+  pub all-over : (l : Layout) (i : ℕ) → AheadAll (lexemes ts) all-ms l i → (getD kinds i 255 ≡ 23 → ⊥)
+      → Holds (lexemes ts) (flagged all-ms) l
   all-over l i a = over-all l i (a .done) (a .ms) (a .holds) (a .stands) (a .whole)

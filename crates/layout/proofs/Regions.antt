@@ -13,10 +13,12 @@ use borrow.Author.Tests.{eqb-true, eqb-false}
 use Rattle.syntax.specs.Token.{Lexeme}
 use Rattle.syntax.specs.Tree.{Cond, Region, spellCond}
 use Rattle.meaning.specs.Model.{sameLexemes, sameGuard, placeIn, guardsOf, noGuard}
-use Rattle.meaning.proofs.ModelLaws.{Found, place-here, place-later, found-spells, place-append, found-append, place-last, found-last, known, new, known-or-new}
+use Rattle.meaning.proofs.ModelLaws.{Found, place-here, place-later, found-spells, place-append, found-append}
+use Rattle.meaning.proofs.ModelLaws.{place-last, found-last, known, new, known-or-new}
 use Rattle.logic.proofs.Bools.{split}
 use Rattle.layout.specs.Laid.{RegionAt}
-use Rattle.layout.specs.Promises.{GuardAt, Flagged, noFlagged, parts, found, Arrays, Room, Holds, withGuard, withRegion}
+use Rattle.layout.specs.Promises.{GuardAt, Flagged, noFlagged, parts, found, Arrays, Room, Holds, withGuard}
+use Rattle.layout.specs.Promises.{withRegion}
 use Rattle.layout.specs.declared.Layout.{Layout}
 
 -- The number of a guard
@@ -34,19 +36,26 @@ module _ {ls : List Lexeme} {done : List Flagged} {l : Layout} (holds : Holds ls
         let spells = found-spells (first-of g) (found done) (omega arith) in
         ap (sameLexemes (spellCond c)) (spells ∙ ap (λ (i : ℕ). spellCond (getD (found done) i noGuard)) has)
 
-    pub number-here : sameGuard c (getD done (getD (l .firsts) g 0) noFlagged .region .guard) ≡ true → g ≡ g + placeIn c (drop g (found done))
+    pub number-here : sameGuard c (getD done (getD (l .firsts) g 0) noFlagged .region .guard) ≡ true
+        → g ≡ g + placeIn c (drop g (found done))
     unfolding first-of
     number-here h =
-        rw (drop-cons (found done) g noGuard low, place-here c _ (drop (suc g) (found done)) (sym first-guard ∙ h)) (omega arith)
+        rw (drop-cons (found done) g noGuard low, place-here c _ (drop (suc g) (found done)) (sym first-guard ∙ h))
+        (omega arith)
 
     pub number-later : sameGuard c (getD done (getD (l .firsts) g 0) noFlagged .region .guard) ≡ false
         → g + 1 + placeIn c (drop (g + 1) (found done)) ≡ g + placeIn c (drop g (found done))
     unfolding first-of
     number-later h =
-        rw (add-one, drop-cons (found done) g noGuard low, place-later c _ (drop (suc g) (found done)) (sym first-guard ∙ h)) (omega arith)
+        rw (
+          add-one,
+          drop-cons (found done) g noGuard low,
+          place-later c _ (drop (suc g) (found done)) (sym first-guard ∙ h),
+        ) (omega arith)
 
     -- where the guard stands
-    pub first-stands : GuardAt ls (getD (l .«guards_at») (getD (l .firsts) g 0) 0) (getD done (getD (l .firsts) g 0) noFlagged .region .guard)
+    pub first-stands : GuardAt ls (getD (l .«guards_at») (getD (l .firsts) g 0) 0)
+        (getD done (getD (l .firsts) g 0) noFlagged .region .guard)
     first-stands =
         let at = holds .stand (getD (l .firsts) g 0) (holds .first-below g low) in
         (at .behind-guard, at .guard-stands)
@@ -73,19 +82,24 @@ module _ (done : List Flagged) (f : Flagged) where
   last-known : Found (f .region .guard) (found done) → found (done ++ (f ∷ [])) ≡ found done
   unfolding guardsOf
   last-known h =
-      ap (guardsOf []) (map-append (λ (e : Flagged). e .region) done (f ∷ [])) ∙ guards-join [] (parts done) (f .region ∷ [])
+      ap (guardsOf []) (map-append (λ (e : Flagged). e .region) done (f ∷ []))
+      ∙ guards-join [] (parts done) (f .region ∷ [])
       ∙ known (found done) (f .region) [] h
 
-  last-new : length (found done) ≤ placeIn (f .region .guard) (found done) → found (done ++ (f ∷ [])) ≡ found done ++ (f .region .guard ∷ [])
+  last-new : length (found done) ≤ placeIn (f .region .guard) (found done)
+      → found (done ++ (f ∷ [])) ≡ found done ++ (f .region .guard ∷ [])
   unfolding guardsOf
   last-new h =
-      ap (guardsOf []) (map-append (λ (e : Flagged). e .region) done (f ∷ [])) ∙ guards-join [] (parts done) (f .region ∷ [])
+      ap (guardsOf []) (map-append (λ (e : Flagged). e .region) done (f ∷ []))
+      ∙ guards-join [] (parts done) (f .region ∷ [])
       ∙ new (found done) (f .region) [] h
 
   -- what holds of each region with what two arrays have at it, holds with one region more
-  extended : (P : Flagged → ℕ → ℕ → Type 0) (xs ys : List ℕ) (x y n : ℕ) → n ≡ length done → n < length xs → n < length ys
+  extended : (P : Flagged → ℕ → ℕ → Type 0) (xs ys : List ℕ) (x y n : ℕ) → n ≡ length done → n < length xs
+      → n < length ys
       → ((r : ℕ) → r < length done → P (getD done r noFlagged) (getD xs r 0) (getD ys r 0)) → P f x y
-      → (r : ℕ) → r < length (done ++ (f ∷ [])) → P (getD (done ++ (f ∷ [])) r noFlagged) (getD (set xs n x) r 0) (getD (set ys n y) r 0)
+      → (r : ℕ) → r < length (done ++ (f ∷ []))
+      → P (getD (done ++ (f ∷ [])) r noFlagged) (getD (set xs n x) r 0) (getD (set ys n y) r 0)
   extended P xs ys x y n e p q before here r h =
       split (eqb r n)
       (λ t. let same : r ≡ n = eqb-true r n t in
@@ -93,7 +107,11 @@ module _ (done : List Flagged) (f : Flagged) where
       (λ t. let other = eqb-false r n t in
       let sum = length-append done (f ∷ []) in
       let low : r < length done = apart other (omega arith) in
-      rw (List·getD-append done (f ∷ []) noFlagged r low, getD-set-other xs n r x 0 other, getD-set-other ys n r y 0 other) (before r low))
+      rw (
+        List·getD-append done (f ∷ []) noFlagged r low,
+        getD-set-other xs n r x 0 other,
+        getD-set-other ys n r y 0 other,
+      ) (before r low))
     where
       apart : (r ≡ n → ⊥) → r < length done + 1 → r < length done
       apart ne b = omega arith
@@ -125,40 +143,51 @@ module _ (ls : List Lexeme) (done : List Flagged) (f : Flagged) (l : Layout) (ro
         count = let e = holds .count in let sum = length-append done (f ∷ []) in omega arith;
         guard-count = rw are many;
         stand =
-            extended done f (λ e x y. RegionAt ls (e .region) x y) (l .«guards_at») (l .«bodies_at») guard-at body-at (l .regions)
-            (holds .count) (omega (arith, room .arrays .guards-whole)) (omega (arith, room .arrays .bodies-whole)) (holds .stand) stands;
+            extended done f (λ e x y. RegionAt ls (e .region) x y) (l .«guards_at») (l .«bodies_at») guard-at body-at
+            (l .regions)
+            (holds .count) (omega (arith, room .arrays .guards-whole)) (omega (arith, room .arrays .bodies-whole))
+            (holds .stand) stands;
         numbers =
-            rw are (extended done f (λ e x y. x ≡ placeIn (e .region .guard) fs) (l .«guard_of») (l .«guard_of») number number (l .regions)
+            rw are (extended done f (λ e x y. x ≡ placeIn (e .region .guard) fs) (l .«guard_of»)
+            (l .«guard_of») number number (l .regions)
             (holds .count) (omega (arith, room .arrays .numbers-whole)) (omega (arith, room .arrays .numbers-whole))
             (λ r h. holds .numbers r h ∙ sym (kept _ (holds .all-found r h) .0)) (sym here));
         all-found =
-            rw are (extended done f (λ e x y. Found (e .region .guard) fs) (l .«guard_of») (l .«guard_of») number number (l .regions)
+            rw are (extended done f (λ e x y. Found (e .region .guard) fs) (l .«guard_of») (l .«guard_of») number number
+            (l .regions)
             (holds .count) (omega (arith, room .arrays .numbers-whole)) (omega (arith, room .arrays .numbers-whole))
             (λ r h. kept _ (holds .all-found r h) .1) found-here);
         first-below = rw are below;
         first-has = rw are has;
         begin-flags =
-            extended done f (λ e x y. x ≡ e .begins) (l .begins) (l .begins) (f .begins) (f .begins) (l .regions) (holds .count)
-            (omega (arith, room .arrays .begins-whole)) (omega (arith, room .arrays .begins-whole)) (holds .begin-flags) refl;
+            extended done f (λ e x y. x ≡ e .begins) (l .begins) (l .begins) (f .begins) (f .begins) (l .regions)
+            (holds .count)
+            (omega (arith, room .arrays .begins-whole)) (omega (arith, room .arrays .begins-whole))
+            (holds .begin-flags) refl;
         follow-flags =
-            extended done f (λ e x y. x ≡ e .goesOn) (l .«goes_on») (l .«goes_on») (f .goesOn) (f .goesOn) (l .regions) (holds .count)
-            (omega (arith, room .arrays .goes-on-whole)) (omega (arith, room .arrays .goes-on-whole)) (holds .follow-flags) refl;
+            extended done f (λ e x y. x ≡ e .goesOn) (l .«goes_on») (l .«goes_on») (f .goesOn) (f .goesOn) (l .regions)
+            (holds .count)
+            (omega (arith, room .arrays .goes-on-whole)) (omega (arith, room .arrays .goes-on-whole))
+            (holds .follow-flags) refl;
       }
 
   -- a region before keeps its place
   kept-place : (r : ℕ) → r < length done → getD (done ++ (f ∷ [])) r noFlagged ≡ getD done r noFlagged
   kept-place r h = List·getD-append done (f ∷ []) noFlagged r h
 
-  pub with-known : number < l .guards → Holds ls (done ++ (f ∷ [])) (withRegion l guard-at body-at number (f .begins) (f .goesOn))
+  pub with-known : number < l .guards
+      → Holds ls (done ++ (f ∷ [])) (withRegion l guard-at body-at number (f .begins) (f .goesOn))
   with-known h =
       let sum = length-append done (f ∷ []) in
       let count = holds .guard-count in
       let inside : Found (f .region .guard) (found done) = omega arith in
-      grown (found done) (last-known done f inside) (λ c k. (refl, k)) (sym numbered) inside (l .guards) (l .firsts) count
+      grown (found done) (last-known done f inside) (λ c k. (refl, k)) (sym numbered) inside (l .guards)
+      (l .firsts) count
       (λ g k. let b = holds .first-below g k in omega arith)
       (λ g k. rw (kept-place _ (holds .first-below g k)) (holds .first-has g k))
 
-  pub with-new : number ≡ l .guards → Holds ls (done ++ (f ∷ [])) (withRegion (withGuard l) guard-at body-at number (f .begins) (f .goesOn))
+  pub with-new : number ≡ l .guards
+      → Holds ls (done ++ (f ∷ [])) (withRegion (withGuard l) guard-at body-at number (f .begins) (f .goesOn))
   with-new h =
       let sum = length-append done (f ∷ []) in
       let count = holds .guard-count in
@@ -181,7 +210,12 @@ module _ (ls : List Lexeme) (done : List Flagged) (f : Flagged) (l : Layout) (ro
       (let b = holds .first-below g (apart g other (omega arith)) in omega arith)))
       (λ g k. split (eqb g (l .guards))
       (λ t. let same : g ≡ l .guards = eqb-true g (l .guards) t in
-      rw (same, getD-set-same (l .firsts) (l .guards) (l .regions) 0 room-there, regions-are, getD-append-seam done f [] noFlagged)
+      rw (
+        same,
+        getD-set-same (l .firsts) (l .guards) (l .regions) 0 room-there,
+        regions-are,
+        getD-append-seam done f [] noFlagged,
+      )
       (place-last c (found done) outside ∙ sym count))
       (λ t. let other = eqb-false g (l .guards) t in
       let inside = apart g other (omega arith) in
@@ -208,7 +242,8 @@ guard-arrays l a =
       firsts-whole = length-set (l .firsts) (l .guards) (l .regions) ∙ a .firsts-whole;
     }
 
-room-region : (l : Layout) → Arrays l → l .regions < 16 → l .guards ≤ l .regions + 1 → (guard-at body-at number begins goes-on : ℕ)
+room-region : (l : Layout) → Arrays l → l .regions < 16 → l .guards ≤ l .regions + 1
+    → (guard-at body-at number begins goes-on : ℕ)
     → Room (withRegion l guard-at body-at number begins goes-on)
 room-region l a low few guard-at body-at number begins goes-on =
     record {
@@ -233,12 +268,15 @@ module _ (l k : Layout) (n : ℕ) (numbered : Numbered l n k) where
   numbered-room room low guard-at body-at number begins goes-on =
       let few = room .few-guards in
       ⊎-elim
-      (λ w. rw (w .1) (room-region (withGuard l) (guard-arrays l (room .arrays)) low (omega arith) guard-at body-at number begins goes-on))
+      (λ w. rw (w .1) (room-region (withGuard l) (guard-arrays l (room .arrays)) low
+      (omega arith) guard-at body-at number begins goes-on))
       (λ w. rw (w .1) (room-region l (room .arrays) low (omega arith) guard-at body-at number begins goes-on))
       numbered
 
-  pub numbered-holds : (ls : List Lexeme) (done : List Flagged) (f : Flagged) → Room l → Holds ls done l → l .regions < 16
-      → (guard-at body-at : ℕ) → RegionAt ls (f .region) guard-at body-at → n ≡ placeIn (f .region .guard) (found done) → n ≤ l .guards
+  pub numbered-holds : (ls : List Lexeme) (done : List Flagged) (f : Flagged) → Room l → Holds ls done l
+      → l .regions < 16
+      → (guard-at body-at : ℕ) → RegionAt ls (f .region) guard-at body-at → n ≡ placeIn (f .region .guard) (found done)
+      → n ≤ l .guards
       → Holds ls (done ++ (f ∷ [])) (withRegion k guard-at body-at n (f .begins) (f .goesOn))
   numbered-holds ls done f room holds low guard-at body-at stands place few =
       ⊎-elim

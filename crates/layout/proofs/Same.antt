@@ -10,7 +10,10 @@ use lib.Seq.{drop-cons, length-take-le}
 use lib.Dec.{eqb, lit<}
 use borrow.Author.Tests.{eq-eqb, ne-eqb}
 use Rattle.syntax.specs.Bytes.{sameBytes}
-use Rattle.syntax.specs.Token.{Token, lexemes, Lexeme, name, key, number, mark, Mark, lbrace, rbrace, lparen, rparen, semicolon, equals, dots, becomes, same, differs, below, at-most, above, at-least, plus, minus, bang, and-and, or-or, Keyword, k-monitor, k-var, k-in, k-keep, k-method, k-waituntil, k-if, k-else, k-true, k-false, markNumber, keywordNumber, isMark, isKey}
+use Rattle.syntax.specs.Token.{Token, lexemes, Lexeme, name, key, number, mark, Mark, lbrace, rbrace, lparen, rparen}
+use Rattle.syntax.specs.Token.{semicolon, equals, dots, becomes, same, differs, below, at-most, above, at-least, plus}
+use Rattle.syntax.specs.Token.{minus, bang, and-and, or-or, Keyword, k-monitor, k-var, k-in, k-keep, k-method}
+use Rattle.syntax.specs.Token.{k-waituntil, k-if, k-else, k-true, k-false, markNumber, keywordNumber, isMark, isKey}
 use Rattle.syntax.specs.Held.Kind.{kindOf, valueOf, Words}
 use Rattle.syntax.specs.Spelling.{Spells}
 use Rattle.syntax.proofs.Scanning.{token-stands}
@@ -38,7 +41,8 @@ left agree l a b n i = agree (take (n - i) (drop (a + i) l)) (take (n - i) (drop
 
 -- it is the whole at first, goes by the first two of what is left, and is true at last
 module _ {A : Type 0} (agree : List A → List A → Bool) (one : A → A → Bool) (ends : agree [] [] ≡ true)
-    (step : (x y : A) (xs ys : List A) → agree (x ∷ xs) (y ∷ ys) ≡ one x y && agree xs ys) (l : List A) (d : A) (a b n : ℕ) where
+    (step : (x y : A) (xs ys : List A) → agree (x ∷ xs) (y ∷ ys) ≡ one x y && agree xs ys) (l : List A) (d : A)
+    (a b n : ℕ) where
   left-start : left agree l a b n 0 ≡ agree (take n (drop a l)) (take n (drop b l))
   left-start = let e : n - 0 ≡ n = omega arith in rw (e, add-zero, add-zero)
 
@@ -66,15 +70,18 @@ module _ (file : List ℕ) (a b n : ℕ) where
   bytes-over = left-over sameBytes eqb refl (λ x y xs ys. refl) file 0 a b n
 
   module _ (i : ℕ) (h : i < n) (p : a + n ≤ length file) (q : b + n ≤ length file) where
-    pub bytes-turn : getD file (a + i) 0 ≡ getD file (b + i) 0 → left sameBytes file a b n (i + 1) ≡ left sameBytes file a b n i
+    pub bytes-turn : getD file (a + i) 0 ≡ getD file (b + i) 0
+        → left sameBytes file a b n (i + 1) ≡ left sameBytes file a b n i
     unfolding sameBytes
     bytes-turn e =
-        left-same sameBytes eqb refl (λ x y xs ys. refl) file 0 a b n i h p q (eq-eqb (getD file (a + i) 0) (getD file (b + i) 0) e)
+        left-same sameBytes eqb refl (λ x y xs ys. refl) file 0 a b n i h p q
+        (eq-eqb (getD file (a + i) 0) (getD file (b + i) 0) e)
 
     pub bytes-differ : (getD file (a + i) 0 ≡ getD file (b + i) 0 → ⊥) → left sameBytes file a b n i ≡ false
     unfolding sameBytes
     bytes-differ e =
-        left-differs sameBytes eqb refl (λ x y xs ys. refl) file 0 a b n i h p q (ne-eqb (getD file (a + i) 0) (getD file (b + i) 0) e)
+        left-differs sameBytes eqb refl (λ x y xs ys. refl) file 0 a b n i h p q
+        (ne-eqb (getD file (a + i) 0) (getD file (b + i) 0) e)
 
 -- lexemes
 module _ (ls : List Lexeme) (a b n : ℕ) where
@@ -178,7 +185,8 @@ module _ (k l : Lexeme) where
 
 -- The tokens of a file as numbers
 
-pub getD-map : {A : Type 0} (f : A → ℕ) (l : List A) (i : ℕ) (d : A) → i < length l → getD (map f l) i 0 ≡ f (getD l i d)
+pub getD-map : {A : Type 0} (f : A → ℕ) (l : List A) (i : ℕ) (d : A) → i < length l
+    → getD (map f l) i 0 ≡ f (getD l i d)
 getD-map f [] i d h = absurd (omega arith)
 getD-map f (x ∷ l) zero d h = refl
 getD-map f (x ∷ l) (suc i) d h = getD-map f l i d (omega arith)
@@ -210,7 +218,8 @@ spells-name (Spells.named a b i) x e = cc
 spells-name (Spells.valued a b) x e = different (cc)
 spells-name (Spells.marked i) x e = different (cc)
 
-module _ {file : List ℕ} {ts : List Token} {kinds values places : List ℕ} (words : Words file ts kinds values places) where
+module _ {file : List ℕ} {ts : List Token} {kinds values places : List ℕ}
+    (words : Words file ts kinds values places) where
   pub kinds-are : kinds ≡ map kindOf (lexemes ts)
   kinds-are = words .by-kind ∙ kinds-of ts
 
@@ -254,7 +263,8 @@ module _ {file : List ℕ} {ts : List Token} {kinds values places : List ℕ} (w
     kinds-differ n = sym (other-kind (lexemeAt ts a) (lexemeAt ts b) (λ e. n (kind-is a ha ∙ e ∙ sym (kind-is b hb))))
 
     pub values-differ : (getD values a 0 ≡ getD values b 0 → ⊥) → false ≡ sameLexeme (lexemeAt ts a) (lexemeAt ts b)
-    values-differ n = sym (other-value (lexemeAt ts a) (lexemeAt ts b) (λ e. n (value-is a ha ∙ e ∙ sym (value-is b hb))))
+    values-differ n =
+        sym (other-value (lexemeAt ts a) (lexemeAt ts b) (λ e. n (value-is a ha ∙ e ∙ sym (value-is b hb))))
 
     module _ (kind : getD kinds a 0 ≡ getD kinds b 0) (value : getD values a 0 ≡ getD values b 0) where
       pub no-names : (getD kinds a 0 ≡ 30 → ⊥) → true ≡ sameLexeme (lexemeAt ts a) (lexemeAt ts b)
@@ -283,7 +293,8 @@ module _ {file : List ℕ} {ts : List Token} {kinds values places : List ℕ} (w
         pub second-fits : getD places b 0 + getD values a 0 ≤ length file
         second-fits = rw second-long (name-stands b hb (second-name .0) (second-name .1) .0)
 
-        pub names-agree : sameBytes (take (getD values a 0) (drop (getD places a 0) file)) (take (getD values a 0) (drop (getD places b 0) file))
+        pub names-agree : sameBytes (take (getD values a 0) (drop (getD places a 0) file))
+            (take (getD values a 0) (drop (getD places b 0) file))
             ≡ sameLexeme (lexemeAt ts a) (lexemeAt ts b)
         unfolding sameLexeme
         names-agree =

@@ -1,4 +1,5 @@
--- A region and the methods among the tokens: where the guard and the body stand, what stands behind, and the flags of regions.
+-- A region and the methods among the tokens: where the guard and the body stand, what stands behind, and the flags of
+-- regions.
 use Prim.Native.Nat.{ℕ, _+_, _<_}
 use native.Mathlib.Omega.{arith}
 use native.Mathlib.Nat.{add-zero}
@@ -44,27 +45,37 @@ spelled-kinds ls at q us h =
     let behind-body = mark rbrace ∷ us in
     let behind-guard = mark lbrace ∷ (spellBlock (q .body) ++ behind-body) in
     let guard : drop (at + toGuard) ls ≡ spellCond (q .guard) ++ (mark rparen ∷ behind-guard) =
-    later toGuard at ls _ h ∙ append-assoc (spellCond (q .guard)) (mark rparen ∷ mark lbrace ∷ (spellBlock (q .body) ++ (mark rbrace ∷ []))) us
-    ∙ ap (λ (x : List Lexeme). spellCond (q .guard) ++ (mark rparen ∷ mark lbrace ∷ x)) (append-assoc (spellBlock (q .body)) (mark rbrace ∷ []) us) in
-    let bracket = close-stands 2 3 (at + toGuard) ls (spellCond (q .guard)) behind-guard (mark rparen) (brackets-balanced (q .guard)) (λ e. omega arith) refl guard in
-    let body : drop (bodyOf kinds at) ls ≡ spellBlock (q .body) ++ behind-body = later toBody (at + toGuard + closeFrom 2 3 0 (drop (at + toGuard) kinds)) ls _ bracket in
-    let brace = close-stands 0 1 (bodyOf kinds at) ls (spellBlock (q .body)) us (mark rbrace) (braces-balanced (q .body)) (λ e. omega arith) refl body in
+    later toGuard at ls _ h ∙ append-assoc (spellCond (q .guard))
+    (mark rparen ∷ mark lbrace ∷ (spellBlock (q .body) ++ (mark rbrace ∷ []))) us
+    ∙ ap (λ (x : List Lexeme). spellCond (q .guard) ++ (mark rparen ∷ mark lbrace ∷ x))
+    (append-assoc (spellBlock (q .body)) (mark rbrace ∷ []) us) in
+    let bracket = close-stands 2 3 (at + toGuard) ls (spellCond (q .guard)) behind-guard (mark rparen)
+    (brackets-balanced (q .guard)) (λ e. omega arith) refl guard in
+    let body : drop (bodyOf kinds at) ls ≡ spellBlock (q .body) ++ behind-body =
+    later toBody (at + toGuard + closeFrom 2 3 0 (drop (at + toGuard) kinds)) ls _ bracket in
+    let brace = close-stands 0 1 (bodyOf kinds at) ls (spellBlock (q .body)) us (mark rbrace)
+    (braces-balanced (q .body)) (λ e. omega arith) refl body in
     record {
       stands = record { behind-guard = behind-guard; behind-body = us; guard-stands = guard; body-stands = body };
       behind = later past (bodyOf kinds at + closeFrom 0 1 0 (drop (bodyOf kinds at) kinds)) ls _ brace;
-      guard-low = let e = stands-below (at + toGuard) ls (spellCond (q .guard)) behind-guard (mark rparen) guard in omega arith;
+      guard-low =
+          let e = stands-below (at + toGuard) ls (spellCond (q .guard)) behind-guard (mark rparen) guard in omega arith;
       body-low = let e = stands-below (bodyOf kinds at) ls (spellBlock (q .body)) us (mark rbrace) body in omega arith;
     }
 
-module _ {file : List ℕ} {ts : List Token} {kinds values places : List ℕ} (words : Words file ts kinds values places) where
-  pub spelled : (at : ℕ) (q : Region) (us : List Lexeme) → drop at (lexemes ts) ≡ spellRegion q ++ us → Spelled (lexemes ts) kinds at q us
+module _ {file : List ℕ} {ts : List Token} {kinds values places : List ℕ}
+    (words : Words file ts kinds values places) where
+  pub spelled : (at : ℕ) (q : Region) (us : List Lexeme) → drop at (lexemes ts) ≡ spellRegion q ++ us
+      → Spelled (lexemes ts) kinds at q us
   spelled at q us h = rw (kinds-are words) (spelled-kinds (lexemes ts) at q us h)
 
   -- the kind at a token is that of what stands there
-  pub kind-behind : (at : ℕ) (us : List Lexeme) → drop at (lexemes ts) ≡ us → getD kinds at 255 ≡ getD (map kindOf us) 0 255
+  pub kind-behind : (at : ℕ) (us : List Lexeme) → drop at (lexemes ts) ≡ us
+      → getD kinds at 255 ≡ getD (map kindOf us) 0 255
   kind-behind at us h =
       rw (kinds-are words)
-      (ap (λ (k : ℕ). getD (map kindOf (lexemes ts)) k 255) (sym (add-zero at)) ∙ sym (getD-drop at (map kindOf (lexemes ts)) 0 255)
+      (ap (λ (k : ℕ). getD (map kindOf (lexemes ts)) k 255) (sym (add-zero at))
+      ∙ sym (getD-drop at (map kindOf (lexemes ts)) 0 255)
       ∙ ap (λ (ks : List ℕ). getD ks 0 255) (kinds-from at (lexemes ts) ∙ ap (map kindOf) h))
 
   pub flag-behind : (at : ℕ) (us : List Lexeme) → drop at (lexemes ts) ≡ us → flagAt kinds at ≡ flagAt (map kindOf us) 0

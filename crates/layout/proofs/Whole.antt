@@ -1,4 +1,5 @@
--- The layout of a whole file: its regions with their flags are those of the monitor, and a layout that holds them is its layout.
+-- The layout of a whole file: its regions with their flags are those of the monitor, and a layout that holds them is
+-- its layout.
 use Prim.Native.Nat.{ℕ, zero, suc, _+_, _≤_, _<_}
 use native.Mathlib.Omega.{arith}
 use mathlib.Core.Path.{_≡_, refl, sym, ap, _∙_}
@@ -71,13 +72,15 @@ unfolding bit
 more-is [] = refl
 more-is (q ∷ qs) = rw (lt-ltb 1 (suc (suc (length qs))) (omega arith), bit)
 
-goes-on-at : (b : ℕ) (qs : List Region) (i : ℕ) → i < length qs → getD (flagRegions b qs) i noFlagged .goesOn ≡ bit (ltb (i + 1) (length qs))
+goes-on-at : (b : ℕ) (qs : List Region) (i : ℕ) → i < length qs
+    → getD (flagRegions b qs) i noFlagged .goesOn ≡ bit (ltb (i + 1) (length qs))
 unfolding flagRegions
 goes-on-at b [] i h = absurd (omega arith)
 goes-on-at b (q ∷ qs) zero h = more-is qs
 goes-on-at b (q ∷ qs) (suc i) h =
     let e : suc i + 1 ≡ suc (i + 1) = omega arith in
-    goes-on-at 0 qs i (omega arith) ∙ ap bit (sym (ap (λ (n : ℕ). ltb n (suc (length qs))) e ∙ ltb-suc (i + 1) (length qs)))
+    goes-on-at 0 qs i (omega arith)
+    ∙ ap bit (sym (ap (λ (n : ℕ). ltb n (suc (length qs))) e ∙ ltb-suc (i + 1) (length qs)))
 
 flagged-parts : (before : List Method) (x : Method) (after : List Method)
     → flagged (before ++ (x ∷ after)) ≡ flagged before ++ (flagRegions 1 (all (x .regions)) ++ flagged after)
@@ -85,28 +88,34 @@ unfolding flagged
 flagged-parts [] x after = refl
 flagged-parts (y ∷ before) x after =
     ap (λ (fs : List Flagged). flagRegions 1 (all (y .regions)) ++ fs) (flagged-parts before x after)
-    ∙ sym (append-assoc (flagRegions 1 (all (y .regions))) (flagged before) (flagRegions 1 (all (x .regions)) ++ flagged after))
+    ∙ sym (append-assoc (flagRegions 1 (all (y .regions))) (flagged before)
+    (flagRegions 1 (all (x .regions)) ++ flagged after))
 
-flagged-at : {ms : List Method} {r i : ℕ} (t : InMethod ms r i) → getD (flagged ms) r noFlagged ≡ getD (flagRegions 1 (all (t .method .regions))) i noFlagged
+flagged-at : {ms : List Method} {r i : ℕ} (t : InMethod ms r i)
+    → getD (flagged ms) r noFlagged ≡ getD (flagRegions 1 (all (t .method .regions))) i noFlagged
 flagged-at {ms} {r} {i} t =
     let qs = flagRegions 1 (all (t .method .regions)) in
-    let place : r ≡ length (flagged (t .before)) + i = t .number ∙ ap (λ (n : ℕ). n + i) (sym (flagged-count (t .before))) in
+    let place : r ≡ length (flagged (t .before)) + i =
+    t .number ∙ ap (λ (n : ℕ). n + i) (sym (flagged-count (t .before))) in
     let count = flag-count 1 (all (t .method .regions)) in
     let low : i < length qs = let w = t .within in omega arith in
     rw (place, t .parts, flagged-parts (t .before) (t .method) (t .after))
-    (getD-append-add (flagged (t .before)) (qs ++ flagged (t .after)) i noFlagged ∙ List·getD-append qs (flagged (t .after)) noFlagged i low)
+    (getD-append-add (flagged (t .before)) (qs ++ flagged (t .after)) i noFlagged
+    ∙ List·getD-append qs (flagged (t .after)) noFlagged i low)
 
 module _ (ms : List Method) (r : ℕ) (h : r < length (regionsOf ms)) where
   begins-is : getD (flagged ms) r noFlagged .begins ≡ bit (beginsIn ms r)
   begins-is =
       let p = in-method ms r h in
-      ap (λ (f : Flagged). f .begins) (flagged-at (p .1)) ∙ begins-at (all (p .1 .method .regions)) (p .0) (p .1 .within)
+      ap (λ (f : Flagged). f .begins) (flagged-at (p .1))
+      ∙ begins-at (all (p .1 .method .regions)) (p .0) (p .1 .within)
       ∙ ap bit (sym (begins-in-method (p .1)))
 
   goes-on-is : getD (flagged ms) r noFlagged .goesOn ≡ bit (goesOnIn ms r)
   goes-on-is =
       let p = in-method ms r h in
-      ap (λ (f : Flagged). f .goesOn) (flagged-at (p .1)) ∙ goes-on-at 1 (all (p .1 .method .regions)) (p .0) (p .1 .within)
+      ap (λ (f : Flagged). f .goesOn) (flagged-at (p .1))
+      ∙ goes-on-at 1 (all (p .1 .method .regions)) (p .0) (p .1 .within)
       ∙ ap bit (sym (goes-on-in-method (p .1)))
 
 follows-bit : (r : ℕ) (b : Bool) → elim b [ true ↦ machine.due (r + 1) | false ↦ machine.idle ] ≡ followsBy r (bit b)
@@ -165,7 +174,8 @@ holds-none r g =
     }
 
 -- where the code begins: at the kept condition, and behind its semicolon at the methods
-module _ (m : Monitor) {file : List ℕ} {ts : List Token} {kinds values places : List ℕ} (words : Words file ts kinds values places)
+module _ (m : Monitor) {file : List ℕ} {ts : List Token} {kinds values places : List ℕ}
+    (words : Words file ts kinds values places)
     (spells : spell m ≡ lexemes ts) (k : ℕ) (keep : IsKeep m ts k) where
   pub keep-below : k < length kinds
   unfolding IsKeep
@@ -178,10 +188,12 @@ module _ (m : Monitor) {file : List ℕ} {ts : List Token} {kinds values places 
   unfolding IsKeep
   keep-at = (keep .0, later toKept k (lexemes ts) _ (keep .1))
 
-  pub methods-at : drop (k + toKept + closeFrom 255 4 0 (drop (k + toKept) kinds) + past) (lexemes ts) ≡ methodsAhead (all (m .methods))
+  pub methods-at : drop (k + toKept + closeFrom 255 4 0 (drop (k + toKept) kinds) + past) (lexemes ts)
+      ≡ methodsAhead (all (m .methods))
   unfolding IsKeep kindOf markNumber
   methods-at =
-      let semi = close-stands 255 4 (k + toKept) (lexemes ts) (spellCond (m .keep)) (keep .0) (mark semicolon) (semicolons-balanced (m .keep))
+      let semi = close-stands 255 4 (k + toKept) (lexemes ts) (spellCond (m .keep)) (keep .0) (mark semicolon)
+      (semicolons-balanced (m .keep))
       (λ e. omega arith) refl (later toKept k (lexemes ts) _ (keep .1)) in
       rw (kinds-are words)
       (later past (k + toKept + closeFrom 255 4 0 (drop (k + toKept) (map kindOf (lexemes ts)))) (lexemes ts) _ semi

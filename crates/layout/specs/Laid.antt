@@ -32,7 +32,8 @@ pub record Laid (m : Monitor) (ls : List Lexeme) (l : Layout) : Type 0 where
   pub keep-stands : drop (l .keep) ls ≡ spellCond (m .keep) ++ (mark semicolon ∷ behind-keep)
   pub region-count : l .regions ≡ length (regions m)
   pub guard-count : l .guards ≡ length (guards m)
-  pub regions-stand : (r : ℕ) → r < length (regions m) → RegionAt ls (region m r) (getD (l .«guards_at») r 0) (getD (l .«bodies_at») r 0)
+  pub regions-stand : (r : ℕ) → r < length (regions m)
+      → RegionAt ls (region m r) (getD (l .«guards_at») r 0) (getD (l .«bodies_at») r 0)
   pub guard-numbers : (r : ℕ) → r < length (regions m) → getD (l .«guard_of») r 0 ≡ guardOf m r
   pub first-below : (g : ℕ) → g < length (guards m) → getD (l .firsts) g 0 < length (regions m)
   pub first-has : (g : ℕ) → g < length (guards m) → guardOf m (getD (l .firsts) g 0) ≡ g

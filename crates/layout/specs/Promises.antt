@@ -1,4 +1,5 @@
--- What the parts of the layout's code say: tokens and guards that are the same, and a layout that holds the regions so far.
+-- What the parts of the layout's code say: tokens and guards that are the same, and a layout that holds the regions so
+-- far.
 use Prim.Native.Nat.{ℕ, _+_, _<_, _≤_}
 use mathlib.Core.Path.{_≡_}
 use mathlib.Core.Bool.{Bool}
@@ -32,7 +33,8 @@ GuardAt ls at c = (us : List Lexeme) × (drop at ls ≡ spellCond c ++ (mark rpa
 
 module _ (file kinds values places : List ℕ) where
   abbrev pub SameToken : ℕ → ℕ → Bool → Type 0
-  SameToken a b r = (ts : List Token) → Words file ts kinds values places → r ≡ sameLexeme (lexemeAt ts a) (lexemeAt ts b)
+  SameToken a b r =
+      (ts : List Token) → Words file ts kinds values places → r ≡ sameLexeme (lexemeAt ts a) (lexemeAt ts b)
 
   abbrev pub SameTokens : ℕ → ℕ → ℕ → Bool → Type 0
   SameTokens a b n r =
@@ -41,7 +43,8 @@ module _ (file kinds values places : List ℕ) where
 
   abbrev pub SameGuard : ℕ → ℕ → Bool → Type 0
   SameGuard a b r =
-      (ts : List Token) (c d : Cond) → Words file ts kinds values places → GuardAt (lexemes ts) a c → GuardAt (lexemes ts) b d
+      (ts : List Token) (c d : Cond) → Words file ts kinds values places → GuardAt (lexemes ts) a c
+      → GuardAt (lexemes ts) b d
       → r ≡ sameGuard c d
 
 -- A region with its flags: whether it begins a method (1), and whether another follows it there (1)
@@ -96,11 +99,15 @@ pub record Room (l : Layout) : Type 0 where
 pub record Holds (ls : List Lexeme) (done : List Flagged) (l : Layout) : Type 0 where
   pub count : l .regions ≡ length done
   pub guard-count : l .guards ≡ length (found done)
-  pub stand : (r : ℕ) → r < length done → RegionAt ls (getD done r noFlagged .region) (getD (l .«guards_at») r 0) (getD (l .«bodies_at») r 0)
-  pub numbers : (r : ℕ) → r < length done → getD (l .«guard_of») r 0 ≡ placeIn (getD done r noFlagged .region .guard) (found done)
-  pub all-found : (r : ℕ) → r < length done → placeIn (getD done r noFlagged .region .guard) (found done) < length (found done)
+  pub stand : (r : ℕ) → r < length done
+      → RegionAt ls (getD done r noFlagged .region) (getD (l .«guards_at») r 0) (getD (l .«bodies_at») r 0)
+  pub numbers : (r : ℕ) → r < length done
+      → getD (l .«guard_of») r 0 ≡ placeIn (getD done r noFlagged .region .guard) (found done)
+  pub all-found : (r : ℕ) → r < length done
+      → placeIn (getD done r noFlagged .region .guard) (found done) < length (found done)
   pub first-below : (g : ℕ) → g < length (found done) → getD (l .firsts) g 0 < length done
-  pub first-has : (g : ℕ) → g < length (found done) → placeIn (getD done (getD (l .firsts) g 0) noFlagged .region .guard) (found done) ≡ g
+  pub first-has : (g : ℕ) → g < length (found done)
+      → placeIn (getD done (getD (l .firsts) g 0) noFlagged .region .guard) (found done) ≡ g
   pub begin-flags : (r : ℕ) → r < length done → getD (l .begins) r 0 ≡ getD done r noFlagged .begins
   pub follow-flags : (r : ℕ) → r < length done → getD (l .«goes_on») r 0 ≡ getD done r noFlagged .goesOn
 
@@ -154,9 +161,11 @@ module _ (file kinds values places : List ℕ) where
 
   abbrev pub AddsRegion : Layout → ℕ → ℕ → Spot → Type 0
   AddsRegion l at begins s =
-      (ts : List Token) (done : List Flagged) (q : Region) (us : List Lexeme) → Words file ts kinds values places → length ts ≤ 1024
+      (ts : List Token) (done : List Flagged) (q : Region) (us : List Lexeme) → Words file ts kinds values places
+      → length ts ≤ 1024
       → Holds (lexemes ts) done l → drop at (lexemes ts) ≡ spellRegion q ++ us
-      → Reached (lexemes ts) (done ++ (record { region = q; begins = begins; goesOn = flagAt (map kindOf us) 0 } ∷ [])) us s
+      → Reached (lexemes ts)
+      (done ++ (record { region = q; begins = begins; goesOn = flagAt (map kindOf us) 0 } ∷ [])) us s
 
   abbrev pub AddsMethod : Layout → ℕ → Spot → Type 0
   AddsMethod l at s =

@@ -1,5 +1,6 @@
-// Where the kept condition, guards and bodies of a file stand among its tokens; the numbers of its guards; which regions begin
-// a method and which go on in it; and for each brace that opens a block the place of the one that closes it.
+// Where the kept condition, guards and bodies of a file stand among its tokens; the numbers of its guards; which
+// regions begin a method and which go on in it; and for each brace that opens a block the place of the one that closes
+// it.
 ghost use mathlib.Core.Path.{_≡_};
 ghost use mathlib.Core.List.{List};
 ghost use Prim.Native.Nat.{_+_, _%_, _<_, _≤_};
@@ -12,7 +13,8 @@ ghost use Rattle.layout.specs.Laid.{Kinds, IsKeep, Laid, Linked};
 ghost use Rattle.syntax.specs.Held.Kind.{Words};
 ghost use Rattle.layout.specs.Closing.{closeFrom};
 ghost use Rattle.layout.specs.Places.{overrun};
-ghost use Rattle.layout.specs.Promises.{Sized, SameToken, SameTokens, SameGuard, flagAt, withGuard, withRegion, Numbers, Room, AddsRegion, AddsMethod, Grown};
+ghost use Rattle.layout.specs.Promises.{Sized, SameToken, SameTokens, SameGuard, flagAt, withGuard, withRegion};
+ghost use Rattle.layout.specs.Promises.{Numbers, Room, AddsRegion, AddsMethod, Grown};
 
 // At most sixteen regions and guards.
 pub struct Layout {
@@ -20,8 +22,8 @@ pub struct Layout {
     pub keep: usize,
     pub regions: usize,
     pub guards: usize,
-    // of each region: the tokens at which its guard and its body begin, its guard's number, whether it begins a method (1),
-    // and whether another region follows it in its method (1)
+    // of each region: the tokens at which its guard and its body begin, its guard's number, whether it begins a method
+    // (1), and whether another region follows it in its method (1)
     pub guards_at: [u16; 16],
     pub bodies_at: [u16; 16],
     pub guard_of: [u8; 16],
@@ -55,8 +57,9 @@ const NAME: u8 = 30;
 
 const END: u8 = 255;
 
-// How many tokens on a part begins: the kept condition from `keep`, a method's regions from `method` (`method NAME {`), a guard from
-// `waituntil` (`waituntil (`), a body from the bracket that closes the guard (`) {`), and what stands behind a token that closes.
+// How many tokens on a part begins: the kept condition from `keep`, a method's regions from `method` (`method NAME {`),
+// a guard from `waituntil` (`waituntil (`), a body from the bracket that closes the guard (`) {`), and what stands
+// behind a token that closes.
 const TO_KEPT: usize = 1;
 
 const TO_REGIONS: usize = 3;
@@ -125,7 +128,8 @@ fn wide(x: u16) -> usize
 // Whether two tokens are equal, numbers by value; a name's value is its length.
 fn same_token(file: &[u8], kinds: &[u8], values: &[u16], places: &[u16], a: usize, b: usize) -> bool
     requires { ⌜ Sized (now kinds) (now values) (now places) × (a < length (now kinds)) × (b < length (now kinds)) ⌝ }
-    ensures { λ r. ⌜ SameToken (now (file .entry)) (now (kinds .entry)) (now (values .entry)) (now (places .entry)) a b r ⌝ }
+    ensures { λ r. ⌜ SameToken (now (file .entry)) (now (kinds .entry)) (now (values .entry))
+        (now (places .entry)) a b r ⌝ }
 {
     if kinds[a] != kinds[b] {
         return false;
@@ -158,8 +162,10 @@ fn same_tokens(
     b: usize,
     n: usize,
 ) -> bool
-    requires { ⌜ Sized (now kinds) (now values) (now places) × (a + n ≤ length (now kinds)) × (b + n ≤ length (now kinds)) ⌝ }
-    ensures { λ r. ⌜ SameTokens (now (file .entry)) (now (kinds .entry)) (now (values .entry)) (now (places .entry)) a b n r ⌝ }
+    requires { ⌜ Sized (now kinds) (now values) (now places) × (a + n ≤ length (now kinds))
+        × (b + n ≤ length (now kinds)) ⌝ }
+    ensures { λ r. ⌜ SameTokens (now (file .entry)) (now (kinds .entry)) (now (values .entry))
+        (now (places .entry)) a b n r ⌝ }
 {
     let mut i: usize = 0;
     while i < n {
@@ -174,7 +180,8 @@ fn same_tokens(
 // Whether the guards that begin at two tokens are one.
 fn same_guard(file: &[u8], kinds: &[u8], values: &[u16], places: &[u16], a: usize, b: usize) -> bool
     requires { ⌜ Sized (now kinds) (now values) (now places) ⌝ }
-    ensures { λ r. ⌜ SameGuard (now (file .entry)) (now (kinds .entry)) (now (values .entry)) (now (places .entry)) a b r ⌝ }
+    ensures { λ r. ⌜ SameGuard (now (file .entry)) (now (kinds .entry)) (now (values .entry))
+        (now (places .entry)) a b r ⌝ }
 {
     if kinds.len() < a {
         return false;
@@ -217,7 +224,8 @@ fn guard_number(
     at: usize,
 ) -> usize
     requires { ⌜ Sized (now kinds) (now values) (now places) × Room layout ⌝ }
-    ensures { λ r. ⌜ (r ≤ layout .guards) × Numbers (now (file .entry)) (now (kinds .entry)) (now (values .entry)) (now (places .entry)) layout at r ⌝ }
+    ensures { λ r. ⌜ (r ≤ layout .guards)
+        × Numbers (now (file .entry)) (now (kinds .entry)) (now (values .entry)) (now (places .entry)) layout at r ⌝ }
 {
     let mut g = 0;
     while g < layout.guards {
@@ -294,9 +302,11 @@ fn add_region(
     at: usize,
     begins: u8,
 ) -> Spot
-    requires { ⌜ Sized (now kinds) (now values) (now places) × (at < length (now kinds)) × Room layout × (layout .regions < 16) ⌝ }
+    requires { ⌜ Sized (now kinds) (now values) (now places) × (at < length (now kinds)) × Room layout
+        × (layout .regions < 16) ⌝ }
     ensures { λ r. ⌜ Grown (now (kinds .entry)) layout at r × (at < r .at) × (r .layout .regions ≡ layout .regions + 1)
-        × AddsRegion (now (file .entry)) (now (kinds .entry)) (now (values .entry)) (now (places .entry)) layout at begins r ⌝ }
+        × AddsRegion (now (file .entry)) (now (kinds .entry)) (now (values .entry)) (now (places .entry))
+        layout at begins r ⌝ }
 {
     let guard_at = at + TO_GUARD;
     let body_at = closing(kinds, guard_at, LPAREN, RPAREN) + TO_BODY;
@@ -330,7 +340,8 @@ fn add_method(
 ) -> Spot
     requires { ⌜ Sized (now kinds) (now values) (now places) × (at ≤ length (now kinds) + overrun) × Room layout ⌝ }
     ensures { λ r. ⌜ Grown (now (kinds .entry)) layout at r
-        × AddsMethod (now (file .entry)) (now (kinds .entry)) (now (values .entry)) (now (places .entry)) layout at r ⌝ }
+        × AddsMethod (now (file .entry)) (now (kinds .entry)) (now (values .entry)) (now (places .entry))
+        layout at r ⌝ }
 {
     let mut so_far = layout;
     let mut i = at;
@@ -356,8 +367,10 @@ fn add_method(
 
 // The layout of a file of the grammar, whose `keep` stands at a token.
 pub fn lay_out(file: &[u8], kinds: &[u8], values: &[u16], places: &[u16], keep: usize) -> Layout
-    ensures { λ r. ⌜ ((m : Monitor) (ts : List Token) → Words (now (file .entry)) ts (now (kinds .entry)) (now (values .entry)) (now (places .entry))
-        → spell m ≡ lexemes ts → length (regions m) ≤ 16 → length ts ≤ 1024 → IsKeep m ts keep → Laid m (lexemes ts) r) ⌝ }
+    ensures { λ r. ⌜ ((m : Monitor) (ts : List Token)
+        → Words (now (file .entry)) ts (now (kinds .entry)) (now (values .entry)) (now (places .entry))
+        → spell m ≡ lexemes ts → length (regions m) ≤ 16 → length ts ≤ 1024 → IsKeep m ts keep
+        → Laid m (lexemes ts) r) ⌝ }
 {
     if kinds.len() <= keep {
         return empty(0);
@@ -381,7 +394,8 @@ pub fn lay_out(file: &[u8], kinds: &[u8], values: &[u16], places: &[u16], keep: 
 
 // At each opening brace the operand becomes the token of the closing one; the others stay.
 pub fn link_braces(kinds: &[u8], operands: &mut [u16])
-    ensures { λ _. ⌜ ((ls : List Lexeme) → Kinds ls (now (kinds .entry)) → length (now (operands .entry)) ≡ length ls → length ls ≤ 1024
+    ensures { λ _. ⌜ ((ls : List Lexeme) → Kinds ls (now (kinds .entry)) → length (now (operands .entry)) ≡ length ls
+        → length ls ≤ 1024
         → Linked ls (now (operands .entry)) (now (operands .exit))) ⌝ }
 {
     if operands.len() != kinds.len() {

@@ -39,7 +39,8 @@ few-lexemes ts e = omega (arith, few-tokens ts e, lexemes-length ts)
 
 module _ {file : List ℕ} {ts : List Token} {kinds values places : List ℕ} (w : Words file ts kinds values places) where
   -- the answer says a refusal of the file
-  pub judged-refused : (j : Judged) {n k l : ℕ} → (j .answer .number ≡ suc n) × (j .answer .first ≡ l) × (j .answer .second ≡ 0) → l ≡ k
+  pub judged-refused : (j : Judged) {n k l : ℕ}
+      → (j .answer .number ≡ suc n) × (j .answer .first ≡ l) × (j .answer .second ≡ 0) → l ≡ k
       → check file ≡ refused (answer (suc n) k 0) → Judges file ts j
   unfolding Judges JudgedBy Is answerOf
   judged-refused j (a, b, c) e v =
@@ -58,10 +59,12 @@ module _ {file : List ℕ} {ts : List Token} {kinds values places : List ℕ} (w
         (λ h. let below = ltb-true i (length places) h in
         says-4 w room i r below ∙ ap (λ (k : ℕ). refused (answer 4 k 0)) (within-getD places i 0 (length file) below))
         (λ h. let past = ltb-false i (length places) h in
-        says-4-end w room i r past ∙ ap (λ (k : ℕ). refused (answer 4 k 0)) (sym (List·getD-eq-default places (length file) past)))
+        says-4-end w room i r past
+        ∙ ap (λ (k : ℕ). refused (answer 4 k 0)) (sym (List·getD-eq-default places (length file) past)))
 
     -- 3 to 7 do not arise
-    pub past-7 : (m : Monitor) (spelt : spell m ≡ lexemes ts) → pastLimit 0 0 0 ts ≡ none → misnamed (number 0) [] [] ts ≡ none
+    pub past-7 : (m : Monitor) (spelt : spell m ≡ lexemes ts) → pastLimit 0 0 0 ts ≡ none
+        → misnamed (number 0) [] [] ts ≡ none
         → (d : Declared) → RangedBy true (all (m .vars)) (lexemes ts) (key k-keep ∷ behindKeep m) firstVar d
         → (j : Judged) → j .keep ≡ d .token → j .bounds ≡ d .bounds → Past7 ts m j
     unfolding RangedBy

@@ -37,7 +37,8 @@ use Rattle.loader.specs.declared.Loaded.{Loaded}
 use Rattle.loader.proofs.Fills.{numbers-of}
 
 -- an answer other than 0 is that of no accepted file
-loads-refused : (file : List ℕ) (l : Loaded) (kept holds after : List ℕ) → (l .answer .number ≡ 0 → ⊥) → Is (l .answer) (check file)
+loads-refused : (file : List ℕ) (l : Loaded) (kept holds after : List ℕ) → (l .answer .number ≡ 0 → ⊥)
+    → Is (l .answer) (check file)
     → Loads file l kept holds after
 unfolding Is answerOf
 loads-refused file l kept holds after other is =
@@ -48,11 +49,14 @@ unfolding Is answerOf
 is-refused file e s = rw e s
 
 -- 1 and 2
-pub loads-said : (file : List ℕ) (l : Loaded) (kept holds after : List ℕ) {r : code.Answer} (n : ℕ) {k : ℕ} → l .answer ≡ r
-    → (r .number ≡ suc n) × (r .first ≡ k) × (r .second ≡ 0) → check file ≡ refused (answer (suc n) k 0) → Loads file l kept holds after
+pub loads-said : (file : List ℕ) (l : Loaded) (kept holds after : List ℕ) {r : code.Answer} (n : ℕ) {k : ℕ}
+    → l .answer ≡ r
+    → (r .number ≡ suc n) × (r .first ≡ k) × (r .second ≡ 0) → check file ≡ refused (answer (suc n) k 0)
+    → Loads file l kept holds after
 loads-said file l kept holds after n same (a, b, c) e =
     loads-refused file l kept holds after (λ z. omega (arith, ap (λ (x : code.Answer). x .number) same))
-    (subst (λ (x : code.Answer). Is x (check file)) (sym same) (is-refused file e (record { number = a; first = b; second = c })))
+    (subst (λ (x : code.Answer). Is x (check file)) (sym same)
+    (is-refused file e (record { number = a; first = b; second = c })))
 
 -- the answer of 3 to 7
 module _ (file : List ℕ) (ts : List Token) (j : Judged) where
@@ -64,7 +68,8 @@ module _ (file : List ℕ) (ts : List Token) (j : Judged) where
       go zero other q = absurd (other refl)
       go (suc n) other q = q
 
-  pub loads-judged : (l : Loaded) (kept holds after : List ℕ) → l .answer ≡ j .answer → (j .answer .number ≡ 0 → ⊥) → Judges file ts j
+  pub loads-judged : (l : Loaded) (kept holds after : List ℕ) → l .answer ≡ j .answer → (j .answer .number ≡ 0 → ⊥)
+      → Judges file ts j
       → Loads file l kept holds after
   loads-judged l kept holds after same other q =
       loads-refused file l kept holds after (λ z. other (ap (λ (x : code.Answer). x .number) (sym same) ∙ z))
@@ -74,7 +79,8 @@ module _ (file : List ℕ) (ts : List Token) (j : Judged) where
   unfolding Judges JudgedBy
   judged-tree e q = subst (λ (n : ℕ). JudgedBy n file ts j) e q
 
-module _ {file : List ℕ} {ts : List Token} {kinds values places : List ℕ} (w : Words file ts kinds values places) (m : Monitor) (j : Judged)
+module _ {file : List ℕ} {ts : List Token} {kinds values places : List ℕ} (w : Words file ts kinds values places)
+    (m : Monitor) (j : Judged)
     (p : Past7 ts m j) where
   pub sizes : Sizes m
   sizes = few-parts ts m (p .grammar) (p .counts)
@@ -129,7 +135,8 @@ module _ {file : List ℕ} {ts : List Token} {kinds values places : List ℕ} (w
               let same : m ≡ n = cc in
               subst (λ (x : Monitor). Monitored x loaded kept holds after) same (record {
                 bounded = p .bounded;
-                held = held m (accepted-iff file m .0 e .sound) (sizes .regions) by-kept by-holds by-after (numbers-of f);
+                held = held m (accepted-iff file m .0 e .sound) (sizes .regions) by-kept by-holds by-after
+                    (numbers-of f);
                 held-places = held-places m (f .laid .begin-flags) (f .laid .follow-flags);
                 region-count = f .laid .region-count;
                 guard-count = f .laid .guard-count;
@@ -140,11 +147,14 @@ module _ {file : List ℕ} {ts : List Token} {kinds values places : List ℕ} (w
     unfolding regions
     loads =
         split (truth (m .keep) (vars m) (starts (vars m))) (λ on. go on (broken (vars m) (m .keep) 0 (regions m)) refl)
-        (λ off. refuses (says-8 w (p .uncrowded) m (p .grammar) (p .counts) (p .names) (p .ranges) (j .keep) (p .keep-stands) off)
+        (λ off. refuses
+        (says-8 w (p .uncrowded) m (p .grammar) (p .counts) (p .names) (p .ranges) (j .keep) (p .keep-stands) off)
         (rw at-keep at (filled .fails off)))
       where
-        go : truth (m .keep) (vars m) (starts (vars m)) ≡ true → (o : Option (ℕ × ℕ)) → broken (vars m) (m .keep) 0 (regions m) ≡ o
+        go : truth (m .keep) (vars m) (starts (vars m)) ≡ true → (o : Option (ℕ × ℕ))
+            → broken (vars m) (m .keep) 0 (regions m) ≡ o
             → Loads file loaded kept holds after
         go on (some (k, n)) e =
-            refuses (says-9 w (p .uncrowded) m (p .grammar) (p .counts) (p .names) (p .ranges) on e) (filled .breaks on k n e)
+            refuses (says-9 w (p .uncrowded) m (p .grammar) (p .counts) (p .names) (p .ranges) on e)
+            (filled .breaks on k n e)
         go on none e = accepts on e (says-0 w (p .uncrowded) m (p .grammar) (p .counts) (p .names) (p .ranges) on e)

@@ -1,4 +1,5 @@
--- What the answers of the passes, of the reader and of the variables' reader say of a file's check: refusals 3 to 8, and what is known where they do not arise.
+-- What the answers of the passes, of the reader and of the variables' reader say of a file's check: refusals 3 to 8,
+-- and what is known where they do not arise.
 use Prim.Native.Nat.{ℕ, _≤_, _<_}
 use native.Mathlib.Omega.{arith}
 use mathlib.Core.Path.{_≡_, refl, sym, ap, _∙_}
@@ -69,7 +70,8 @@ module _ {file : List ℕ} {ts : List Token} {kinds values places : List ℕ} (w
         ∙ ap (λ (k : ℕ). refused (answer 4 k 0))
         (stuck-end ts (length file) i (omega (arith, places-counted, r .0, lexemes-length ts)))
 
-    pub tree-read : (i : ℕ) → Reads {A = Monitor} (Next i) (lexemes ts) (read (lexemes ts)) → (m : Monitor) × (spell m ≡ lexemes ts)
+    pub tree-read : (i : ℕ) → Reads {A = Monitor} (Next i) (lexemes ts) (read (lexemes ts))
+        → (m : Monitor) × (spell m ≡ lexemes ts)
     unfolding Reads
     tree-read i r = (r .1, read-spells (lexemes ts) (r .1) _ (r .2) .0)
 
@@ -88,7 +90,8 @@ module _ {file : List ℕ} {ts : List Token} {kinds values places : List ℕ} (w
 
         module _ (names : misnamed (number 0) [] [] ts ≡ none) where
           -- 7
-          pub says-7 : (d : Declared) → RangedBy false (all (m .vars)) (lexemes ts) (key k-keep ∷ behindKeep m) firstVar d
+          pub says-7 : (d : Declared)
+              → RangedBy false (all (m .vars)) (lexemes ts) (key k-keep ∷ behindKeep m) firstVar d
               → check file ≡ refused (answer 7 (getD places (d .token) 0) 0)
           unfolding RangedBy
           says-7 d (i, t, at) =
@@ -102,7 +105,8 @@ module _ {file : List ℕ} {ts : List Token} {kinds values places : List ℕ} (w
           module _ (ranges : illRanged 1 (all (m .vars)) (placesOf k-var ts) ≡ none) where
             -- 8
             pub says-8 : (k : ℕ) → drop k (lexemes ts) ≡ key k-keep ∷ behindKeep m
-                → truth (m .keep) (all (m .vars)) (starts (all (m .vars))) ≡ false → check file ≡ refused (answer 8 (getD places k 0) 0)
+                → truth (m .keep) (all (m .vars)) (starts (all (m .vars))) ≡ false
+                → check file ≡ refused (answer 8 (getD places k 0) 0)
             says-8 k at h =
                 check-8 file (w .short) (w .cut) room tree few names ranges h
                 ∙ ap (λ (b : ℕ). refused (answer 8 b 0)) (sym (keep-byte ts m spelt k at w))
@@ -113,5 +117,6 @@ module _ {file : List ℕ} {ts : List Token} {kinds values places : List ℕ} (w
                   → check file ≡ refused (answer 9 k n)
               says-9 = check-9 file (w .short) (w .cut) room tree few names ranges start
 
-              pub says-0 : broken (all (m .vars)) (m .keep) 0 (regionsOf (all (m .methods))) ≡ none → check file ≡ accepted m
+              pub says-0 : broken (all (m .vars)) (m .keep) 0 (regionsOf (all (m .methods))) ≡ none
+                  → check file ≡ accepted m
               says-0 = check-0 file (w .short) (w .cut) room tree few names ranges start

@@ -21,7 +21,8 @@ use Rattle.scanner.specs.declared.Scanned.the-variants as scanned
 use Rattle.loader.proofs.TokenSlices.{words}
 
 -- there are at most as many tokens as bytes
-rising-few : (from end : ℕ) (ts : List Token) → Rising from ts → ((t : Token) → List·Memᴰ t ts → t .at < end) → from ≤ end
+rising-few : (from end : ℕ) (ts : List Token) → Rising from ts → ((t : Token) → List·Memᴰ t ts → t .at < end)
+    → from ≤ end
     → from + length ts ≤ end
 rising-few from end [] r inside h = omega arith
 rising-few from end (t ∷ ts) r inside h =
@@ -30,7 +31,11 @@ rising-few from end (t ∷ ts) r inside h =
 
 pub tokens-few : (file : List ℕ) (ts : List Token) → tokenize file ≡ tokens ts → length ts ≤ length file
 tokens-few file ts cut =
-    omega (arith, rising-few 0 (length file) ts (tokens-rise file ts cut) (λ t has. token-stands file ts t cut has .1) (omega arith))
+    omega (
+      arith,
+      rising-few 0 (length file) ts (tokens-rise file ts cut) (λ t has. token-stands file ts t cut has .1)
+          (omega arith),
+    )
 
 -- the answers and their grounds
 data Outcome (file : List ℕ) : Scanned → Type 0 where
@@ -93,7 +98,8 @@ module _ {file : List ℕ} {r : Scanned} {kinds values places : List ℕ} (s : S
   scanned-tokens n e = go (outcome-of e)
     where
       go : {j : ℕ} → Outcome file (scanned.Tokens j)
-          → (ts : List Token) × (j ≡ length ts) × (j ≤ 8192) × Words file ts (take j kinds) (take j values) (take j places)
+          → (ts : List Token) × (j ≡ length ts) × (j ≤ 8192)
+          × Words file ts (take j kinds) (take j values) (take j places)
       go (cut ts h c) =
           let answered : scannedOf file ≡ scanned.Tokens (length ts) = cc (le-ltb 8192 (length file) h) in
           (ts, refl, omega (arith, tokens-few file ts c), words h c (s .coded ts answered c))

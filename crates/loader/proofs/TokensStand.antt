@@ -1,4 +1,5 @@
--- Where the parts of a file stand among its tokens, as the code finds them: the variables, `keep`, and the places of refusals 4, 7 and 8.
+-- Where the parts of a file stand among its tokens, as the code finds them: the variables, `keep`, and the places of
+-- refusals 4, 7 and 8.
 use Prim.Native.Nat.{ℕ, zero, suc, _+_, _-_, _≤_, _<_}
 use native.Mathlib.Omega.{arith}
 use mathlib.Core.Path.{_≡_, refl, sym, ap, _∙_}
@@ -19,7 +20,8 @@ use Rattle.variables.specs.Bounded.{EndsVars}
 use Rattle.variables.specs.Places.{firstVar}
 use Rattle.loader.proofs.TokenSlices.{lexemes-length}
 
-place-at : (front : List Token) (t : Token) (back : List Token) → getD (map (λ u. u .at) (front ++ (t ∷ back))) (length front) 0 ≡ t .at
+place-at : (front : List Token) (t : Token) (back : List Token)
+    → getD (map (λ u. u .at) (front ++ (t ∷ back))) (length front) 0 ≡ t .at
 place-at [] t back = refl
 place-at (u ∷ front) t back = place-at front t back
 
@@ -41,7 +43,8 @@ module _ (ts : List Token) (m : Monitor) (spelt : spell m ≡ lexemes ts) where
 
   module _ (k : ℕ) (behind : drop k (lexemes ts) ≡ key k-keep ∷ behindKeep m) where
     -- so the token behind the variables is `keep`, with the kept condition behind it
-    pub keep-stands : (us : List Lexeme) × (drop k (lexemes ts) ≡ key k-keep ∷ (spellCond (m .keep) ++ (mark semicolon ∷ us)))
+    pub keep-stands : (us : List Lexeme)
+        × (drop k (lexemes ts) ≡ key k-keep ∷ (spellCond (m .keep) ++ (mark semicolon ∷ us)))
     unfolding behindKeep
     keep-stands = (_, behind)
 
@@ -49,7 +52,8 @@ module _ (ts : List Token) (m : Monitor) (spelt : spell m ≡ lexemes ts) where
     unfolding each
     keep-counted =
         let whole : length (lexemes ts) ≡ length (upTo m (all (m .vars))) + suc (length (behindKeep m)) =
-        ap length (sym spelt ∙ spell-from m (all (m .vars)) [] (sym (append-nil (all (m .vars))))) ∙ length-append (upTo m (all (m .vars))) (key k-keep ∷ behindKeep m) in
+        ap length (sym spelt ∙ spell-from m (all (m .vars)) [] (sym (append-nil (all (m .vars)))))
+        ∙ length-append (upTo m (all (m .vars))) (key k-keep ∷ behindKeep m) in
         omega (arith, length-drop k (lexemes ts), ap length behind)
 
     -- 8: "byte of `keep`"
@@ -58,32 +62,39 @@ module _ (ts : List Token) (m : Monitor) (spelt : spell m ≡ lexemes ts) where
     keep-byte w = rw (w .by-place, keep-counted) (stands-at (keep-place ts m (sym spelt)))
 
   -- 7: "byte of `var`"
-  pub ill-ranged-byte : {file kinds values places : List ℕ} {i : ℕ} → Words file ts kinds values places → FirstIllRanged (all (m .vars)) i
+  pub ill-ranged-byte : {file kinds values places : List ℕ} {i : ℕ} → Words file ts kinds values places
+      → FirstIllRanged (all (m .vars)) i
       → illRanged 1 (all (m .vars)) (placesOf k-var ts)
       ≡ some (getD places (firstVar + length (each spellVar (take i (all (m .vars))))) 0)
   unfolding upTo
   ill-ranged-byte {i = i} w t =
       let vs = all (m .vars) in
-      let front : take i vs ≡ t .before = ap (take i) (t .parts) ∙ take-at (t .before) (t .var ∷ t .after) i (t .place) in
-      let counted : firstVar + length (each spellVar (take i vs)) ≡ length (upTo m (t .before)) = rw front (omega arith) in
+      let front : take i vs ≡ t .before =
+      ap (take i) (t .parts) ∙ take-at (t .before) (t .var ∷ t .after) i (t .place) in
+      let counted : firstVar + length (each spellVar (take i vs)) ≡ length (upTo m (t .before)) =
+      rw front (omega arith) in
       ill-ranged-first (placesOf k-var ts) t
-      ∙ ap {B = Option ℕ} some (sym (rw (w .by-place, counted, ← t .place) (stands-at (var-place ts m (sym spelt) (t .before) (t .var) (t .after) (t .parts)))))
+      ∙ ap {B = Option ℕ} some (sym (rw (w .by-place, counted, ← t .place)
+      (stands-at (var-place ts m (sym spelt) (t .before) (t .var) (t .after) (t .parts)))))
 
 -- 4
 
 left-from : (ts : List Token) (i : ℕ) → i ≤ length ts → leftOf ts (drop i (lexemes ts)) ≡ drop i ts
 unfolding leftOf
 left-from ts i h =
-    let counted : length ts - length (drop i (lexemes ts)) ≡ i = omega (arith, length-drop i (lexemes ts), lexemes-length ts) in
+    let counted : length ts - length (drop i (lexemes ts)) ≡ i =
+    omega (arith, length-drop i (lexemes ts), lexemes-length ts) in
     ap (λ (k : ℕ). drop k ts) counted
 
-first-place : (end : ℕ) (ts : List Token) (i : ℕ) → i < length ts → placeOf end (drop i ts) ≡ getD (map (λ t. t .at) ts) i 0
+first-place : (end : ℕ) (ts : List Token) (i : ℕ) → i < length ts
+    → placeOf end (drop i ts) ≡ getD (map (λ t. t .at) ts) i 0
 unfolding placeOf
 first-place end [] i h = absurd (omega arith)
 first-place end (t ∷ ts) zero h = refl
 first-place end (t ∷ ts) (suc i) h = first-place end ts i (omega arith)
 
-pub stuck-byte : {file : List ℕ} {ts : List Token} {kinds values places : List ℕ} (end i : ℕ) → Words file ts kinds values places → i < length ts
+pub stuck-byte : {file : List ℕ} {ts : List Token} {kinds values places : List ℕ} (end i : ℕ)
+    → Words file ts kinds values places → i < length ts
     → placeOf end (leftOf ts (drop i (lexemes ts))) ≡ getD places i 0
 stuck-byte {ts = ts} end i w h = rw (left-from ts i (omega arith), w .by-place) (first-place end ts i h)
 

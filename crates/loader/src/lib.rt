@@ -61,7 +61,8 @@ fn not_judged(number: u8, place: usize) -> Judged
 
 // 3 to 7, over a file's tokens.
 fn judge(file: &[u8], kinds: &[u8], values: &[u16], places: &[u16]) -> Judged
-    ensures { λ r. ⌜ ((ts : List Token) → Words (now (file .entry)) ts (now (kinds .entry)) (now (values .entry)) (now (places .entry))
+    ensures { λ r. ⌜ ((ts : List Token)
+        → Words (now (file .entry)) ts (now (kinds .entry)) (now (values .entry)) (now (places .entry))
         → Judges (now (file .entry)) ts r) ⌝ }
 {
     if let Found::At(k) = passes::find_crowded(kinds, places) {
@@ -170,7 +171,8 @@ fn load_tokens(
     holds: &mut [u16],
     after: &mut [u16],
 ) -> Loaded
-    ensures { λ r. ⌜ ((ts : List Token) → Words (now (file .entry)) ts (now (kinds .entry)) (now (values .entry)) (now (places .entry))
+    ensures { λ r. ⌜ ((ts : List Token)
+        → Words (now (file .entry)) ts (now (kinds .entry)) (now (values .entry)) (now (places .entry))
         → length (now (operands .entry)) ≡ length ts
         → 4096 ≤ length (now (kept .entry)) → 4096 ≤ length (now (holds .entry)) → 65536 ≤ length (now (after .entry))
         → Loads (now (file .entry)) r (now (kept .exit)) (now (holds .exit)) (now (after .exit))) ⌝ }
@@ -204,7 +206,8 @@ fn load_tokens(
 
 // 1 to 9: the verdict of a file, and of an accepted one all that the table and the machines look up.
 pub fn load(file: &[u8], kept: &mut [u8], holds: &mut [u16], after: &mut [u16]) -> Loaded
-    ensures { λ r. ⌜ (4096 ≤ length (now (kept .entry)) → 4096 ≤ length (now (holds .entry)) → 65536 ≤ length (now (after .entry))
+    ensures { λ r. ⌜ (4096 ≤ length (now (kept .entry)) → 4096 ≤ length (now (holds .entry))
+        → 65536 ≤ length (now (after .entry))
         → Loads (now (file .entry)) r (now (kept .exit)) (now (holds .exit)) (now (after .exit))) ⌝ }
 {
     let mut kinds = [0u8; 8192];

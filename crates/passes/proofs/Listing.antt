@@ -1,4 +1,5 @@
--- The names that stand behind a keyword, as `declared` holds them; the variables of a file; and the operands: each name's slot, and any other token's value.
+-- The names that stand behind a keyword, as `declared` holds them; the variables of a file; and the operands: each
+-- name's slot, and any other token's value.
 use Prim.Native.Nat.{ℕ, _+_, _≤_, _<_}
 use native.Mathlib.Omega.{arith}
 use mathlib.Core.Path.{_≡_, refl, ap, _∙_}
@@ -15,7 +16,8 @@ use Rattle.meaning.specs.Decide.Check.{tally, pastLimit}
 use Rattle.passes.specs.declared.Names.{Names}
 use Rattle.passes.specs.Tokens.{titlesOf, titlesFrom, slotOrValue, Stands, Titles, Resolved, Grows}
 use Rattle.passes.specs.Kinds.{kind-name, kind-key}
-use Rattle.passes.proofs.ByIndex.{rest-at, tokenAt, kinds-long, value-at, kind-at, here, front-more, at-end, tally-least, Few, few-first, few-next, room}
+use Rattle.passes.proofs.ByIndex.{rest-at, tokenAt, kinds-long, value-at, kind-at, here, front-more, at-end}
+use Rattle.passes.proofs.ByIndex.{tally-least, Few, few-first, few-next, room}
 use Rattle.passes.proofs.Naming.{name-stands}
 
 -- Names behind a keyword
@@ -38,15 +40,18 @@ added-few b (mark m) n = omega (arith, tally-least b n)
 pub titles-token : (last : Lexeme) (at : ℕ) (l : Lexeme) (ts : List Token)
     → titlesFrom last (record { at = at; lexeme = l } ∷ ts) ≡ added (isKey k-var last) l ++ titlesFrom l ts
 unfolding titlesFrom added
-titles-token last at (name x) ts = split (isKey k-var last) (λ e. rw (e, titlesFrom, added)) (λ e. rw (e, titlesFrom, added))
+titles-token last at (name x) ts =
+    split (isKey k-var last) (λ e. rw (e, titlesFrom, added)) (λ e. rw (e, titlesFrom, added))
 titles-token last at (key k) ts = refl
 titles-token last at (number n) ts = refl
 titles-token last at (mark m) ts = refl
 
 -- What `declared` ensures, said of the lexeme: the names with what it adds
 
-grown : {file : List ℕ} {names after : Names} {titles : List (List ℕ)} {start len : ℕ} (adds b : Bool) (l : Lexeme) → Grows names adds start len after
-    → Titles file titles names → adds ≡ (isName l && b) → (b ≡ true → length titles < 8) → ((x : List ℕ) → l ≡ name x → Stands file x start len)
+grown : {file : List ℕ} {names after : Names} {titles : List (List ℕ)} {start len : ℕ} (adds b : Bool) (l : Lexeme)
+    → Grows names adds start len after
+    → Titles file titles names → adds ≡ (isName l && b) → (b ≡ true → length titles < 8)
+    → ((x : List ℕ) → l ≡ name x → Stands file x start len)
     → Titles file (titles ++ added b l) after
 unfolding added isName
 grown adds true (name x) d t e r s = d _ _ t .1 x e (r refl) (s x refl)
@@ -55,13 +60,16 @@ grown adds b (key k) d t e r s = rw append-nil (d _ _ t .0 e)
 grown adds b (number n) d t e r s = rw append-nil (d _ _ t .0 e)
 grown adds b (mark m) d t e r s = rw append-nil (d _ _ t .0 e)
 
-module _ {file : List ℕ} {ts : List Token} {kinds values places : List ℕ} (h : Words file ts kinds values places) (i : ℕ) (l : i < length kinds) where
+module _ {file : List ℕ} {ts : List Token} {kinds values places : List ℕ} (h : Words file ts kinds values places)
+    (i : ℕ) (l : i < length kinds) where
   pub grown-at : {names after : Names} {titles : List (List ℕ)} {before : ℕ} (k : Keyword) (last : Lexeme) (adds : Bool)
       → before ≡ kindOf last → adds ≡ (eqb (getD kinds i 0) 30 && eqb before (19 + keywordNumber k))
-      → Grows names adds (getD places i 0) (getD values i 0) after → Titles file titles names → (isKey k last ≡ true → length titles < 8)
+      → Grows names adds (getD places i 0) (getD values i 0) after → Titles file titles names
+      → (isKey k last ≡ true → length titles < 8)
       → Titles file (titles ++ added (isKey k last) (tokenAt ts i .lexeme)) after
   grown-at k last adds e f d t r =
-      grown adds (isKey k last) (tokenAt ts i .lexeme) d t (rw (kind-name, kind-key k last, ← kind-at h i, ← e) f) r (name-stands h i l)
+      grown adds (isKey k last) (tokenAt ts i .lexeme) d t (rw (kind-name, kind-key k last, ← kind-at h i, ← e) f) r
+      (name-stands h i l)
 
 -- The variables of a file: those passed, and those of the tokens that are left
 
@@ -75,9 +83,11 @@ pub record Listing (file : List ℕ) (ts : List Token) (vars : Names) (before i 
 
 pub listing-first : (file : List ℕ) (ts : List Token) (vars : Names) → Titles file [] vars → Listing file ts vars 29 0
 unfolding titlesOf kindOf
-listing-first file ts vars t = record { last = number 0; known = refl; titles = []; so-far = refl; held = t; few = few-first ts }
+listing-first file ts vars t =
+    record { last = number 0; known = refl; titles = []; so-far = refl; held = t; few = few-first ts }
 
-pub listing-next : {file : List ℕ} {ts : List Token} {kinds values places : List ℕ} → Words file ts kinds values places → pastLimit 0 0 0 ts ≡ none
+pub listing-next : {file : List ℕ} {ts : List Token} {kinds values places : List ℕ} → Words file ts kinds values places
+    → pastLimit 0 0 0 ts ≡ none
     → {vars vars′ : Names} {before i : ℕ} (adds : Bool) → Listing file ts vars before i → i < length kinds
     → adds ≡ (eqb (getD kinds i 0) 30 && eqb before 20) → Grows vars adds (getD places i 0) (getD values i 0) vars′
     → Listing file ts vars′ (getD kinds i 0) (i + 1)
@@ -90,8 +100,10 @@ listing-next {ts = ts} h n {i = i} adds s l e d =
       known = kind-at h i;
       titles = s .titles ++ added b (t .lexeme);
       so-far = s .so-far ∙ rw (here h i l, titles-token (s .last) (t .at) (t .lexeme) (drop (i + 1) ts), append-assoc);
-      held = grown-at h i l k-var (s .last) adds (s .known) e d (s .held) (room b _ _ 6 (s .few .vars) (s .few .few-vars) (omega arith));
-      few = few-next h n _ 0 (s .few) l (rw length-append (omega (arith, added-few b (t .lexeme) (length (s .titles))))) (omega arith);
+      held = grown-at h i l k-var (s .last) adds (s .known) e d (s .held)
+          (room b _ _ 6 (s .few .vars) (s .few .few-vars) (omega arith));
+      few = few-next h n _ 0 (s .few) l (rw length-append (omega (arith, added-few b (t .lexeme) (length (s .titles)))))
+          (omega arith);
     }
 
 pub listing-last : {file : List ℕ} {ts : List Token} {kinds values places : List ℕ} → Words file ts kinds values places
@@ -101,7 +113,8 @@ listing-last h {i = i} s l = rw (s .so-far, at-end h i l, append-nil) (s .held)
 
 -- The operands, filled as far as an index
 
-module _ {file : List ℕ} {ts : List Token} {kinds values places : List ℕ} (h : Words file ts kinds values places) (first now : List ℕ)
+module _ {file : List ℕ} {ts : List Token} {kinds values places : List ℕ} (h : Words file ts kinds values places)
+    (first now : List ℕ)
     (long : length first ≡ length ts) (i : ℕ) where
   abbrev value : Token → ℕ
   value t = slotOrValue (titlesOf ts) (t .lexeme)
@@ -111,11 +124,13 @@ module _ {file : List ℕ} {ts : List Token} {kinds values places : List ℕ} (h
     front-long = length-map (take i ts) value ∙ length-take-le i ts (omega (arith, kinds-long h))
 
     pub resolved-next : {vars : Names} {r : ℕ} → Titles file (titlesOf ts) vars
-        → ((titles : List (List ℕ)) (l : Lexeme) → Titles file titles vars → getD kinds i 0 ≡ kindOf l → getD values i 0 ≡ valueOf l
+        → ((titles : List (List ℕ)) (l : Lexeme) → Titles file titles vars → getD kinds i 0 ≡ kindOf l
+        → getD values i 0 ≡ valueOf l
         → ((x : List ℕ) → l ≡ name x → Stands file x (getD places i 0) (getD values i 0)) → r ≡ slotOrValue titles l)
         → set now i r ≡ map value (take (i + 1) ts) ++ drop (i + 1) first
     resolved-next {r = r} t d =
-        let e : r ≡ value (tokenAt ts i) = d (titlesOf ts) (tokenAt ts i .lexeme) t (kind-at h i) (value-at h i) (name-stands h i l) in
+        let e : r ≡ value (tokenAt ts i) =
+        d (titlesOf ts) (tokenAt ts i .lexeme) t (kind-at h i) (value-at h i) (name-stands h i l) in
         let f = map value (take i ts) in
         ap (λ (v : List ℕ). set v i r)
         (so-far ∙ ap (λ (r : List ℕ). f ++ r) (rest-at first i 0 (omega (arith, kinds-long h))))
@@ -125,4 +140,8 @@ module _ {file : List ℕ} {ts : List Token} {kinds values places : List ℕ} (h
   pub resolved-last : length kinds ≤ i → now ≡ map value (take i ts) ++ drop i first → Resolved ts now
   unfolding Resolved
   resolved-last l e =
-      e ∙ rw (take-all i ts (omega (arith, kinds-long h)), drop-of-length-le first {i = i} (omega (arith, kinds-long h)), append-nil)
+      e ∙ rw (
+        take-all i ts (omega (arith, kinds-long h)),
+        drop-of-length-le first {i = i} (omega (arith, kinds-long h)),
+        append-nil,
+      )

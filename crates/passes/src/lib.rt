@@ -1,4 +1,5 @@
-// The passes over a file's tokens that answer 3, 5 and 6, and the pass that gives each name its slot among the variables.
+// The passes over a file's tokens that answer 3, 5 and 6, and the pass that gives each name its slot among the
+// variables.
 ghost use mathlib.Core.Path.{_≡_};
 ghost use mathlib.Core.Bool.{_&&_, _||_};
 ghost use Prim.Native.Nat.{ℕ, _+_, _≤_, _<_};
@@ -11,7 +12,8 @@ ghost use Rattle.syntax.specs.Token.{Token, Lexeme, name, number, k-var, k-meth
 ghost use Rattle.syntax.specs.Held.Kind.{kindOf, valueOf, Words};
 ghost use Rattle.meaning.specs.Accepted.{opens};
 ghost use Rattle.meaning.specs.Decide.Check.{tally, crowded, pastLimit, member, misnamed};
-ghost use Rattle.passes.specs.Tokens.{foundOf, titlesOf, slotIn, slotOrValue, Resolved, Stands, Titles, Grows, Judges};
+ghost use Rattle.passes.specs.Tokens.{foundOf, titlesOf, slotIn, slotOrValue, Resolved, Stands, Titles, Grows};
+ghost use Rattle.passes.specs.Tokens.{Judges};
 
 // The place of the first token that offends, or that there is none.
 pub enum Found {
@@ -61,7 +63,8 @@ fn more(n: usize, one: bool) -> usize
 // Is this token past the 1,024th, or one that opens the thirteenth level?
 fn crowds(kind: u8, passed: usize, opened: usize, closed: usize) -> bool
     requires { ⌜ closed ≤ passed ⌝ }
-    ensures { λ r. ⌜ ((l : Lexeme) → kind ≡ kindOf l → r ≡ (leb 1024 passed || (opens l && leb (closed + 12) opened))) ⌝ }
+    ensures { λ r. ⌜ ((l : Lexeme) → kind ≡ kindOf l
+        → r ≡ (leb 1024 passed || (opens l && leb (closed + 12) opened))) ⌝ }
 {
     if 1024 <= passed {
         return true;
@@ -97,7 +100,8 @@ pub fn find_crowded(kinds: &[u8], places: &[u16]) -> Found
 
 // Is this token a var past 6, a method past 8 or a waituntil past 16?
 fn exceeds(kind: u8, vars: usize, methods: usize, regions: usize) -> bool
-    ensures { λ r. ⌜ ((l : Lexeme) → kind ≡ kindOf l → r ≡ ((isKey k-var l && leb 6 vars) || (isKey k-method l && leb 8 methods)
+    ensures { λ r. ⌜ ((l : Lexeme) → kind ≡ kindOf l
+        → r ≡ ((isKey k-var l && leb 6 vars) || (isKey k-method l && leb 8 methods)
         || (isKey k-waituntil l && leb 16 regions))) ⌝ }
 {
     if kind == VAR {
@@ -157,7 +161,8 @@ fn no_names() -> Names
 
 // Whether two parts of the file are the same bytes.
 fn same_part(file: &[u8], a: u16, a_len: u16, b: u16, b_len: u16) -> bool
-    ensures { λ r. ⌜ ((x y : List ℕ) → Stands (now (file .entry)) x a «a_len» → Stands (now (file .entry)) y b «b_len» → r ≡ sameBytes x y) ⌝ }
+    ensures { λ r. ⌜ ((x y : List ℕ) → Stands (now (file .entry)) x a «a_len» → Stands (now (file .entry)) y b «b_len»
+        → r ≡ sameBytes x y) ⌝ }
 {
     let s = a as usize;
     let e = s + a_len as usize;
@@ -249,9 +254,11 @@ fn wrong(
     !known
 }
 
-// 6: a name declared twice among its kind, or a variable used that is not declared. (With at most six variables and eight methods.)
+// 6: a name declared twice among its kind, or a variable used that is not declared. (With at most six variables and
+// eight methods.)
 pub fn find_misnamed(file: &[u8], kinds: &[u8], values: &[u16], places: &[u16]) -> Found
-    ensures { λ r. ⌜ ((ts : List Token) → Words (now (file .entry)) ts (now (kinds .entry)) (now (values .entry)) (now (places .entry))
+    ensures { λ r. ⌜ ((ts : List Token)
+        → Words (now (file .entry)) ts (now (kinds .entry)) (now (values .entry)) (now (places .entry))
         → pastLimit 0 0 0 ts ≡ none → r ≡ foundOf (misnamed (number 0) [] [] ts)) ⌝ }
 {
     if values.len() != kinds.len() {
@@ -281,7 +288,8 @@ pub fn find_misnamed(file: &[u8], kinds: &[u8], values: &[u16], places: &[u16]) 
 
 // The variables of a file, in order.
 pub fn variables(kinds: &[u8], values: &[u16], places: &[u16]) -> Names
-    ensures { λ r. ⌜ ((file : List ℕ) (ts : List Token) → Words file ts (now (kinds .entry)) (now (values .entry)) (now (places .entry))
+    ensures { λ r. ⌜ ((file : List ℕ) (ts : List Token)
+        → Words file ts (now (kinds .entry)) (now (values .entry)) (now (places .entry))
         → pastLimit 0 0 0 ts ≡ none → Titles file (titlesOf ts) r) ⌝ }
 {
     let mut vars = no_names();
@@ -304,7 +312,8 @@ pub fn variables(kinds: &[u8], values: &[u16], places: &[u16]) -> Names
 
 // A name's slot, and any other token's value.
 fn slot_or_value(file: &[u8], vars: Names, kind: u8, start: u16, value: u16) -> u16
-    ensures { λ r. ⌜ ((titles : List (List ℕ)) (l : Lexeme) → Titles (now (file .entry)) titles vars → kind ≡ kindOf l → value ≡ valueOf l
+    ensures { λ r. ⌜ ((titles : List (List ℕ)) (l : Lexeme) → Titles (now (file .entry)) titles vars → kind ≡ kindOf l
+        → value ≡ valueOf l
         → ((x : List ℕ) → l ≡ name x → Stands (now (file .entry)) x start value) → r ≡ slotOrValue titles l) ⌝ }
 {
     if kind == NAME {
@@ -315,8 +324,10 @@ fn slot_or_value(file: &[u8], vars: Names, kind: u8, start: u16, value: u16) -> 
 
 // What the evaluator looks up at each token: a name's slot among the variables, and any other token's value.
 pub fn resolve(file: &[u8], kinds: &[u8], values: &[u16], places: &[u16], operands: &mut [u16])
-    ensures { λ _. ⌜ ((ts : List Token) → Words (now (file .entry)) ts (now (kinds .entry)) (now (values .entry)) (now (places .entry))
-        → pastLimit 0 0 0 ts ≡ none → length (now (operands .entry)) ≡ length ts → Resolved ts (now (operands .exit))) ⌝ }
+    ensures { λ _. ⌜ ((ts : List Token)
+        → Words (now (file .entry)) ts (now (kinds .entry)) (now (values .entry)) (now (places .entry))
+        → pastLimit 0 0 0 ts ≡ none → length (now (operands .entry)) ≡ length ts
+        → Resolved ts (now (operands .exit))) ⌝ }
 {
     if values.len() != kinds.len() {
         return;

@@ -15,7 +15,8 @@ use Rattle.variables.specs.Promises.{SpelledInt, IntAt, SpelledVar}
 use Rattle.variables.specs.declared.Integer.{Integer}
 use Rattle.variables.proofs.Indices.{elem-left, drop-next, elem-map}
 
-length-var : (v : Var) → length (spellVar v) ≡ 6 + length (spellInt (v .start)) + length (spellInt (v .low)) + length (spellInt (v .high))
+length-var : (v : Var)
+    → length (spellVar v) ≡ 6 + length (spellInt (v .start)) + length (spellInt (v .low)) + length (spellInt (v .high))
 unfolding spellVar
 length-var v = simp length-append (omega arith)
 

@@ -1,4 +1,5 @@
--- What the functions inside promise to each other: an integer, a variable, one variable more, the weights, a state's values.
+-- What the functions inside promise to each other: an integer, a variable, one variable more, the weights, a state's
+-- values.
 use Prim.Native.Nat.{ℕ, suc, _+_, _-_, _*_, _/_, _%_, _≤_, _<_}
 use mathlib.Core.Path.{_≡_}
 use mathlib.Core.Bool.{Bool, true, false}
@@ -27,7 +28,8 @@ pub record SpelledInt (ls rest : List Lexeme) (n : Int) (at : ℕ) (r : Integer)
 pub record IntAt (kinds values : List ℕ) (at : ℕ) (r : Integer) : Type 0 where
   pub further : at < r .next
   pub near : r .next ≤ at + negatedLong
-  pub spelled : (ls rest : List Lexeme) (n : Int) → Numbers ls kinds values → drop at ls ≡ spellInt n ++ rest → SpelledInt ls rest n at r
+  pub spelled : (ls rest : List Lexeme) (n : Int) → Numbers ls kinds values → drop at ls ≡ spellInt n ++ rest
+      → SpelledInt ls rest n at r
 
 -- the start value and the bounds of a variable
 pub record TripleOf (v : Var) (t : Triple) : Type 0 where
@@ -42,7 +44,8 @@ pub record SpelledVar (ls rest : List Lexeme) (v : Var) (at : ℕ) (t : Triple) 
 
 pub record TripleAt (kinds values : List ℕ) (at : ℕ) (t : Triple) : Type 0 where
   pub further : at < t .next
-  pub spelled : (ls rest : List Lexeme) (v : Var) → Numbers ls kinds values → drop at ls ≡ spellVar v ++ rest → SpelledVar ls rest v at t
+  pub spelled : (ls rest : List Lexeme) (v : Var) → Numbers ls kinds values → drop at ls ≡ spellVar v ++ rest
+      → SpelledVar ls rest v at t
 
 -- bounds and start value are good, and leave at most 4,096 states
 pub record Good (states : ℕ) (t : Triple) : Type 0 where
@@ -88,7 +91,8 @@ pub record SizeOf (low high r : ℕ) : Type 0 where
 
 -- the weights of some variables
 pub record Weights (lows highs : List ℕ) (n : ℕ) (ws : List ℕ) : Type 0 where
-  pub weigh : (vs : List Var) → Slots (λ v. intOf (v .low)) 1 vs lows → Slots (λ v. intOf (v .high)) 0 vs highs → GoodRanges vs
+  pub weigh : (vs : List Var) → Slots (λ v. intOf (v .low)) 1 vs lows → Slots (λ v. intOf (v .high)) 0 vs highs
+      → GoodRanges vs
       → count vs ≤ 4096 → length vs ≡ n → (k : ℕ) → k < n → getD ws k 0 ≡ count (drop (suc k) vs)
 
 -- the same bounds, with their weights

@@ -11,7 +11,8 @@ ghost use Rattle.meaning.specs.State.{stateAt, numberOf, count};
 ghost use Rattle.meaning.specs.Accepted.{State};
 ghost use Rattle.variables.specs.Bounded.{Numbers, EndsVars, Ranged, Bounded};
 ghost use Rattle.meaning.specs.Held.{Biased};
-ghost use Rattle.variables.specs.Promises.{IntAt, TripleAt, Good, Fitting, WithVar, Loaded, SizeOf, Weights, Weighed, DigitOf, ShareOf};
+ghost use Rattle.variables.specs.Promises.{IntAt, TripleAt, Good, Fitting, WithVar, Loaded, SizeOf, Weights};
+ghost use Rattle.variables.specs.Promises.{Weighed, DigitOf, ShareOf};
 
 // At most six variables: bounds, start values, sizes of ranges, and weights in a state's number.
 pub struct Bounds {
@@ -297,7 +298,8 @@ fn share_of(value: u16, low: u16, weight: u16) -> usize
 
 // The number of the state with some values.
 pub fn number_of(bounds: Bounds, values: [u16; 6]) -> usize
-    ensures { λ r. ⌜ ((vs : List Var) (as′ : List ℤ) → Bounded vs bounds → Biased vs as′ values → State vs as′ → r ≡ numberOf vs as′) ⌝ }
+    ensures { λ r. ⌜ ((vs : List Var) (as′ : List ℤ) → Bounded vs bounds → Biased vs as′ values → State vs as′
+        → r ≡ numberOf vs as′) ⌝ }
 {
     let mut number: usize = 0;
     let mut k = 0;

@@ -8,14 +8,16 @@ use Rattle.syntax.specs.Token.{Token, lexemes, Lexeme}
 use Rattle.syntax.specs.Tree.{Region}
 use Rattle.syntax.specs.Held.Kind.{Words}
 use Rattle.layout.specs.Promises.{Flagged, Holds, Grown}
-use Rattle.layout.proofs.Methods.{kind-within, regionsAhead, Ahead, ahead-start, ahead-turn, ahead-full, ahead-over}
+use Rattle.layout.proofs.Methods.{kind-within, regionsAhead, Ahead, ahead-start, ahead-turn, ahead-full}
+use Rattle.layout.proofs.Methods.{ahead-over}
 use Rattle.layout.proofs.add_method.Statement.{statement}
 use Rattle.layout.proofs.add_method.Tie as tie
 
 abbrev Inv-loop : tie.InvT-loop
 Inv-loop file kinds values places at so-far₀ i₀ begins₀ so-far i begins =
     ((ts : List Token) (done : List Flagged) (qs : List Region) (us : List Lexeme) → Words file ts kinds values places
-    → length ts ≤ 1024 → Holds (lexemes ts) done so-far₀ → length done + length qs ≤ 16 → drop at (lexemes ts) ≡ regionsAhead qs us
+    → length ts ≤ 1024 → Holds (lexemes ts) done so-far₀ → length done + length qs ≤ 16
+    → drop at (lexemes ts) ≡ regionsAhead qs us
     → Ahead (lexemes ts) done qs us so-far i begins) × Grown kinds so-far₀ at record { layout = so-far; at = i }
 
 abbrev μ-loop : tie.MeasureT-loop
@@ -24,12 +26,14 @@ abbrev μ-loop : tie.MeasureT-loop
 loop-holds : tie.Need-loop-holds Inv-loop μ-loop
 loop-holds c =
     let s = c .before .before .before .before in (
-      λ ts done qs us w small h few stands. ahead-start (lexemes ts) done qs us (s .args .layout) (s .args .at) h few stands,
+      λ ts done qs us w small h few stands. ahead-start (lexemes ts) done qs us (s .args .layout)
+          (s .args .at) h few stands,
       record { room = s .pre .2; keep-kept = refl; forth = omega arith; within = s .pre .1 },
     )
 
 -- in a turn `waituntil` stands there
-waits : (q : tie.Then1 Inv-loop μ-loop) → getD (q .before .before .before .before .before .before .before .args .kinds .now) (q .before .before .loop .i) 255 ≡ 24
+waits : (q : tie.Then1 Inv-loop μ-loop) → getD
+    (q .before .before .before .before .before .before .before .args .kinds .now) (q .before .before .loop .i) 255 ≡ 24
 waits q = sym (q .before .kind-at .ensures) ∙ q .if1 .taken
 
 returns : tie.Need-returns Inv-loop μ-loop
@@ -38,20 +42,26 @@ returns c =
     let a = q .before .before .before .before .before .args in (
       q .loop .inv .1,
       λ ts done qs us w small h few stands.
-          ahead-full w done qs us (q .loop .so-far) (q .loop .i) (q .loop .begins) (q .loop .inv .0 ts done qs us w small h few stands)
+          ahead-full w done qs us (q .loop .so-far) (q .loop .i) (q .loop .begins)
+          (q .loop .inv .0 ts done qs us w small h few stands)
           (waits (c .before .before)) (c .if2 .taken),
     )
 
 add-region-requires : tie.Need-add-region-requires Inv-loop μ-loop
 add-region-requires c κs =
     let q = c .before .before .before .before in
-    let s = q .before .before .before .before .before in
-    (s .pre .0, kind-within (s .args .kinds .now) (q .loop .i) 24 (waits (c .before .before)) (omega arith), q .loop .inv .1 .room, omega (arith, c .if2 .left))
+    let s = q .before .before .before .before .before in (
+      s .pre .0,
+      kind-within (s .args .kinds .now) (q .loop .i) 24 (waits (c .before .before)) (omega arith),
+      q .loop .inv .1 .room,
+      omega (arith, c .if2 .left),
+    )
 
 loop-less : tie.Need-loop-less Inv-loop μ-loop
 loop-less c =
     let q = c .before .before .before .before .before .before in
-    let low = kind-within (q .before .before .before .before .before .args .kinds .now) (q .loop .i) 24 (waits (c .before .before .before .before)) (omega arith) in
+    let low = kind-within (q .before .before .before .before .before .args .kinds .now) (q .loop .i) 24
+    (waits (c .before .before .before .before)) (omega arith) in
     omega (arith, low, c .before .add-region .ensures .1)
 
 loop-again : tie.Need-loop-again Inv-loop μ-loop
@@ -62,7 +72,8 @@ loop-again c =
     let g = q .loop .inv .1 in (
       λ ts done qs us w small h few stands.
           ahead-turn w done qs us (q .loop .so-far) (q .loop .i) (q .loop .begins) (r .result)
-          (q .loop .inv .0 ts done qs us w small h few stands) small (waits (c .before .before .before .before)) (r .ensures .3),
+          (q .loop .inv .0 ts done qs us w small h few stands) small (waits (c .before .before .before .before))
+          (r .ensures .3),
       record {
         room = r .ensures .0 .room;
         keep-kept = r .ensures .0 .keep-kept ∙ g .keep-kept;
@@ -77,7 +88,8 @@ returns-2 c =
     let a = q .before .before .before .before .before .args in (
       q .loop .inv .1,
       λ ts done qs us w small h few stands.
-          ahead-over w done qs us (q .loop .so-far) (q .loop .i) (q .loop .begins) (q .loop .inv .0 ts done qs us w small h few stands)
+          ahead-over w done qs us (q .loop .so-far) (q .loop .i) (q .loop .begins)
+          (q .loop .inv .0 ts done qs us w small h few stands)
           (λ e. c .if1 .left (c .before .kind-at .ensures ∙ e)),
     )
 

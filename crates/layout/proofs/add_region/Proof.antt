@@ -1,5 +1,5 @@
--- `layout::add_region` meets its contract: the guard and the body stand behind `waituntil (` and `) {`, and the layout holds one
--- region more, with a new guard or one that it has.
+-- `layout::add_region` meets its contract: the guard and the body stand behind `waituntil (` and `) {`, and the layout
+-- holds one region more, with a new guard or one that it has.
 use Prim.Native.Nat.{_+_, _%_, _≤_}
 use native.Mathlib.Omega.{arith}
 use mathlib.Core.Path.{_≡_, ap, _∙_}
@@ -20,30 +20,45 @@ use Rattle.layout.proofs.add_region.Statement.{statement}
 use Rattle.layout.proofs.add_region.Tie as tie
 
 -- the guard's closing bracket
-bracket : (q : tie.After-closing) → (q .closing .result ≤ length (q .before .before .before .before .before .args .kinds .now) + 1) × (q .before .before .before .before .before .args .at + toGuard ≤ q .closing .result)
+bracket : (q : tie.After-closing) → (q .closing .result ≤ length
+    (q .before .before .before .before .before .args .kinds .now) + 1)
+    × (q .before .before .before .before .before .args .at + toGuard ≤ q .closing .result)
 bracket q =
     let a = q .before .before .before .before .before .args in
     let ks = a .kinds .now in
     let e = q .closing .ensures in
-    let w = close-within 2 3 (a .at + toGuard) ks (length ks + 1) (omega (arith, q .before .before .before .before .before .pre .1)) (omega arith) in
+    let w = close-within 2 3 (a .at + toGuard) ks (length ks + 1)
+    (omega (arith, q .before .before .before .before .before .pre .1)) (omega arith) in
     (omega (arith, e, w), omega (arith, e))
 
 -- the body's closing brace
 brace : (q : tie.After-closing2)
-    → (q .closing2 .result ≤ length (q .before .before .before .before .before .before .args .kinds .now) + 3) × (q .before .before .before .before .before .before .args .at + 4 ≤ q .closing2 .result)
-    × (q .before .closing .result + toBody ≡ bodyOf (q .before .before .before .before .before .before .args .kinds .now) (q .before .before .before .before .before .before .args .at))
-    × (q .closing2 .result + past ≡ nextOf (q .before .before .before .before .before .before .args .kinds .now) (q .before .before .before .before .before .before .args .at))
+    → (q .closing2 .result ≤ length (q .before .before .before .before .before .before .args .kinds .now) + 3)
+    × (q .before .before .before .before .before .before .args .at + 4 ≤ q .closing2 .result)
+    × (q .before .closing .result + toBody ≡ bodyOf
+    (q .before .before .before .before .before .before .args .kinds .now)
+    (q .before .before .before .before .before .before .args .at))
+    × (q .closing2 .result + past ≡ nextOf (q .before .before .before .before .before .before .args .kinds .now)
+    (q .before .before .before .before .before .before .args .at))
 brace q =
     let a = q .before .before .before .before .before .before .args in
     let ks = a .kinds .now in
     let b = bracket (q .before) in
     let e = q .closing2 .ensures in
-    let body : q .before .closing .result + toBody ≡ bodyOf ks (a .at) = ap (λ n. n + toBody) (q .before .closing .ensures) in
-    let w = close-within 0 1 (q .before .closing .result + toBody) ks (length ks + 3) (omega (arith, b .0)) (omega arith) in
-    (omega (arith, e, w), omega (arith, e, b .1), body, ap (λ n. n + past) (e ∙ ap (λ n. n + closeFrom 0 1 0 (drop n ks)) body))
+    let body : q .before .closing .result + toBody ≡ bodyOf ks (a .at) =
+    ap (λ n. n + toBody) (q .before .closing .ensures) in
+    let w = close-within 0 1 (q .before .closing .result + toBody) ks (length ks + 3) (omega (arith, b .0))
+    (omega arith) in (
+      omega (arith, e, w),
+      omega (arith, e, b .1),
+      body,
+      ap (λ n. n + past) (e ∙ ap (λ n. n + closeFrom 0 1 0 (drop n ks)) body),
+    )
 
 -- a guard's number is new or known
-numbered-as : (q : tie.Joined1) → Numbered (q .before .before .before .before .before .before .before .before .before .args .layout) (q .before .before .guard-number .result) (q .if1 .numbered)
+numbered-as : (q : tie.Joined1) → Numbered
+    (q .before .before .before .before .before .before .before .before .before .args .layout)
+    (q .before .before .guard-number .result) (q .if1 .numbered)
 numbered-as q = ⊎-elim (λ w. inl (w .0 .taken, w .2 ∙ w .1 .ensures)) (λ w. inr (w .0 .left, w .1)) (q .if1 .came)
 
 add-body-at : tie.Need-add-body-at
@@ -91,13 +106,16 @@ returns c =
           c .before .before .before .held .ensures ∙ omega (arith, there .guard-low) in
           let body : c .before .before .held2 .result ≡ bodyOf ks (a .at) =
           c .before .before .held2 .ensures ∙ ap (λ n. n % 65536) (b .2) ∙ omega (arith, there .body-low) in
-          let behind : drop (c .before .before .before .before .before .before .before .closing2 .result + past) (lexemes ts) ≡ us = rw (b .3) (there .behind) in
+          let behind : drop (c .before .before .before .before .before .before .before .closing2 .result + past)
+          (lexemes ts) ≡ us = rw (b .3) (there .behind) in
           let flags = c .before .flag .ensures ∙ flag-behind w _ us behind in
           record {
             holds = rw (e, guard, body, flags)
                 (numbered-holds (a .layout) _ _ (numbered-as j) (lexemes ts) done
-                record { region = q; begins = a .begins; goesOn = flagAt (map kindOf us) 0 } (s .pre .2) h (s .pre .3) _ _ (there .stands)
-                (j .before .before .guard-number .ensures .1 ts done (q .guard) w h (there .stands .behind-guard, there .stands .guard-stands))
+                record { region = q; begins = a .begins; goesOn = flagAt (map kindOf us) 0 } (s .pre .2) h
+                (s .pre .3) _ _ (there .stands)
+                (j .before .before .guard-number .ensures .1 ts done (q .guard) w h
+                (there .stands .behind-guard, there .stands .guard-stands))
                 (j .before .before .guard-number .ensures .0));
             behind = behind;
           },

@@ -1,4 +1,5 @@
--- `layout::closing` meets its contract. The loop's invariant: what is left to pass from here, at this depth, is what is left of the whole.
+-- `layout::closing` meets its contract. The loop's invariant: what is left to pass from here, at this depth, is what is
+-- left of the whole.
 use Prim.Native.Nat.{_+_, _-_, _≤_}
 use native.Mathlib.Omega.{arith}
 use mathlib.Core.Path.{_≡_, refl, sym, ap, _∙_}
@@ -25,7 +26,8 @@ returns c =
     let a = q .before .args in
     turn-ends (a .opener) (a .closer) (a .kinds .now) (q .loop .i) (c .before .before .before .before .loop-test .taken)
     (c .before .before .if1 .left) (c .before .if2 .taken)
-    ∙ ap (λ d. q .loop .i + closeFrom (a .opener) (a .closer) d (drop (q .loop .i) (a .kinds .now))) (sym (c .if3 .taken))
+    ∙ ap (λ d. q .loop .i + closeFrom (a .opener) (a .closer) d (drop (q .loop .i) (a .kinds .now)))
+    (sym (c .if3 .taken))
     ∙ q .loop .inv .0
 
 sub-depth : tie.Need-sub-depth Inv-loop μ-loop
@@ -41,17 +43,30 @@ loop-again c =
     let ks = a .kinds .now in
     let h = c .before .before .loop-test .taken in
     ⊎-elim
-    (λ w. (rw (w .1) (turn-opens (a .opener) (a .closer) ks (q .loop .i) (q .loop .depth) h (w .0 .taken) ∙ q .loop .inv .0), omega (arith, w .1)))
+    (λ w. (
+      rw (w .1) (turn-opens (a .opener) (a .closer) ks (q .loop .i) (q .loop .depth) h (w .0 .taken)
+          ∙ q .loop .inv .0),
+      omega (arith, w .1),
+    ))
     (⊎-elim
-    (λ w. (rw (w .3) (turn-closes (a .opener) (a .closer) ks (q .loop .i) (q .loop .depth) h (w .0 .left) (w .1 .taken) (w .2 .left) ∙ q .loop .inv .0), omega (arith, w .3)))
-    (λ w. (rw (w .2) (turn-passes (a .opener) (a .closer) ks (q .loop .i) (q .loop .depth) h (w .0 .left) (w .1 .left) ∙ q .loop .inv .0), omega (arith, w .2))))
+    (λ w. (
+      rw (w .3) (turn-closes (a .opener) (a .closer) ks (q .loop .i) (q .loop .depth) h (w .0 .left) (w .1 .taken)
+          (w .2 .left) ∙ q .loop .inv .0),
+      omega (arith, w .3),
+    ))
+    (λ w. (
+      rw (w .2) (turn-passes (a .opener) (a .closer) ks (q .loop .i) (q .loop .depth) h (w .0 .left) (w .1 .left)
+          ∙ q .loop .inv .0),
+      omega (arith, w .2),
+    )))
     (c .if1 .came)
 
 returns-2 : tie.Need-returns-2 Inv-loop μ-loop
 returns-2 c =
     let q = c .before in
     let a = q .before .args in
-    turns-over (a .opener) (a .closer) (a .kinds .now) (q .loop .i) (q .loop .depth) (c .loop-test .left) ∙ q .loop .inv .0
+    turns-over (a .opener) (a .closer) (a .kinds .now) (q .loop .i) (q .loop .depth) (c .loop-test .left)
+    ∙ q .loop .inv .0
 
 pub closing-spec : {M : Type 1} → statement M
 closing-spec =

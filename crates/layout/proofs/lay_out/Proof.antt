@@ -1,4 +1,5 @@
--- `layout::lay_out` meets its contract. The loop's invariant: the regions held and those of the methods ahead make up the file's.
+-- `layout::lay_out` meets its contract. The loop's invariant: the regions held and those of the methods ahead make up
+-- the file's.
 use Prim.Native.Nat.{ℕ, _+_, _-_, _≤_, _<_}
 use native.Mathlib.Omega.{arith}
 use mathlib.Core.Path.{_≡_, sym, ap, _∙_}
@@ -19,7 +20,8 @@ use Rattle.layout.proofs.lay_out.Tie as tie
 
 abbrev Inv-loop : tie.InvT-loop
 Inv-loop file kinds values places keep layout₀ i₀ layout i =
-    ((m : Monitor) (ts : List Token) → Words file ts kinds values places → spell m ≡ lexemes ts → length (regions m) ≤ 16
+    ((m : Monitor) (ts : List Token) → Words file ts kinds values places → spell m ≡ lexemes ts
+    → length (regions m) ≤ 16
     → length ts ≤ 1024 → IsKeep m ts keep → AheadAll (lexemes ts) (all (m .methods)) layout i)
     × Room layout × (layout .keep ≡ keep + toKept)
 
@@ -86,7 +88,11 @@ add-method-requires c κs =
 add-i-2 : tie.Need-add-i-2 Inv-loop μ-loop
 add-i-2 c =
     let l = c .before .before .before .before .before .before .before in
-    omega (arith, c .before .before .add-method .ensures .0 .within, l .before .before .before .before .before .before .before .before .good .1 .0)
+    omega (
+      arith,
+      c .before .before .add-method .ensures .0 .within,
+      l .before .before .before .before .before .before .before .before .good .1 .0,
+    )
 
 loop-less : tie.Need-loop-less Inv-loop μ-loop
 loop-less c = omega (arith, inside (c .before .before .before), c .before .before .add-method .ensures .0 .forth)

@@ -1,4 +1,5 @@
--- `layout::link_braces` meets its contract. The loop's invariant: the braces passed are linked, and all else is as it was.
+-- `layout::link_braces` meets its contract. The loop's invariant: the braces passed are linked, and all else is as it
+-- was.
 use Prim.Native.Nat.{_-_, _%_, _≤_, _<_}
 use native.Mathlib.Omega.{arith}
 use mathlib.Core.Path.{_≡_, sym, ap, _∙_}
@@ -24,7 +25,11 @@ unfolding Kinds
 returns c = λ ls are long few. absurd (c .if1 .taken (long ∙ sym (length-map ls kindOf) ∙ ap length are))
 
 loop-holds : tie.Need-loop-holds Inv-loop μ-loop
-loop-holds c = (links-none (c .before .before .before .args .kinds .now) (c .before .before .before .args .operands .now), omega arith)
+loop-holds c = (
+  links-none (c .before .before .before .args .kinds .now)
+      (c .before .before .before .args .operands .now),
+  omega arith,
+)
 
 closing-requires : tie.Need-closing-requires Inv-loop μ-loop
 closing-requires c κs = tt
@@ -49,9 +54,14 @@ loop-again c =
     let i = q .loop .i in
     let low : i < length (a .operands .now) = omega (arith, q .before .if1 .left) in
     ⊎-elim
-    (λ w. let e : w .2 .result ≡ linkOf ks i = w .2 .ensures ∙ ap (λ x. x % 65536) (w .1 .ensures) in
-    (rw (w .3, e) (links-store ks (a .operands .now) (q .loop .operands) i (q .loop .inv .0) low (w .0 .taken)), omega arith))
-    (λ w. (rw (w .1) (links-pass ks (a .operands .now) (q .loop .operands) i (q .loop .inv .0) (w .0 .left)), omega arith))
+    (λ w. let e : w .2 .result ≡ linkOf ks i = w .2 .ensures ∙ ap (λ x. x % 65536) (w .1 .ensures) in (
+      rw (w .3, e) (links-store ks (a .operands .now) (q .loop .operands) i (q .loop .inv .0) low (w .0 .taken)),
+      omega arith,
+    ))
+    (λ w. (
+      rw (w .1) (links-pass ks (a .operands .now) (q .loop .operands) i (q .loop .inv .0) (w .0 .left)),
+      omega arith,
+    ))
     (c .if2 .came)
 
 returns-2 : tie.Need-returns-2 Inv-loop μ-loop
@@ -59,7 +69,8 @@ returns-2 c =
     let q = c .before in
     let a = q .before .before .before .before .args in
     let e : q .loop .i ≡ length (a .kinds .now) = omega arith in
-    λ ls are long few. links-linked ls (a .kinds .now) (a .operands .now) (q .loop .operands) are few (rw e at (q .loop .inv .0))
+    λ ls are long few. links-linked ls (a .kinds .now) (a .operands .now) (q .loop .operands) are few
+    (rw e at (q .loop .inv .0))
 
 pub link-braces-spec : {M : Type 1} → statement M
 link-braces-spec =

@@ -35,15 +35,21 @@ returns-3 : tie.Need-returns-3
 returns-3 c =
     let a = c .before .before .before .before .before .before .before .before .before .args in
     let e = lengths (c .before) in
-    λ ts g h w at-a at-b. lengths-differ w (a .a) (a .b) g h at-a at-b (λ same. c .if3 .taken (e .0 ∙ same ∙ sym (e .1)))
+    λ ts g h w at-a at-b. lengths-differ w (a .a) (a .b) g h at-a at-b
+    (λ same. c .if3 .taken (e .0 ∙ same ∙ sym (e .1)))
 
 same-tokens-requires : tie.Need-same-tokens-requires
 same-tokens-requires c κs =
     let a = c .before .before .before .before .before .before .before .before .before .args in
-    let p = close-within 2 3 (a .a) (a .kinds .now) (length (a .kinds .now)) (c .before .before .before .before .if1 .left) (omega arith) in
-    let q = close-within 2 3 (a .b) (a .kinds .now) (length (a .kinds .now)) (c .before .before .before .if2 .left) (omega arith) in
-    let e = lengths (c .before) in
-    (c .before .before .before .before .before .before .before .before .before .pre, omega (arith, c .if3 .left, e .0, e .1), omega (arith, e .1))
+    let p = close-within 2 3 (a .a) (a .kinds .now) (length (a .kinds .now))
+    (c .before .before .before .before .if1 .left) (omega arith) in
+    let q = close-within 2 3 (a .b) (a .kinds .now) (length (a .kinds .now)) (c .before .before .before .if2 .left)
+    (omega arith) in
+    let e = lengths (c .before) in (
+      c .before .before .before .before .before .before .before .before .before .pre,
+      omega (arith, c .if3 .left, e .0, e .1),
+      omega (arith, e .1),
+    )
 
 returns-4 : tie.Need-returns-4
 returns-4 c =

@@ -29,7 +29,8 @@ returns : tie.Need-returns Inv-loop μ-loop
 returns c =
     let q = c .before .before .before .before in
     let a = q .before .args in
-    sym (bytes-differ (a .file .now) (a .a) (a .b) (a .n) (q .loop .i) (omega arith) (omega arith) (omega arith) (c .if1 .taken))
+    sym (bytes-differ (a .file .now) (a .a) (a .b) (a .n) (q .loop .i) (omega arith) (omega arith) (omega arith)
+    (c .if1 .taken))
     ∙ q .loop .inv .0
 
 loop-less : tie.Need-loop-less Inv-loop μ-loop
@@ -39,7 +40,8 @@ loop-again : tie.Need-loop-again Inv-loop μ-loop
 loop-again c =
     let q = c .before .before .before .before in
     let a = q .before .args in (
-      bytes-turn (a .file .now) (a .a) (a .b) (a .n) (q .loop .i) (omega arith) (omega arith) (omega arith) (c .if1 .left)
+      bytes-turn (a .file .now) (a .a) (a .b) (a .n) (q .loop .i) (omega arith) (omega arith) (omega arith)
+          (c .if1 .left)
           ∙ q .loop .inv .0,
       omega arith,
     )

@@ -82,7 +82,8 @@ names :
     let n = q .before .before .before .before .wide .result in
     Words (a .file .now) ts (a .kinds .now) (a .values .now) (a .places .now)
     → (x + n ≤ length (a .file .now)) × (y + n ≤ length (a .file .now))
-    × (sameBytes (take n (drop x (a .file .now))) (take n (drop y (a .file .now))) ≡ sameLexeme (lexemeAt ts (a .a)) (lexemeAt ts (a .b))))
+    × (sameBytes (take n (drop x (a .file .now))) (take n (drop y (a .file .now)))
+    ≡ sameLexeme (lexemeAt ts (a .a)) (lexemeAt ts (a .b))))
 names q ts w =
     let r = q .before .before .before .before .before .before .before .before .before in
     let s = r .before .before .before .before .before .before .before .before .before in

@@ -15,7 +15,8 @@ use Rattle.layout.proofs.same_tokens.Tie as tie
 abbrev Inv-loop : tie.InvT-loop
 Inv-loop file kinds values places a b n i₀ i =
     ((ts : List Token) → Words file ts kinds values places
-    → left sameLexemes (lexemes ts) a b n i ≡ sameLexemes (take n (drop a (lexemes ts))) (take n (drop b (lexemes ts)))) × (i ≤ n)
+    → left sameLexemes (lexemes ts) a b n i ≡ sameLexemes (take n (drop a (lexemes ts))) (take n (drop b (lexemes ts))))
+    × (i ≤ n)
 
 abbrev μ-loop : tie.MeasureT-loop
 μ-loop file kinds values places a b n i₀ i = n - i

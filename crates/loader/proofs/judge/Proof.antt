@@ -1,5 +1,5 @@
--- `loader::judge` meets its contract: each pass's answer is a refusal of the file's check, or says that the refusal does not arise; what
--- is known past each is one law, which the later ones cite.
+-- `loader::judge` meets its contract: each pass's answer is a refusal of the file's check, or says that the refusal
+-- does not arise; what is known past each is one law, which the later ones cite.
 use mathlib.Core.Path.{_≡_, refl, sym, subst, _∙_}
 use mathlib.Core.Bool.{Bool, true, false}
 use mathlib.Core.List.{List, [], _∷_}
@@ -39,17 +39,21 @@ reads : (c : tie.After-read) (ts : List Token) → Given (c .before .before .bef
     → Reads {A = Monitor} (c .read .result) (lexemes ts) (read (lexemes ts))
 reads c ts w = c .read .ensures (lexemes ts) (kinds-of w) (few-lexemes ts (room (c .before) ts w))
 
-tree : (c : tie.After-enum-told2) (ts : List Token) → Given (c .before .before .before .before .before) ts → (m : Monitor) × (spell m ≡ lexemes ts)
+tree : (c : tie.After-enum-told2) (ts : List Token) → Given (c .before .before .before .before .before) ts
+    → (m : Monitor) × (spell m ≡ lexemes ts)
 tree c ts w =
     let l = c .before .before in
     tree-read w (room (l .before) ts w) _
-    (subst (λ (p : Pos). Reads {A = Monitor} p (lexemes ts) (read (lexemes ts))) (c .enum-told2 .given .1) (reads l ts w))
+    (subst (λ (p : Pos). Reads {A = Monitor} p (lexemes ts) (read (lexemes ts))) (c .enum-told2 .given .1)
+    (reads l ts w))
 
-few : (c : tie.After-enum-told3) (ts : List Token) → Given (c .before .before .before .before .before .before .before .before) ts
+few : (c : tie.After-enum-told3) (ts : List Token)
+    → Given (c .before .before .before .before .before .before .before .before) ts
     → pastLimit 0 0 0 ts ≡ none
 few c ts w = found-nothing _ (sym (c .enum-told3 .given .1) ∙ c .before .before .find-past-limit .ensures _ ts _ w)
 
-names : (c : tie.After-enum-told4) (ts : List Token) → Given (c .before .before .before .before .before .before .before .before .before .before .before) ts
+names : (c : tie.After-enum-told4) (ts : List Token)
+    → Given (c .before .before .before .before .before .before .before .before .before .before .before) ts
     → misnamed (number 0) [] [] ts ≡ none
 names c ts w =
     let l = c .before .before in
@@ -66,8 +70,10 @@ ranged c ts w b e =
     let k = c .before .before .before .before in
     let l = k .before .before .before in
     let (m, spelt) = tree l ts w in
-    subst (λ (x : Bool). RangedBy x (all (m .vars)) (lexemes ts) (key k-keep ∷ behindKeep m) firstVar (c .read2 .result)) e
-    (c .read2 .ensures (all (m .vars)) (lexemes ts) (key k-keep ∷ behindKeep m) (numbers w) (vars-stand ts m spelt) (vars-end ts m spelt)
+    subst (λ (x : Bool). RangedBy x (all (m .vars)) (lexemes ts) (key k-keep ∷ behindKeep m) firstVar
+    (c .read2 .result)) e
+    (c .read2 .ensures (all (m .vars)) (lexemes ts) (key k-keep ∷ behindKeep m) (numbers w) (vars-stand ts m spelt)
+    (vars-end ts m spelt)
     (few-parts ts m spelt (few k ts w) .vars) (few-lexemes ts (room (l .before .before .before) ts w)))
 
 not-judged-requires : tie.Need-not-judged-requires
@@ -170,7 +176,8 @@ returns-5 c ts w =
     let l = k .before .before .before in
     let t = tree l ts w in
     judged-refused w _ (c .not-judged5 .ensures) (c .before .place-of2 .ensures)
-    (says-7 w (room (l .before .before .before) ts w) (t .0) (t .1) (few k ts w) (names (d .before) ts w) (d .read2 .result)
+    (says-7 w (room (l .before .before .before) ts w) (t .0) (t .1) (few k ts w) (names (d .before) ts w)
+    (d .read2 .result)
     (ranged d ts w false (not-true _ (c .before .before .if1 .taken))))
 
 say-requires : tie.Need-say-requires
@@ -184,7 +191,8 @@ returns-6 c ts w =
     let t = tree l ts w in
     judged-passed w _ (c .say .ensures .0) (
       t .0,
-      past-7 w (room (l .before .before .before) ts w) (t .0) (t .1) (few k ts w) (names (d .before) ts w) (d .read2 .result)
+      past-7 w (room (l .before .before .before) ts w) (t .0) (t .1) (few k ts w) (names (d .before) ts w)
+          (d .read2 .result)
           (ranged d ts w true (not-false _ (c .before .if1 .left))) _ refl refl,
     )
 

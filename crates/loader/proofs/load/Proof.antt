@@ -1,4 +1,5 @@
--- `loader::load` meets its contract: 1 and 2 are the scanner's; else the arrays hold the file's tokens as far as they were filled, and `load_tokens` goes on.
+-- `loader::load` meets its contract: 1 and 2 are the scanner's; else the arrays hold the file's tokens as far as they
+-- were filled, and `load_tokens` goes on.
 use Prim.Native.Nat.{ℕ}
 use mathlib.Core.Path.{sym, _∙_}
 use lib.Seq.{length-take-le}
@@ -13,7 +14,8 @@ N c = c .n .given .0 .0
 
 -- the arrays have room for that many tokens
 counted : (c : tie.After-n)
-    → Counted (N c) (c .before .before .scan .last .1 .0) (c .before .before .scan .last .1 .1 .0) (c .before .before .scan .last .1 .1 .1 .0)
+    → Counted (N c) (c .before .before .scan .last .1 .0) (c .before .before .scan .last .1 .1 .0)
+    (c .before .before .scan .last .1 .1 .1 .0)
 counted c = scanned-counted (c .before .before .scan .ensures) (N c) (c .n .given .1)
 
 returns : tie.Need-returns

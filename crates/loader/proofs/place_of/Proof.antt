@@ -1,4 +1,5 @@
--- `loader::place_of` meets its contract: within the slice an element is the same whatever stands for nothing, and past the end `end` does.
+-- `loader::place_of` meets its contract: within the slice an element is the same whatever stands for nothing, and past
+-- the end `end` does.
 use borrow.Author.Needs.{needs}
 use lib.ListN.{List·getD-eq-default}
 use mathlib.Core.Path.{sym, _∙_}

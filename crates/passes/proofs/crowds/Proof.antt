@@ -9,10 +9,12 @@ returns : tie.Need-returns
 returns c l e = rw (le-leb 1024 _ (c .if1 .taken))
 
 returns-2 : tie.Need-returns-2
-returns-2 c l e = rw (lt-leb 1024 _ (c .before .before .if1 .left), kind-opens l, ← e, ← c .before .either .ensures, c .if2 .taken)
+returns-2 c l e =
+    rw (lt-leb 1024 _ (c .before .before .if1 .left), kind-opens l, ← e, ← c .before .either .ensures, c .if2 .taken)
 
 returns-3 : tie.Need-returns-3
-returns-3 c l e = rw (lt-leb 1024 _ (c .before .before .if1 .left), kind-opens l, ← e, ← c .before .either .ensures, c .if2 .left)
+returns-3 c l e =
+    rw (lt-leb 1024 _ (c .before .before .if1 .left), kind-opens l, ← e, ← c .before .either .ensures, c .if2 .left)
 
 pub crowds-spec : {M : Type 1} → statement M
 crowds-spec = tie.close (tie.spec returns (λ c κs. search needs) (λ c. search needs) returns-2 returns-3)

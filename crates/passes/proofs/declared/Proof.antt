@@ -26,7 +26,10 @@ add-more c = search needs
 
 -- src/lib.rt:198:1
 returns-3 : tie.Need-returns-3
-returns-3 c file titles t = ((λ e. clash (not-false _ (c .before .if1 .left)) e), λ x e room s. one-more x _ _ t room (search needs) (search needs) s)
+returns-3 c file titles t = (
+  (λ e. clash (not-false _ (c .before .if1 .left)) e),
+  λ x e room s. one-more x _ _ t room (search needs) (search needs) s,
+)
 
 pub declared-spec : {M : Type 1} → statement M
 declared-spec =

@@ -1,4 +1,5 @@
--- `passes::find_crowded` answers `crowded`: at each turn `crowded` of the whole file is `crowded` of the tokens that are left, with the counts so far.
+-- `passes::find_crowded` answers `crowded`: at each turn `crowded` of the whole file is `crowded` of the tokens that
+-- are left, with the counts so far.
 use Prim.Native.Nat.{ℕ, _≤_, _-_}
 use native.Mathlib.Omega.{arith}
 use mathlib.Core.Path.{_≡_, sym, _∙_}
@@ -29,7 +30,8 @@ returns-2 : tie.Need-returns-2 Inv-loop μ-loop
 returns-2 c file ts values h =
     let a = c .before .before .before .before .before .loop in
     let t = c .before .before .crowds .ensures (tokenAt ts (a .i) .lexeme) (kind-at h (a .i)) in
-    offends crowding h (0, 0, 0) (a .i, a .opened, a .closed) (a .i) (a .inv .3 file ts values h) (omega arith) (sym t ∙ c .before .if2 .taken)
+    offends crowding h (0, 0, 0) (a .i, a .opened, a .closed) (a .i) (a .inv .3 file ts values h) (omega arith)
+    (sym t ∙ c .before .if2 .taken)
 
 loop-again : tie.Need-loop-again Inv-loop μ-loop
 loop-again c = (
@@ -50,7 +52,8 @@ loop-again c = (
         ← kind-opens,
         ← kind-closes,
       )
-      (goes-on crowding h (0, 0, 0) (a .i, a .opened, a .closed) (a .i) (a .inv .3 file ts values h) (omega arith) (sym t ∙ c .before .before .before .before .if2 .left)),
+      (goes-on crowding h (0, 0, 0) (a .i, a .opened, a .closed) (a .i) (a .inv .3 file ts values h) (omega arith)
+      (sym t ∙ c .before .before .before .before .if2 .left)),
 )
 
 returns-3 : tie.Need-returns-3 Inv-loop μ-loop

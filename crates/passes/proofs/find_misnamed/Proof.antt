@@ -1,5 +1,5 @@
--- `passes::find_misnamed` answers `misnamed`: at each turn `misnamed` of the whole file is `misnamed` of the tokens that are left,
--- behind the lexeme before and with the names held.
+-- `passes::find_misnamed` answers `misnamed`: at each turn `misnamed` of the whole file is `misnamed` of the tokens
+-- that are left, behind the lexeme before and with the names held.
 use Prim.Native.Nat.{_≤_, _-_}
 use native.Mathlib.Omega.{arith}
 use mathlib.Core.Path.{_≡_}
@@ -18,7 +18,8 @@ use Rattle.passes.proofs.find_misnamed.Tie as tie
 abbrev Inv-loop : tie.InvT-loop
 Inv-loop file kinds values places vars₀ methods₀ before₀ i₀ vars methods before i =
     (i ≤ length kinds)
-    × ((ts : List Token) → Words file ts kinds values places → pastLimit 0 0 0 ts ≡ none → Naming file ts vars methods before i)
+    × ((ts : List Token) → Words file ts kinds values places → pastLimit 0 0 0 ts ≡ none
+    → Naming file ts vars methods before i)
 
 abbrev μ-loop : tie.MeasureT-loop
 μ-loop file kinds values places vars₀ methods₀ before₀ i₀ vars methods before i = length kinds - i
@@ -36,7 +37,8 @@ wrong-requires : tie.Need-wrong-requires Inv-loop μ-loop
 wrong-requires c κs = search needs
 
 returns-3 : tie.Need-returns-3 Inv-loop μ-loop
-returns-3 c ts h n = naming-offends h (c .before .before .before .before .before .before .loop .inv .1 ts h n) (omega arith) _ (c .before .wrong .ensures) (c .if3 .taken)
+returns-3 c ts h n = naming-offends h (c .before .before .before .before .before .before .loop .inv .1 ts h n)
+    (omega arith) _ (c .before .wrong .ensures) (c .if3 .taken)
 
 declares-requires : tie.Need-declares-requires Inv-loop μ-loop
 declares-requires c κs = search needs
@@ -57,9 +59,12 @@ loop-again : tie.Need-loop-again Inv-loop μ-loop
 loop-again c = (
   omega arith,
   λ ts h n.
-      naming-next h (c .before .before .before .before .before .before .before .before .before .before .loop .inv .1 ts h n) n (omega arith) _
+      naming-next h
+      (c .before .before .before .before .before .before .before .before .before .before .loop .inv .1 ts h n) n
+      (omega arith) _
       (c .before .before .before .before .before .wrong .ensures) (c .before .before .before .before .if3 .left) _ _
-      (c .before .before .before .declares .ensures) (c .before .before .declared .ensures) (c .before .declares2 .ensures) (c .declared2 .ensures),
+      (c .before .before .before .declares .ensures) (c .before .before .declared .ensures)
+      (c .before .declares2 .ensures) (c .declared2 .ensures),
 )
 
 returns-4 : tie.Need-returns-4 Inv-loop μ-loop

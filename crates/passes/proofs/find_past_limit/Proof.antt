@@ -1,4 +1,5 @@
--- `passes::find_past_limit` answers `pastLimit`: at each turn `pastLimit` of the whole file is `pastLimit` of the tokens that are left, with the counts so far.
+-- `passes::find_past_limit` answers `pastLimit`: at each turn `pastLimit` of the whole file is `pastLimit` of the
+-- tokens that are left, with the counts so far.
 use Prim.Native.Nat.{ℕ, _≤_, _-_}
 use native.Mathlib.Omega.{arith}
 use mathlib.Core.Path.{_≡_, sym, _∙_}
@@ -29,7 +30,8 @@ returns-2 : tie.Need-returns-2 Inv-loop μ-loop
 returns-2 c file ts values h =
     let a = c .before .before .before .before .before .loop in
     let t = c .before .exceeds .ensures (tokenAt ts (a .i) .lexeme) (kind-at h (a .i)) in
-    offends limiting h (0, 0, 0) (a .vars, a .methods, a .regions) (a .i) (a .inv .4 file ts values h) (omega arith) (sym t ∙ c .if2 .taken)
+    offends limiting h (0, 0, 0) (a .vars, a .methods, a .regions) (a .i) (a .inv .4 file ts values h) (omega arith)
+    (sym t ∙ c .if2 .taken)
 
 loop-again : tie.Need-loop-again Inv-loop μ-loop
 unfolding keywordNumber
@@ -43,8 +45,17 @@ loop-again c = (
       let l = tokenAt ts (a .i) .lexeme in
       let k = kind-at h (a .i) in
       let t = c .before .before .before .before .exceeds .ensures l k in
-      rw (c .before .before .more .ensures, c .before .more2 .ensures, c .more3 .ensures, k, ← kind-key k-var, ← kind-key k-method, ← kind-key k-waituntil)
-      (goes-on limiting h (0, 0, 0) (a .vars, a .methods, a .regions) (a .i) (a .inv .4 file ts values h) (omega arith) (sym t ∙ c .before .before .before .if2 .left)),
+      rw (
+        c .before .before .more .ensures,
+        c .before .more2 .ensures,
+        c .more3 .ensures,
+        k,
+        ← kind-key k-var,
+        ← kind-key k-method,
+        ← kind-key k-waituntil,
+      )
+      (goes-on limiting h (0, 0, 0) (a .vars, a .methods, a .regions) (a .i) (a .inv .4 file ts values h) (omega arith)
+      (sym t ∙ c .before .before .before .if2 .left)),
 )
 
 returns-3 : tie.Need-returns-3 Inv-loop μ-loop

@@ -43,7 +43,8 @@ loop-again c = (
 )
 
 returns-4 : tie.Need-returns-4 Inv-loop μ-loop
-returns-4 c ts h n long = resolved-last h _ _ long (c .before .loop .i) (omega arith) (c .before .loop .inv .2 ts h n long)
+returns-4 c ts h n long =
+    resolved-last h _ _ long (c .before .loop .i) (omega arith) (c .before .loop .inv .2 ts h n long)
 
 pub resolve-spec : {M : Type 1} → statement M
 resolve-spec =

@@ -1,4 +1,5 @@
--- `passes::same_part` compares names that stand in the file: what `check::same` says of the two parts is said of the names.
+-- `passes::same_part` compares names that stand in the file: what `check::same` says of the two parts is said of the
+-- names.
 use native.Mathlib.Omega.{arith}
 use mathlib.Core.Path.{sym, _∙_}
 use borrow.Author.Needs.{needs}

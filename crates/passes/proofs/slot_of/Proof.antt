@@ -1,4 +1,5 @@
--- `passes::slot_of` answers `slotIn`: at each turn the slot among all names is the number passed and the slot among those that are left.
+-- `passes::slot_of` answers `slotIn`: at each turn the slot among all names is the number passed and the slot among
+-- those that are left.
 use Prim.Native.Nat.{ℕ, _+_, _-_, _≤_, _<_}
 use native.Mathlib.Omega.{arith}
 use mathlib.Core.Path.{_≡_, sym, _∙_}
@@ -14,7 +15,8 @@ use Rattle.passes.proofs.slot_of.Tie as tie
 abbrev Inv-loop : tie.InvT-loop
 Inv-loop file start len names i₀ i =
     (i ≤ 8)
-    × ((titles : List (List ℕ)) (x : List ℕ) → Titles file titles names → Stands file x start len → slotIn titles x ≡ i + slotIn (drop i titles) x)
+    × ((titles : List (List ℕ)) (x : List ℕ) → Titles file titles names → Stands file x start len
+    → slotIn titles x ≡ i + slotIn (drop i titles) x)
 
 abbrev μ-loop : tie.MeasureT-loop
 μ-loop file start len names i₀ i = 8 - i
@@ -34,7 +36,8 @@ returns c = (
   λ titles x t s.
       let a = c .before .before .before .before .before .before .loop in
       let l : a .i < length titles = omega (arith, t .counted) in
-      let e = slot-hit titles x (a .i) l (sym (c .before .same-part .ensures (getD titles (a .i) []) x (t .held (a .i) l) s) ∙ c .if2 .taken) in
+      let e = slot-hit titles x (a .i) l
+      (sym (c .before .same-part .ensures (getD titles (a .i) []) x (t .held (a .i) l) s) ∙ c .if2 .taken) in
       omega (arith, a .inv .1 titles x t s),
 )
 
@@ -47,7 +50,8 @@ loop-again c = (
   λ titles x t s.
       let a = c .before .before .before .before .before .before .loop in
       let l : a .i < length titles = omega (arith, t .counted) in
-      let e = slot-miss titles x (a .i) l (sym (c .before .same-part .ensures (getD titles (a .i) []) x (t .held (a .i) l) s) ∙ c .if2 .left) in
+      let e = slot-miss titles x (a .i) l
+      (sym (c .before .same-part .ensures (getD titles (a .i) []) x (t .held (a .i) l) s) ∙ c .if2 .left) in
       omega (arith, a .inv .1 titles x t s),
 )
 

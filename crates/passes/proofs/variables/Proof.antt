@@ -1,4 +1,5 @@
--- `passes::variables` lists the variables: at each turn the titles of the file are those held and those of the tokens that are left.
+-- `passes::variables` lists the variables: at each turn the titles of the file are those held and those of the tokens
+-- that are left.
 use Prim.Native.Nat.{ℕ, _≤_, _-_}
 use native.Mathlib.Omega.{arith}
 use mathlib.Core.Path.{_≡_}
@@ -17,7 +18,8 @@ use Rattle.passes.proofs.variables.Tie as tie
 abbrev Inv-loop : tie.InvT-loop
 Inv-loop kinds values places vars₀ before₀ i₀ vars before i =
     (i ≤ length kinds)
-    × ((file : List ℕ) (ts : List Token) → Words file ts kinds values places → pastLimit 0 0 0 ts ≡ none → Listing file ts vars before i)
+    × ((file : List ℕ) (ts : List Token) → Words file ts kinds values places → pastLimit 0 0 0 ts ≡ none
+    → Listing file ts vars before i)
 
 abbrev μ-loop : tie.MeasureT-loop
 μ-loop kinds values places vars₀ before₀ i₀ vars before i = length kinds - i

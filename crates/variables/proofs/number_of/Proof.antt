@@ -1,5 +1,5 @@
--- `variables::number_of` meets its contract. The loop's invariant: the number so far and the number of what is left from k on make
--- up the whole; each share is at most 2 ^ 32.
+-- `variables::number_of` meets its contract. The loop's invariant: the number so far and the number of what is left
+-- from k on make up the whole; each share is at most 2 ^ 32.
 use Prim.Native.Nat.{_+_, _-_, _*_, _≤_}
 use native.Mathlib.Nat.{zero-add}
 use native.Mathlib.Omega.{arith}
@@ -32,7 +32,11 @@ loop-holds c = (omega arith, omega arith, λ vs as′ b v s. zero-add _)
 returns : tie.Need-returns Inv-loop μ-loop
 returns c vs as′ b x s =
     let g = c .before .before in
-    omega (arith, g .loop .inv .2 vs as′ b x s, number-end vs (drop (g .loop .k) as′) (g .loop .k) (omega (arith, b .counted, c .if1 .taken)))
+    omega (
+      arith,
+      g .loop .inv .2 vs as′ b x s,
+      number-end vs (drop (g .loop .k) as′) (g .loop .k) (omega (arith, b .counted, c .if1 .taken)),
+    )
 
 mul-share-of-2 : tie.Need-mul-share-of-2 Inv-loop μ-loop
 mul-share-of-2 c = search needs
@@ -63,14 +67,19 @@ loop-again c =
       omega arith,
       omega (arith, c .share-of .ensures .small),
       λ vs as′ b x s.
-          number-more vs as′ (a .t1) (a .t2) b x s (g .loop .k) (c .share-of .result) (g .loop .number) (omega (arith, b .counted))
+          number-more vs as′ (a .t1) (a .t2) b x s (g .loop .k) (c .share-of .result) (g .loop .number)
+          (omega (arith, b .counted))
           (c .share-of .ensures) (g .loop .inv .2 vs as′ b x s),
     )
 
 returns-2 : tie.Need-returns-2 Inv-loop μ-loop
 returns-2 c vs as′ b x s =
     let g = c .before in
-    omega (arith, g .loop .inv .2 vs as′ b x s, number-end vs (drop (g .loop .k) as′) (g .loop .k) (omega (arith, b .few-vars, c .loop-test .left)))
+    omega (
+      arith,
+      g .loop .inv .2 vs as′ b x s,
+      number-end vs (drop (g .loop .k) as′) (g .loop .k) (omega (arith, b .few-vars, c .loop-test .left)),
+    )
 
 pub number-of-spec : {M : Type 1} → statement M
 number-of-spec =

@@ -1,5 +1,5 @@
--- `variables::values_of` meets its contract. The loop's invariant: the values below k stand, and what is left of the state is the
--- state of the rest among the variables from k on.
+-- `variables::values_of` meets its contract. The loop's invariant: the values below k stand, and what is left of the
+-- state is the state of the rest among the variables from k on.
 use Prim.Native.Nat.{_-_, _≤_, _<_}
 use native.Mathlib.Omega.{arith}
 use mathlib.Core.Path.{_≡_, refl}
@@ -15,7 +15,8 @@ use Rattle.variables.proofs.values_of.Tie as tie
 
 abbrev Inv-loop : tie.InvT-loop
 Inv-loop state bounds values₀ rest₀ k₀ values rest k =
-    (k ≤ 6) × (length values ≡ 6) × ((vs : List Var) → Bounded vs bounds → state < count vs → Filled vs state values rest k)
+    (k ≤ 6) × (length values ≡ 6)
+    × ((vs : List Var) → Bounded vs bounds → state < count vs → Filled vs state values rest k)
 
 abbrev μ-loop : tie.MeasureT-loop
 μ-loop state bounds values₀ rest₀ k₀ values rest k = 6 - k
@@ -26,7 +27,8 @@ loop-holds c = (omega arith, refl, λ vs b h. filled-start vs _ h)
 returns : tie.Need-returns Inv-loop μ-loop
 returns c vs b h =
     let g = c .before .before in
-    filled-all vs (g .before .args .t1) (g .before .args .state) (g .loop .values) (g .loop .rest) (g .loop .k) b (g .loop .inv .1)
+    filled-all vs (g .before .args .t1) (g .before .args .state) (g .loop .values) (g .loop .rest) (g .loop .k) b
+    (g .loop .inv .1)
     (omega (arith, b .counted, c .if1 .taken)) (g .loop .inv .2 vs b h)
 
 element-copy-out-digit-of-2 : tie.Need-element-copy-out-digit-of-2 Inv-loop μ-loop
@@ -55,14 +57,16 @@ loop-again c =
       omega arith,
       simp length-set (g .loop .inv .1),
       λ vs b h.
-          filled-more vs (a .t1) b (a .state) (g .loop .rest) (g .loop .k) (g .loop .values) (c .digit-of .result) (omega (arith, b .counted))
+          filled-more vs (a .t1) b (a .state) (g .loop .rest) (g .loop .k) (g .loop .values) (c .digit-of .result)
+          (omega (arith, b .counted))
           (g .loop .inv .1) (c .digit-of .ensures) (g .loop .inv .2 vs b h),
     )
 
 returns-2 : tie.Need-returns-2 Inv-loop μ-loop
 returns-2 c vs b h =
     let g = c .before in
-    filled-all vs (g .before .args .t1) (g .before .args .state) (g .loop .values) (g .loop .rest) (g .loop .k) b (g .loop .inv .1)
+    filled-all vs (g .before .args .t1) (g .before .args .state) (g .loop .values) (g .loop .rest) (g .loop .k) b
+    (g .loop .inv .1)
     (omega (arith, b .few-vars, c .loop-test .left)) (g .loop .inv .2 vs b h)
 
 pub values-of-spec : {M : Type 1} → statement M
