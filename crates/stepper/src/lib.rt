@@ -6,10 +6,10 @@ ghost use mathlib.Core.List.{List, []};
 ghost use Prim.Native.Nat.{ℕ, _<_};
 ghost use lib.Dec.{eqb};
 ghost use Rattle.sets.specs.Set.{member};
-ghost use Rattle.machine.specs.Monitor.{Monitor, Config, allIdle};
+ghost use Rattle.machine.specs.Monitor.{SameThreads, Monitor, Config, allIdle};
 ghost use Rattle.logic.specs.Tests.{any};
 ghost use Rattle.machine.specs.Decide.Step.{Told, isDue, isWaiting, mayBeAt, onGuard, waitsOn, own};
-ghost use Rattle.machine.specs.Decide.Step.{put as putAt, ran as ranTo};
+ghost use Rattle.machine.specs.Decide.Step.{put as putAt, beginWait, leave as leaveTo, ran as ranTo};
 ghost use Rattle.machine.specs.Decide.Table.{acts as actsOf, tableTold};
 ghost use Rattle.machine.specs.Held.{Held, HeldPlaces, HeldEntries};
 ghost use Rattle.machine.proofs.Reached.{Reached};
@@ -280,6 +280,19 @@ fn put(threads: [Thread; 16], t: usize, place: Place) -> [Thread; 16]
     next
 }
 
+// Thread t begins to wait at a region; thread t goes on from a body, to a place. All that changes threads.
+fn begin_wait(threads: [Thread; 16], t: usize, region: u8) -> [Thread; 16]
+    ensures { λ r. ⌜ (t < 16 → SameThreads (threadsOf r) (beginWait (threadsOf threads) t region)) ⌝ }
+{
+    put(threads, t % 16, Place::Waiting(region))
+}
+
+fn leave(threads: [Thread; 16], t: usize, place: Place) -> [Thread; 16]
+    ensures { λ r. ⌜ (t < 16 → SameThreads (threadsOf r) (leaveTo (threadsOf threads) t (placeOf place))) ⌝ }
+{
+    put(threads, t % 16, place)
+}
+
 // Where a thread is after a region's body.
 fn behind(region: u8, goes_on: &[u8; 16]) -> Place
     ensures { λ r. ⌜ placeOf r ≡ followsAt (now («goes_on» .entry)) region ⌝ }
@@ -358,7 +371,7 @@ fn ran(
     let t = frame.thread;
     let region = frame.region;
     let threads = run.threads;
-    let places = put(threads, t as usize, behind(region, goes_on));
+    let places = leave(threads, t as usize, behind(region, goes_on));
     let to = after[(region % 16) as usize * 4096 + (run.state % 4096) as usize];
     let notified = run.notified;
     let told = if table {
@@ -394,7 +407,7 @@ fn paused(run: Run, frame: Frame) -> Run
             notified: rest,
         };
     }
-    let places = put(threads, t as usize, Place::Waiting(frame.region));
+    let places = begin_wait(threads, t as usize, frame.region);
     Run {
         state: state,
         threads: places,
