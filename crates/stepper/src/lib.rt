@@ -8,7 +8,7 @@ ghost use lib.Dec.{eqb};
 ghost use Rattle.sets.specs.Set.{member};
 ghost use Rattle.machine.specs.Monitor.{SameThreads, Monitor, Config, allIdle};
 ghost use Rattle.logic.specs.Tests.{any};
-ghost use Rattle.machine.specs.Decide.Step.{Told, isDue, isWaiting, mayBeAt, onGuard, waitsOn, own};
+ghost use Rattle.machine.specs.Decide.Step.{Told, isDue, isWaiting, mayBeAt, onGuard, waitsOn, firstNotified, own};
 ghost use Rattle.machine.specs.Decide.Step.{put as putAt, beginWait, leave as leaveTo, ran as ranTo};
 ghost use Rattle.machine.specs.Decide.Table.{acts as actsOf, tableTold};
 ghost use Rattle.machine.specs.Held.{Held, HeldPlaces, HeldEntries};
@@ -154,6 +154,16 @@ fn waiters(threads: [Thread; 16], guard_of: &[u8; 16], guard: u8) -> u16
         u += 1;
     }
     set
+}
+
+// Whether none of those notified on a guard stands ahead of thread t.
+fn is_first(threads: [Thread; 16], guard_of: &[u8; 16], guard: u8, notified: u16, t: u8) -> bool
+    ensures { λ r. ⌜ (t < 16 → r
+        ≡ firstNotified (guardsOnly (now («guard_of» .entry))) (threadsOf threads) (member notified) guard t) ⌝ }
+{
+    let waiting = waiters(threads, guard_of, guard);
+    let ahead = sets::both(waiting, notified);
+    t as u32 <= sets::lowest(ahead)
 }
 
 // Whether the plain machine notifies a thread at a place: it waits and its guard holds.
@@ -343,9 +353,7 @@ fn judge(
         return NOT_ALLOWED;
     }
     if flag {
-        let waiting = waiters(threads, guard_of, guard);
-        let ahead = sets::both(waiting, notified);
-        if sets::lowest(ahead) < t as u32 {
+        if !is_first(threads, guard_of, guard, notified, t) {
             return NOT_ALLOWED;
         }
     }

@@ -3,6 +3,7 @@ use mathlib.Core.Path.{refl, sym, _∙_, subst}
 use mathlib.Core.Bool.{Bool, false}
 use Rattle.machine.specs.Monitor.{Monitor, Config}
 use Rattle.machine.specs.Decide.Step.{Told, waited, rechecked, without}
+use Rattle.machine.proofs.Order.{same-refl}
 use Rattle.stepper.specs.declared.Run.{Run}
 use Rattle.stepper.specs.Shown.{Shows, placesOf, idleThread, frameOf}
 use Rattle.stepper.specs.Slices.{configOf}
@@ -25,7 +26,7 @@ returns c m told =
     subst (λ (w : Bool). Shows after (next s m told w)) (sym waits)
     (record {
       state = refl;
-      threads = record { same-place = λ u h. refl };
+      threads = same-refl;
       notices = λ u h. c .without .ensures u;
     })
 

@@ -18,12 +18,13 @@ unfolding ran without afterAt configOf frameOf toldAt plainTold
 returns c =
     let a = c .before .before .before .before .before .before .before .before .args in
     let d = c .before .before .before .before .before in
+    let thread = d .before .before .before .pre in
     let before : Threads = threadsOf (a .run .threads) in
     let after : Threads = leave before (a .frame .thread) (followsAt (a .goes-on .now) (a .frame .region)) in
     let to = afterAt (a .after .now) (a .frame .region) (a .run .state) in
     let left : SameThreads (threadsOf (d .leave .result)) after =
     subst (λ (q : Place). SameThreads (threadsOf (d .leave .result)) (leave before (a .frame .thread) q))
-    (d .before .behind .ensures) (d .leave .ensures (c .before .before .before .before .before .before .before .before .pre)) in
+    (d .before .behind .ensures) (d .leave .ensures thread) in
     let telling : Bool → ℕ → Bool = λ b u.
     toldAt (a .holds .now) (a .guard-of .now) (a .entries .now) b to (threadsOf (d .leave .result))
     (a .frame .region) u in
