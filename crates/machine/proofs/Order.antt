@@ -44,6 +44,9 @@ pub ahead-same :
 unfolding ahead
 ahead-same same u v h k = refl
 
+pub same-refl : {p : Threads} → SameThreads p p
+same-refl = record { same-place = λ u h. refl }
+
 pub same-trans : {p q r : Threads} → SameThreads p q → SameThreads q r → SameThreads p r
 same-trans a b = record { same-place = λ u h. a .same-place u h ∙ b .same-place u h }
 

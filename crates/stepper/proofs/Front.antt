@@ -7,8 +7,8 @@ use mathlib.Core.Bool.{Bool, true, false, not, _&&_}
 use mathlib.Core.List.{List, []}
 use native.Mathlib.Decide.{decLt}
 use native.Mathlib.Omega.{arith}
-use lib.Dec.{ltb}
-use borrow.Author.Tests.{lt-ltb, le-ltb, eq-eqb}
+use lib.Dec.{leb, ltb}
+use borrow.Author.Tests.{le-leb, lt-leb, eq-eqb}
 use Rattle.sets.specs.Set.{member}
 use Rattle.logic.specs.Tests.{any}
 use Rattle.machine.specs.Monitor.{Place, idle, waiting, due, Threads, Monitor, threads, ahead}
@@ -35,29 +35,30 @@ pub record Lowest (s low : ℕ) : Type 0 where
   pub least : (u : ℕ) → u < low → member s u ≡ true → ⊥
   pub found : low < 16 → member s low ≡ true
 
--- one of a set stands ahead of t exactly if its lowest member is below t
+-- none of a set stands ahead of t exactly if t is not past its lowest member
 lowest-ahead :
-    {s low : ℕ} → Lowest s low → (p : Threads) (f : ℕ → Bool) → ((v : ℕ) → v < 16 → member s v ≡ f v) → (t : ℕ) → t ≤ 16
-    → any threads (λ v. f v && ahead p v t) ≡ ltb low t
-lowest-ahead {s} {low} lowest p f e t h = below-ahead p f t h ∙ go (decLt low t)
+    {s low : ℕ} → Lowest s low → (p : Threads) (f : ℕ → Bool) → ((v : ℕ) → v < 16 → member s v ≡ f v) → (t : ℕ) → t < 16
+    → not (any threads (λ v. f v && ahead p v t)) ≡ leb t low
+lowest-ahead {s} {low} lowest p f e t h = ap not (below-ahead p f t (omega arith)) ∙ go (decLt low t)
   where
     none : (k : ℕ) → k < low → (b : Bool) → member s k ≡ b → b ≡ false
     none k l true q = absurd (lowest .least k l q)
     none k l false q = refl
 
-    go : Dec (low < t) → any t f ≡ ltb low t
-    go (yes l) = any-true t low f l (sym (e low (omega arith)) ∙ lowest .found (omega arith)) ∙ sym (lt-ltb low t l)
+    go : Dec (low < t) → not (any t f) ≡ leb t low
+    go (yes l) =
+        ap not (any-true t low f l (sym (e low (omega arith)) ∙ lowest .found (omega arith))) ∙ sym (lt-leb t low l)
     go (no l) =
-        any-false t f (λ k q. sym (e k (omega arith)) ∙ none k (omega arith) (member s k) refl)
-        ∙ sym (le-ltb low t (omega arith))
+        ap not (any-false t f (λ k q. sym (e k (omega arith)) ∙ none k (omega arith) (member s k) refl))
+        ∙ sym (le-leb t low (omega arith))
 
--- of the notified waiters on a guard none stands ahead of t exactly if the lowest is not below t
+-- of the notified waiters on a guard none stands ahead of t exactly if t is not past the lowest
 pub lowest-first :
     (m : Monitor) (p : Threads) (n : ℕ → Bool) (g : ℕ) {s low : ℕ} → Lowest s low
-    → ((v : ℕ) → v < 16 → member s v ≡ waitsOn m p g v && n v) → (t : ℕ) → t ≤ 16
-    → firstNotified m p n g t ≡ not (ltb low t)
+    → ((v : ℕ) → v < 16 → member s v ≡ waitsOn m p g v && n v) → (t : ℕ) → t < 16
+    → firstNotified m p n g t ≡ leb t low
 unfolding firstNotified
-lowest-first m p n g lowest e t h = ap not (lowest-ahead lowest p (λ v. waitsOn m p g v && n v) e t h)
+lowest-first m p n g lowest e t h = lowest-ahead lowest p (λ v. waitsOn m p g v && n v) e t h
 
 -- ---- the first that is met
 

@@ -6,10 +6,10 @@ ghost use mathlib.Core.List.{List, []};
 ghost use Prim.Native.Nat.{ℕ, _<_};
 ghost use lib.Dec.{eqb};
 ghost use Rattle.sets.specs.Set.{member};
-ghost use Rattle.machine.specs.Monitor.{Monitor, Config, allIdle};
+ghost use Rattle.machine.specs.Monitor.{SameThreads, Monitor, Config, allIdle};
 ghost use Rattle.logic.specs.Tests.{any};
-ghost use Rattle.machine.specs.Decide.Step.{Told, isDue, isWaiting, mayBeAt, onGuard, waitsOn, own};
-ghost use Rattle.machine.specs.Decide.Step.{put as putAt, ran as ranTo};
+ghost use Rattle.machine.specs.Decide.Step.{Told, isDue, isWaiting, mayBeAt, onGuard, waitsOn, firstNotified, own};
+ghost use Rattle.machine.specs.Decide.Step.{put as putAt, beginWait, leave as leaveTo, ran as ranTo};
 ghost use Rattle.machine.specs.Decide.Table.{acts as actsOf, tableTold};
 ghost use Rattle.machine.specs.Held.{Held, HeldPlaces, HeldEntries};
 ghost use Rattle.machine.proofs.Reached.{Reached};
@@ -156,6 +156,16 @@ fn waiters(threads: [Thread; 16], guard_of: &[u8; 16], guard: u8) -> u16
     set
 }
 
+// Whether none of those notified on a guard stands ahead of thread t.
+fn is_first(threads: [Thread; 16], guard_of: &[u8; 16], guard: u8, notified: u16, t: u8) -> bool
+    ensures { λ r. ⌜ (t < 16 → r
+        ≡ firstNotified (guardsOnly (now («guard_of» .entry))) (threadsOf threads) (member notified) guard t) ⌝ }
+{
+    let waiting = waiters(threads, guard_of, guard);
+    let ahead = sets::both(waiting, notified);
+    t as u32 <= sets::lowest(ahead)
+}
+
 // Whether the plain machine notifies a thread at a place: it waits and its guard holds.
 fn own_holds(place: Place, guard_of: &[u8; 16], holds: &[u16; 4096], state: u16) -> bool
     ensures { λ r. ⌜ r ≡ own (truths (now (holds .entry)) (now («guard_of» .entry))) state (placeOf place) ⌝ }
@@ -280,6 +290,19 @@ fn put(threads: [Thread; 16], t: usize, place: Place) -> [Thread; 16]
     next
 }
 
+// Thread t begins to wait at a region; thread t goes on from a body, to a place. All that changes threads.
+fn begin_wait(threads: [Thread; 16], t: usize, region: u8) -> [Thread; 16]
+    ensures { λ r. ⌜ (t < 16 → SameThreads (threadsOf r) (beginWait (threadsOf threads) t region)) ⌝ }
+{
+    put(threads, t % 16, Place::Waiting(region))
+}
+
+fn leave(threads: [Thread; 16], t: usize, place: Place) -> [Thread; 16]
+    ensures { λ r. ⌜ (t < 16 → SameThreads (threadsOf r) (leaveTo (threadsOf threads) t (placeOf place))) ⌝ }
+{
+    put(threads, t % 16, place)
+}
+
 // Where a thread is after a region's body.
 fn behind(region: u8, goes_on: &[u8; 16]) -> Place
     ensures { λ r. ⌜ placeOf r ≡ followsAt (now («goes_on» .entry)) region ⌝ }
@@ -330,9 +353,7 @@ fn judge(
         return NOT_ALLOWED;
     }
     if flag {
-        let waiting = waiters(threads, guard_of, guard);
-        let ahead = sets::both(waiting, notified);
-        if sets::lowest(ahead) < t as u32 {
+        if !is_first(threads, guard_of, guard, notified, t) {
             return NOT_ALLOWED;
         }
     }
@@ -358,7 +379,7 @@ fn ran(
     let t = frame.thread;
     let region = frame.region;
     let threads = run.threads;
-    let places = put(threads, t as usize, behind(region, goes_on));
+    let places = leave(threads, t as usize, behind(region, goes_on));
     let to = after[(region % 16) as usize * 4096 + (run.state % 4096) as usize];
     let notified = run.notified;
     let told = if table {
@@ -394,7 +415,7 @@ fn paused(run: Run, frame: Frame) -> Run
             notified: rest,
         };
     }
-    let places = put(threads, t as usize, Place::Waiting(frame.region));
+    let places = begin_wait(threads, t as usize, frame.region);
     Run {
         state: state,
         threads: places,

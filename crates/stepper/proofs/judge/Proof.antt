@@ -1,19 +1,17 @@
 -- `stepper::judge` meets its contract: each test's fact is one of the verdict's Booleans.
-use Prim.Native.Nat.{ℕ, _<_}
-use mathlib.Core.Path.{_≡_, sym, ap, _∙_}
-use mathlib.Core.Bool.{Bool, true, not, _&&_, Bool·beq}
+use Prim.Native.Nat.{ℕ}
+use mathlib.Core.Path.{_≡_, refl, sym, ap, _∙_}
+use mathlib.Core.Bool.{true, Bool·beq}
 use mathlib.Core.List.{[]}
-use native.Mathlib.Omega.{arith}
-use lib.Dec.{ltb}
 use borrow.Author.Needs.{needs}
-use borrow.Author.Tests.{not-true, not-false, lt-ltb, le-ltb}
+use borrow.Author.Tests.{not-true, not-false}
 use Rattle.sets.specs.Set.{member}
-use Rattle.machine.specs.Monitor.{Monitor, Config, Frame}
-use Rattle.machine.specs.Decide.Step.{isWaiting, onGuard, waitsOn, mayBeAt, may, firstNotified}
+use Rattle.machine.specs.Monitor.{Threads, Monitor, Config, Frame}
+use Rattle.machine.specs.Decide.Step.{isWaiting, mayBeAt, may, firstNotified}
+use Rattle.machine.proofs.Order.{same-refl}
 use Rattle.stepper.specs.Shown.{placesOf, threadsOf, idleThread, frameOf}
 use Rattle.stepper.specs.Slices.{guardAt, holdsAt, slices, guardsOnly, configOf}
-use Rattle.stepper.proofs.Loops.{guards-alone}
-use Rattle.stepper.proofs.Front.{lowest-first}
+use Rattle.stepper.proofs.Agree.{first-same}
 use Rattle.stepper.proofs.Judged.{begins-alone, may-be, other-is-due, not-there, other-flag, not-waiting}
 use Rattle.stepper.proofs.Judged.{no-notice, recheck, resumes, not-first}
 use Rattle.stepper.proofs.judge.Statement.{statement}
@@ -82,28 +80,25 @@ notice : (c : tie.After-has) → let s = from5 c in c .has .result ≡ point s .
 unfolding configOf frameOf
 notice c = c .has .ensures
 
-abbrev from7 : tie.After-lowest → tie.Start
-from7 c = from5 (c .before .before .before .before .before)
+abbrev from6 : tie.After-is-first → tie.Start
+from6 c = from5 (c .before .before .before)
 
--- the lowest notified waiter on the guard is not below t, or it is
-is-first : (c : tie.After-lowest) → let s = from7 c in
-    firstNotified (monitor s) (point s .threads) (point s .notified) (monitor s .guardOf (frame s .region))
-    (frame s .thread) ≡ not (ltb (c .lowest .result) (frame s .thread))
-unfolding configOf frameOf waitsOn
-is-first c =
-    let a = from7 c .args in
-    let places = placesOf (a .run .threads) in
-    let guard = guardAt (a .guard-of .now) (a .frame .region) in
-    let known = c .before .before .before .before .before .before .before .before .before .before .guard-at .ensures in
-    let on : (v : ℕ) → v < 16
-    → member (c .before .before .waiters .result) v ≡ onGuard (monitor (from7 c)) guard (places v) =
-    λ v h. c .before .before .waiters .ensures v h
-    ∙ ap (λ (g : ℕ). onGuard (guardsOnly (a .guard-of .now)) g (places v)) known
-    ∙ sym (guards-alone (a .holds .now) [] (a .guard-of .now) (a .begins .now) [] (a .regions) guard (places v)) in
-    lowest-first (monitor (from7 c)) (threadsOf (a .run .threads)) (member (a .run .notified)) guard
-    (record { least = c .lowest .ensures .0; found = c .lowest .ensures .1 .0 })
-    (λ v h. c .before .both .ensures v ∙ ap (λ (b : Bool). b && member (a .run .notified) v) (on v h))
-    (a .frame .thread) (omega (arith, from7 c .pre))
+-- none of those notified on the guard stands ahead of t
+first : (c : tie.After-is-first) → let s = from6 c in
+    c .is-first .result
+    ≡ firstNotified (monitor s) (point s .threads) (point s .notified) (monitor s .guardOf (frame s .region))
+    (frame s .thread)
+unfolding configOf frameOf
+first c =
+    let s = from6 c in
+    let a = s .args in
+    let p : Threads = threadsOf (a .run .threads) in
+    let n = member (a .run .notified) in
+    let known = c .before .before .before .before .before .before .before .before .guard-at .ensures in
+    c .is-first .ensures (s .pre)
+    ∙ ap (λ (g : ℕ). firstNotified (guardsOnly (a .guard-of .now)) p n g (a .frame .thread)) known
+    ∙ first-same (guardsOnly (a .guard-of .now)) (monitor s) p p same-refl (λ u w h q. refl) n n (λ u h. refl)
+    (guardAt (a .guard-of .now) (a .frame .region)) (a .frame .thread) (s .pre)
 
 cast-other-due : tie.Need-cast-other-due
 cast-other-due c = search needs
@@ -172,39 +167,30 @@ returns-5 c =
     (no-notice (monitor s) (point s) (frame s) (is-there (d .before .before .before .before .before)) (is-same (d .before .before))
     (sym (waits (d .before)) ∙ not-false _ (d .if4 .left)) (sym (notice (c .before)) ∙ not-true _ (c .if5 .taken)))
 
-waiters-requires : tie.Need-waiters-requires
-waiters-requires c κs = search needs
-
-both-requires : tie.Need-both-requires
-both-requires c κs = search needs
-
-lowest-requires : tie.Need-lowest-requires
-lowest-requires c κs = search needs
-
-cast-if7 : tie.Need-cast-if7
-cast-if7 c = search needs
+is-first-requires : tie.Need-is-first-requires
+is-first-requires c κs = search needs
 
 returns-6 : tie.Need-returns-6
 unfolding frameOf
 returns-6 c =
-    let s = from7 (c .before) in
-    let e = c .before .before .before .before in
+    let s = from6 (c .before) in
+    let e = c .before .before in
     let d = e .before .before .before in
     sym
     (not-first (monitor s) (point s) (frame s) (is-there (d .before .before .before .before .before)) (is-same (d .before .before))
     (sym (waits (d .before)) ∙ not-false _ (d .if4 .left)) (sym (notice (e .before .before)) ∙ not-false _ (e .before .if5 .left)) (e .if6 .taken)
-    (is-first (c .before) ∙ ap not (lt-ltb (c .before .lowest .result) (s .args .frame .thread) (c .if7 .taken))))
+    (sym (first (c .before)) ∙ not-true _ (c .if7 .taken)))
 
 returns-7 : tie.Need-returns-7
 unfolding frameOf
 returns-7 c =
-    let s = from7 (c .before) in
-    let e = c .before .before .before .before in
+    let s = from6 (c .before) in
+    let e = c .before .before in
     let d = e .before .before .before in
     sym
     (resumes (monitor s) (point s) (frame s) (is-there (d .before .before .before .before .before)) (is-same (d .before .before))
     (sym (waits (d .before)) ∙ not-false _ (d .if4 .left)) (sym (notice (e .before .before)) ∙ not-false _ (e .before .if5 .left)) (e .if6 .taken)
-    (is-first (c .before) ∙ ap not (le-ltb (c .before .lowest .result) (s .args .frame .thread) (c .if7 .left))))
+    (sym (first (c .before)) ∙ not-false _ (c .if7 .left)))
 
 returns-8 : tie.Need-returns-8
 unfolding frameOf
@@ -235,10 +221,7 @@ judge-spec =
     cast-has
     has-requires
     returns-5
-    waiters-requires
-    both-requires
-    lowest-requires
-    cast-if7
+    is-first-requires
     returns-6
     returns-7
     returns-8)

@@ -1,10 +1,11 @@
 -- `stepper::paused` meets its contract: does the thread wait already.
 use mathlib.Core.Path.{refl, sym, _∙_, subst}
 use mathlib.Core.Bool.{Bool, false}
-use Rattle.machine.specs.Monitor.{Monitor, Config, threads}
-use Rattle.machine.specs.Decide.Step.{Told, waited, rechecked, beginWait, without}
+use Rattle.machine.specs.Monitor.{Monitor, Config}
+use Rattle.machine.specs.Decide.Step.{Told, waited, rechecked, without}
+use Rattle.machine.proofs.Order.{same-refl}
 use Rattle.stepper.specs.declared.Run.{Run}
-use Rattle.stepper.specs.Shown.{Shows, placeOf, placesOf, idleThread, frameOf}
+use Rattle.stepper.specs.Shown.{Shows, placesOf, idleThread, frameOf}
 use Rattle.stepper.specs.Slices.{configOf}
 use Rattle.stepper.specs.Parts.{nextBy}
 use borrow.Author.Needs.{needs}
@@ -25,21 +26,21 @@ returns c m told =
     subst (λ (w : Bool). Shows after (next s m told w)) (sym waits)
     (record {
       state = refl;
-      threads = record { same-place = λ u h. refl };
+      threads = same-refl;
       notices = λ u h. c .without .ensures u;
     })
 
 returns-2 : tie.Need-returns-2
-unfolding nextBy frameOf configOf placesOf idleThread waited beginWait placeOf threads
+unfolding nextBy frameOf configOf placesOf idleThread waited
 returns-2 c m told =
     let s = c .before .before .before .before .before in
     let run = s .args .run in
-    let after : Run = record { state = run .state; threads = c .put .result; notified = run .notified } in
+    let after : Run = record { state = run .state; threads = c .begin-wait .result; notified = run .notified } in
     let waits = sym (c .before .before .is-waiting .ensures) ∙ c .before .if1 .left in
     subst (λ (w : Bool). Shows after (next s m told w)) (sym waits)
     (record {
       state = refl;
-      threads = record { same-place = λ u h. c .put .ensures u h };
+      threads = c .begin-wait .ensures (s .pre);
       notices = λ u h. refl;
     })
 

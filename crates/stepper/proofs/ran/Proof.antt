@@ -1,12 +1,12 @@
 -- `stepper::ran` meets its contract: the look-ups and the calls are the parts of the point after a body.
 use Prim.Native.Nat.{ℕ, _<_}
-use mathlib.Core.Path.{_≡_, refl, sym, ap, ap₂, _∙_}
+use mathlib.Core.Path.{_≡_, refl, sym, ap, ap₂, _∙_, subst}
 use mathlib.Core.Bool.{Bool, _||_}
 use mathlib.Core.Logic.{⊎-elim}
 use borrow.Author.Needs.{needs}
 use Rattle.sets.specs.Set.{member}
-use Rattle.machine.specs.Monitor.{Place, Threads, SameThreads, threads}
-use Rattle.machine.specs.Decide.Step.{ran, leave, put, plainTold, without}
+use Rattle.machine.specs.Monitor.{Place, Threads, SameThreads}
+use Rattle.machine.specs.Decide.Step.{ran, leave, plainTold, without}
 use Rattle.stepper.specs.Shown.{threadsOf, frameOf}
 use Rattle.stepper.specs.Slices.{afterAt, followsAt, toldAt, configOf}
 use Rattle.stepper.proofs.Agree.{told-alike}
@@ -14,21 +14,19 @@ use Rattle.stepper.proofs.ran.Statement.{statement}
 use Rattle.stepper.proofs.ran.Tie as tie
 
 returns : tie.Need-returns
-unfolding ran leave without afterAt configOf frameOf threads toldAt plainTold
+unfolding ran without afterAt configOf frameOf toldAt plainTold
 returns c =
     let a = c .before .before .before .before .before .before .before .before .args in
     let d = c .before .before .before .before .before in
+    let thread = d .before .before .before .pre in
     let before : Threads = threadsOf (a .run .threads) in
     let after : Threads = leave before (a .frame .thread) (followsAt (a .goes-on .now) (a .frame .region)) in
     let to = afterAt (a .after .now) (a .frame .region) (a .run .state) in
-    let left : SameThreads (threadsOf (d .put .result)) after =
-    record {
-      same-place = λ u h.
-          d .put .ensures u h
-          ∙ ap (λ (q : Place). put (before .place) (a .frame .thread) q u) (d .before .behind .ensures);
-    } in
+    let left : SameThreads (threadsOf (d .leave .result)) after =
+    subst (λ (q : Place). SameThreads (threadsOf (d .leave .result)) (leave before (a .frame .thread) q))
+    (d .before .behind .ensures) (d .leave .ensures thread) in
     let telling : Bool → ℕ → Bool = λ b u.
-    toldAt (a .holds .now) (a .guard-of .now) (a .entries .now) b to (threadsOf (d .put .result))
+    toldAt (a .holds .now) (a .guard-of .now) (a .entries .now) b to (threadsOf (d .leave .result))
     (a .frame .region) u in
     let told : (u : ℕ) → u < 16 → member (c .before .before .if1 .told) u ≡ telling (a .table) u =
     λ u h. ⊎-elim
@@ -43,7 +41,7 @@ returns c =
           ∙ ap₂ (λ (x y : Bool). x || y) (c .before .without .ensures u)
           (told u h
           ∙ told-alike (a .holds .now) (a .guard-of .now) (a .entries .now) (a .table) to
-          (threadsOf (d .put .result)) after left (a .frame .region) u h);
+          (threadsOf (d .leave .result)) after left (a .frame .region) u h);
     }
 
 pub ran-spec : {M : Type 1} → statement M
