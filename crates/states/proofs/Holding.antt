@@ -2,7 +2,7 @@
 use Prim.Native.Nat.{ℕ, _+_, _≤_, _<_}
 use native.Mathlib.Omega.{arith}
 use mathlib.Core.Path.{_≡_, sym, ap, _∙_}
-use mathlib.Core.Bool.{true, false, not, _&&_}
+use mathlib.Core.Bool.{Bool, true, false, not, _&&_}
 use mathlib.Core.List.{List, [], _∷_, _++_}
 use lib.ListN.{length, length-append}
 use lib.Dec.{ltb}
@@ -13,8 +13,9 @@ use Rattle.syntax.proofs.Grammar.{one-cond}
 use Rattle.logic.specs.Tests.{bit}
 use Rattle.machine.specs.Held.{Held}
 use Rattle.machine.specs.Decide.Table.{runs}
-use Rattle.meaning.specs.Value.{truth, runBlock}
+use Rattle.meaning.specs.Value.{truth, outcome}
 use Rattle.meaning.specs.State.{count, stateAt}
+use Rattle.meaning.specs.Kept.{keptAt}
 use Rattle.meaning.specs.Model.{vars, regions, guards, guardsOf, placeIn, guardOf, kept, holds, after, model}
 use Rattle.meaning.proofs.ModelLaws.{guard-below, kept-below, keeps}
 use Rattle.meaning.specs.Decide.Check.{keptAfter, breaks}
@@ -37,12 +38,12 @@ guards-of-few found (r ∷ rs) =
     rw e (omega arith))
 
 -- a region breaks where kept condition and guard hold and the body does not keep
-pub breaks-parts : (vs : List Var) (keep : Cond) (q : Region) (as′ : List ℤ) → breaks vs keep q as′ ≡ true
-    → (truth keep vs as′ ≡ true) × (truth (q .guard) vs as′ ≡ true) × (keptAfter vs keep (runBlock (q .body) vs as′) ≡ false)
+pub breaks-parts : (vs : List Var) (keep : List ℤ → Bool) (q : Region) (as′ : List ℤ) → breaks vs keep q as′ ≡ true
+    → (keep as′ ≡ true) × (truth (q .guard) vs as′ ≡ true) × (keptAfter keep (outcome q vs as′) ≡ false)
 unfolding breaks
 breaks-parts vs keep q as′ h =
-    let t = both (truth keep vs as′ && truth (q .guard) vs as′) (not (keptAfter vs keep (runBlock (q .body) vs as′))) h in
-    let u = both (truth keep vs as′) (truth (q .guard) vs as′) (t .0) in
+    let t = both (keep as′ && truth (q .guard) vs as′) (not (keptAfter keep (outcome q vs as′))) h in
+    let u = both (keep as′) (truth (q .guard) vs as′) (t .0) in
     (u .0, u .1, not-true (t .1))
 
 module _ (m : Monitor) where
@@ -50,22 +51,22 @@ module _ (m : Monitor) where
   unfolding guards
   guards-few = omega (arith, guards-of-few [] (regions m))
 
-  pub kept-truth : (s : ℕ) → kept m s ≡ true → (s < count (vars m)) × (truth (m .keep) (vars m) (stateAt (vars m) s) ≡ true)
+  pub kept-truth : (s : ℕ) → kept m s ≡ true → (s < count (vars m)) × (keptAt m (stateAt (vars m) s) ≡ true)
   unfolding kept
   kept-truth s h =
-      let t = both (ltb s (count (vars m))) (truth (m .keep) (vars m) (stateAt (vars m) s)) h in
+      let t = both (ltb s (count (vars m))) (keptAt m (stateAt (vars m) s)) h in
       (ltb-true s (count (vars m)) (t .0), t .1)
 
-  kept-is : (s : ℕ) → s < count (vars m) → kept m s ≡ truth (m .keep) (vars m) (stateAt (vars m) s)
+  kept-is : (s : ℕ) → s < count (vars m) → kept m s ≡ keptAt m (stateAt (vars m) s)
   unfolding kept
   kept-is s h = rw (lt-ltb s (count (vars m)) h)
 
   -- the row of the kept condition is that of its truth
-  pub row-of-kept : (row : List ℕ) → KeptAll m row → TruthRow (vars m) (m .keep) row
+  pub row-of-kept : (row : List ℕ) → KeptAll m row → TruthRow (vars m) (keptAt m) row
   unfolding KeptAll TruthRow
   row-of-kept row k s h = k s h ∙ ap bit (kept-is s h)
 
-  pub kept-of-row : (row : List ℕ) → TruthRow (vars m) (m .keep) row → KeptAll m row
+  pub kept-of-row : (row : List ℕ) → TruthRow (vars m) (keptAt m) row → KeptAll m row
   unfolding KeptAll TruthRow
   kept-of-row row k s h = k s h ∙ ap bit (sym (kept-is s h))
 

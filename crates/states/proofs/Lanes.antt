@@ -13,7 +13,7 @@ use borrow.Author.Tests.{eqb-true, eqb-false, eq-eqb, ne-eqb, lt-ltb}
 use Rattle.sets.specs.Set.{member}
 use Rattle.syntax.specs.Tree.{Var, Cond, Region}
 use Rattle.logic.specs.Tests.{bit}
-use Rattle.meaning.specs.Value.{truth, runBlock}
+use Rattle.meaning.specs.Value.{truth, outcome}
 use Rattle.meaning.specs.State.{count, stateAt, numberOf}
 use Rattle.meaning.specs.Decide.Check.{keptAfter, breaks}
 use Rattle.meaning.specs.Model.{numberAfter}
@@ -21,7 +21,7 @@ use Rattle.meaning.specs.Accepted.{State}
 use Rattle.logic.proofs.Bools.{and, split, clash, true-not, is-false}
 use Rattle.meaning.specs.Held.{Biased}
 use Rattle.meaning.proofs.StateLaws.{state-at, number-below, state-at-number}
-use Rattle.meaning.proofs.BodyLaws.{block-runs-of-run, block-runs-state}
+use Rattle.meaning.proofs.BodyLaws.{runs-of-outcome, block-runs-state}
 use Rattle.evaluator.specs.Coding.{RunAs, lane}
 use Rattle.variables.specs.Bounded.{Bounded}
 use Rattle.variables.specs.declared.Bounds.{Bounds}
@@ -110,28 +110,28 @@ module _ {vs : List Var} {P : ℕ → ℕ → Type 0} (s : ℕ) where
 
 -- A body's run from one state
 
-pub fault : (vs : List Var) (keep : Cond) (ok : Bool) (values : List ℕ) (o : Option (List ℤ)) → RunAs vs ok values o → ok ≡ false
-    → keptAfter vs keep o ≡ false
+pub fault : (vs : List Var) (keep : List ℤ → Bool) (ok : Bool) (values : List ℕ) (o : Option (List ℤ)) → RunAs vs ok values o → ok ≡ false
+    → keptAfter keep o ≡ false
 unfolding RunAs keptAfter
 fault vs keep ok values none h e = refl
 fault vs keep ok values (some bs) h e = clash (h .0) e
 
 -- a run ends in a state with a number, at which the kept condition's truth is held
-pub record Reached (vs : List Var) (keep : Cond) (kept : List ℕ) (s : ℕ) (o : Option (List ℤ)) (to : ℕ) : Type 0 where
+pub record Reached (vs : List Var) (keep : List ℤ → Bool) (kept : List ℕ) (s : ℕ) (o : Option (List ℤ)) (to : ℕ) : Type 0 where
   pub below : to < count vs
   pub number : to ≡ numberAfter vs s o
-  pub held : getD kept to 0 ≡ bit (keptAfter vs keep o)
+  pub held : getD kept to 0 ≡ bit (keptAfter keep o)
 
-module _ {vs : List Var} {keep : Cond} {q : Region} {kinds values : List ℕ} {bounds : Bounds} {at guard : ℕ} {kept holds : List ℕ}
+module _ {vs : List Var} {keep : List ℤ → Bool} {q : Region} {kinds values : List ℕ} {bounds : Bounds} {at guard : ℕ} {kept holds : List ℕ}
     (b : Body vs keep q kinds values bounds at guard kept holds) (s : ℕ) (low : s < count vs) (ok : Bool) (ended : List ℕ) (to : ℕ)
     (number : (as′ : List ℤ) → Bounded vs bounds → Biased vs as′ ended → State vs as′ → to ≡ numberOf vs as′)
   where
-    reached-by : (o : Option (List ℤ)) → runBlock (q .body) vs (stateAt vs s) ≡ o → RunAs vs ok ended o → ok ≡ true
+    reached-by : (o : Option (List ℤ)) → outcome q vs (stateAt vs s) ≡ o → RunAs vs ok ended o → ok ≡ true
         → Reached vs keep kept s o to
     unfolding RunAs keptAfter numberAfter TruthRow
     reached-by none e h t = clash t h
     reached-by (some bs) e h t =
-        let st : State vs bs = block-runs-state (block-runs-of-run (q .body) (stateAt vs s) e) (state-at (b .bounded .good) s low) in
+        let st : State vs bs = block-runs-state (runs-of-outcome q (stateAt vs s) e) (state-at (b .bounded .good) s low) in
         let n = number bs (b .bounded) (h .1) st in
         let few : to < count vs = rw n (number-below (b .bounded .good) st) in
         record {
@@ -139,34 +139,34 @@ module _ {vs : List Var} {keep : Cond} {q : Region} {kinds values : List ℕ} {b
           number = n;
           held =
               b .by-kept to few
-              ∙ ap (λ as′. bit (truth keep vs as′)) (ap (stateAt vs) n ∙ state-at-number (b .bounded .good) st);
+              ∙ ap (λ as′. bit (keep as′)) (ap (stateAt vs) n ∙ state-at-number (b .bounded .good) st);
         }
 
-    pub reached : RunAs vs ok ended (runBlock (q .body) vs (stateAt vs s)) → ok ≡ true
-        → Reached vs keep kept s (runBlock (q .body) vs (stateAt vs s)) to
-    reached h t = reached-by (runBlock (q .body) vs (stateAt vs s)) refl h t
+    pub reached : RunAs vs ok ended (outcome q vs (stateAt vs s)) → ok ≡ true
+        → Reached vs keep kept s (outcome q vs (stateAt vs s)) to
+    reached h t = reached-by (outcome q vs (stateAt vs s)) refl h t
 
-pub ended-fault : {vs : List Var} {keep : Cond} {s : ℕ} {o : Option (List ℤ)} → keptAfter vs keep o ≡ false → Ended vs keep s o 4096
+pub ended-fault : {vs : List Var} {keep : List ℤ → Bool} {s : ℕ} {o : Option (List ℤ)} → keptAfter keep o ≡ false → Ended vs keep s o 4096
 ended-fault f = record { keeps = λ h. absurd (omega arith); number = λ h. absurd (omega arith); faults = λ _. f }
 
-pub ended-kept : {vs : List Var} {keep : Cond} {kept : List ℕ} {s : ℕ} {o : Option (List ℤ)} {to : ℕ} → Reached vs keep kept s o to
+pub ended-kept : {vs : List Var} {keep : List ℤ → Bool} {kept : List ℕ} {s : ℕ} {o : Option (List ℤ)} {to : ℕ} → Reached vs keep kept s o to
     → to < 4096 → getD kept to 0 ≡ 1 → Ended vs keep s o to
 ended-kept {vs} {keep} {o = o} r low e =
     record {
-      keeps = λ _. bit-one (keptAfter vs keep o) (sym (r .held) ∙ e);
+      keeps = λ _. bit-one (keptAfter keep o) (sym (r .held) ∙ e);
       number = λ _. r .number;
       faults = λ h. absurd (omega arith);
     }
 
 -- A region's row of states
 
-breaks-true : (vs : List Var) (keep : Cond) (q : Region) (as′ : List ℤ) → truth keep vs as′ ≡ true → truth (q .guard) vs as′ ≡ true
-    → keptAfter vs keep (runBlock (q .body) vs as′) ≡ false → breaks vs keep q as′ ≡ true
+breaks-true : (vs : List Var) (keep : List ℤ → Bool) (q : Region) (as′ : List ℤ) → keep as′ ≡ true → truth (q .guard) vs as′ ≡ true
+    → keptAfter keep (outcome q vs as′) ≡ false → breaks vs keep q as′ ≡ true
 unfolding breaks
 breaks-true vs keep q as′ k g f = and (and k g) (true-not f)
 
-module _ {vs : List Var} {keep : Cond} {q : Region} where
-  pub stays : (s : ℕ) → (truth keep vs (stateAt vs s) ≡ true → truth (q .guard) vs (stateAt vs s) ≡ true → ⊥) → Moved vs keep q s 0
+module _ {vs : List Var} {keep : List ℤ → Bool} {q : Region} where
+  pub stays : (s : ℕ) → (keep (stateAt vs s) ≡ true → truth (q .guard) vs (stateAt vs s) ≡ true → ⊥) → Moved vs keep q s 0
   stays s n =
       record {
         quiet = λ _. is-false (λ h. let t = breaks-parts vs keep q (stateAt vs s) h in n (t .0) (t .1));
@@ -174,8 +174,8 @@ module _ {vs : List Var} {keep : Cond} {q : Region} where
         broken = λ h. absurd (omega arith);
       }
 
-  pub runs-on : {s to : ℕ} → truth keep vs (stateAt vs s) ≡ true → truth (q .guard) vs (stateAt vs s) ≡ true
-      → Ended vs keep s (runBlock (q .body) vs (stateAt vs s)) to → Moved vs keep q s to
+  pub runs-on : {s to : ℕ} → keep (stateAt vs s) ≡ true → truth (q .guard) vs (stateAt vs s) ≡ true
+      → Ended vs keep s (outcome q vs (stateAt vs s)) to → Moved vs keep q s to
   runs-on {s} k g e =
       record {
         quiet = λ h. is-false (λ t. clash (e .keeps h) (breaks-parts vs keep q (stateAt vs s) t .2));
@@ -193,8 +193,8 @@ module _ {vs : List Var} {keep : Cond} {q : Region} where
         quiet = passed (λ k. breaks vs keep q (stateAt vs k) ≡ false) n (b .quiet) (t .quiet small);
         number =
             stored
-            (λ k x. truth keep vs (stateAt vs k) ≡ true → truth (q .guard) vs (stateAt vs k) ≡ true
-            → x ≡ numberAfter vs k (runBlock (q .body) vs (stateAt vs k)))
+            (λ k x. keep (stateAt vs k) ≡ true → truth (q .guard) vs (stateAt vs k) ≡ true
+            → x ≡ numberAfter vs k (outcome q vs (stateAt vs k)))
             xs n to h (b .number) (t .number small);
       }
 

@@ -14,6 +14,7 @@ use Rattle.syntax.proofs.Grammar.{one-cond}
 use Rattle.machine.specs.Decide.Table.{runs}
 use Rattle.meaning.specs.Value.{truth}
 use Rattle.meaning.specs.State.{count, stateAt}
+use Rattle.meaning.specs.Kept.{keptAt}
 use Rattle.meaning.specs.Decide.Check.{breaks, broken}
 use Rattle.meaning.specs.Model.{vars, regions, region, guardOf, kept, holds, after, model}
 use Rattle.meaning.proofs.ModelLaws.{region-numbered, guard-below, holds-guard}
@@ -106,7 +107,7 @@ module _ {m : Monitor} {kinds values : List ℕ} {bounds : Bounds} {ats numbers 
         ap (member (getD holds′ s 0)) (f .by-number r h) ∙ f .by-holds (guardOf m r) s (guard-below m r h) below ∙ holds-guard m one-cond r s
 
     pub body-of : (at : ℕ) → at ≡ getD ats r 0
-        → Body (vars m) (m .keep) (region m r) kinds values bounds at (getD numbers r 0) kept′ holds′
+        → Body (vars m) (keptAt m) (region m r) kinds values bounds at (getD numbers r 0) kept′ holds′
     unfolding BodiesAt
     body-of at p =
         let t = f .bodies r (omega (arith, f .counted)) in
@@ -132,16 +133,16 @@ numbered-below (x ∷ xs) (suc i) a e = let h = numbered-below xs i a e in omega
 module _ (m : Monitor) (rows : List ℕ) where
   -- region j breaks nowhere, and its row is done
   abbrev pub Done : ℕ → Type 0
-  Done j = Below (vars m) (m .keep) (region m j) (count (vars m)) (λ s. getD rows (j * 4096 + s) 0)
+  Done j = Below (vars m) (keptAt m) (region m j) (count (vars m)) (λ s. getD rows (j * 4096 + s) 0)
 
   -- the region with a number is the one that the number finds
   quiet-at : (j : ℕ) (q : Region) → getElem? (regions m) j ≡ some q → Done j → (s : ℕ) → s < count (vars m)
-      → breaks (vars m) (m .keep) q (stateAt (vars m) s) ≡ false
+      → breaks (vars m) (keptAt m) q (stateAt (vars m) s) ≡ false
   unfolding IsRegion regions
   quiet-at j q e d s h =
       let same : region m j ≡ q =
       Option·some-injective _ _ (sym (region-numbered m j (numbered-below (regions m) j q e)) ∙ e) in
-      subst (λ (u : Region). breaks (vars m) (m .keep) u (stateAt (vars m) s) ≡ false) same (d .quiet s h)
+      subst (λ (u : Region). breaks (vars m) (keptAt m) u (stateAt (vars m) s) ≡ false) same (d .quiet s h)
 
   after-all : ((j : ℕ) → j < length (regions m) → Done j) → AfterAll m rows
   unfolding AfterAll runs model after
@@ -150,17 +151,17 @@ module _ (m : Monitor) (rows : List ℕ) where
       let k = kept-truth m s (u .0) in
       d r h .number s (k .0) (k .1) (sym (holds-guard m one-cond r s) ∙ u .1)
 
-  pub never : ((j : ℕ) → j < length (regions m) → Done j) → AfterAs m Never (broken (vars m) (m .keep) 0 (regions m)) rows
-  unfolding AfterAs
+  pub never : ((j : ℕ) → j < length (regions m) → Done j) → AfterAs m Never (broken m) rows
+  unfolding AfterAs regions broken
   never d =
-      let e = broken-none-iff (vars m) (m .keep) (regions m) .1 (λ j q e. quiet-at j q e (d j (numbered-below (regions m) j q e))) in
+      let e = broken-none-iff (vars m) (keptAt m) (regions m) .1 (λ j q e. quiet-at j q e (d j (numbered-below (regions m) j q e))) in
       rw e (refl, after-all d)
 
-  pub stops : (r s : ℕ) (f : ℕ → ℕ) → r < length (regions m) → s < 4096 → RowDone (vars m) (m .keep) (region m r) f s
-      → ((j : ℕ) → j < r → Done j) → AfterAs m (At r s) (broken (vars m) (m .keep) 0 (regions m)) rows
-  unfolding AfterAs IsRegion regions
+  pub stops : (r s : ℕ) (f : ℕ → ℕ) → r < length (regions m) → s < 4096 → RowDone (vars m) (keptAt m) (region m r) f s
+      → ((j : ℕ) → j < r → Done j) → AfterAs m (At r s) (broken m) rows
+  unfolding AfterAs IsRegion regions broken
   stops r s f h low t d =
-      let e = broken-some-iff (vars m) (m .keep) (regions m) r s .1 (
+      let e = broken-some-iff (vars m) (keptAt m) (regions m) r s .1 (
         region m r,
         region-numbered m r h,
         (t .below low, t .first low, t .lower low),

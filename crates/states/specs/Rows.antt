@@ -1,25 +1,25 @@
 -- What the slices hold once the states have been gone through.
 use Prim.Native.Nat.{ℕ, _+_, _*_, _<_}
 use mathlib.Core.Path.{_≡_}
-use mathlib.Core.Bool.{true}
+use mathlib.Core.Bool.{Bool, true}
 use mathlib.Core.List.{List, _∷_, _++_}
 use mathlib.Core.Option.{Option, none, some}
 use lib.ListN.{length, getD, drop}
+use lib.IntN.{ℤ}
 use Rattle.sets.specs.Set.{member}
 use Rattle.syntax.specs.Token.{Lexeme, mark, rbrace}
-use Rattle.syntax.specs.Tree.{Var, Cond, Monitor, spellCond, spellBlock}
+use Rattle.syntax.specs.Tree.{Var, Monitor, spellCond, spellBlock}
 use Rattle.logic.specs.Tests.{bit}
 use Rattle.machine.specs.Decide.Table.{runs}
-use Rattle.meaning.specs.Value.{truth}
 use Rattle.meaning.specs.State.{count, stateAt}
 use Rattle.meaning.specs.Model.{vars, regions, guards, region, guardOf, noGuard, kept, holds, after, model}
 use Rattle.evaluator.specs.Coding.{EndsCond}
 use Rattle.states.specs.declared.Broken.{Broken}
 use Rattle.states.specs.declared.Broken.the-variants.{Never, At}
 
--- a condition's truth at every state
-unfoldable pub TruthRow : List Var → Cond → List ℕ → Type 0
-TruthRow vs c row = (s : ℕ) → s < count vs → getD row s 0 ≡ bit (truth c vs (stateAt vs s))
+-- the truth at every state of a test of its values
+unfoldable pub TruthRow : List Var → (List ℤ → Bool) → List ℕ → Type 0
+TruthRow vs p row = (s : ℕ) → s < count vs → getD row s 0 ≡ bit (p (stateAt vs s))
 
 -- each guard, and each region's body, begins at these tokens
 unfoldable pub GuardsAt : Monitor → List Lexeme → List ℕ → Type 0

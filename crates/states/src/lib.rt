@@ -2,6 +2,7 @@
 // at every state, and the state after each region's body; refusal 9 on the way.
 use variables::Bounds;
 ghost use mathlib.Core.Path.{_≡_};
+ghost use mathlib.Core.Bool.{Bool};
 ghost use mathlib.Core.List.{List, _++_};
 ghost use Prim.Native.Nat.{ℕ, _+_, _%_, _<_, _≤_};
 ghost use lib.ListN.{drop, length, getD};
@@ -12,7 +13,7 @@ ghost use Rattle.syntax.specs.Tree.{Monitor, Var, Cond, Region, spellCond};
 ghost use Rattle.logic.specs.Tests.{bit};
 ghost use Rattle.meaning.specs.State.{count, stateAt};
 ghost use Rattle.meaning.specs.Model.{vars, regions, guards};
-ghost use Rattle.meaning.specs.Value.{truth, runBlock};
+ghost use Rattle.meaning.specs.Value.{truth, outcome};
 ghost use Rattle.meaning.specs.Held.{Biased};
 ghost use Rattle.meaning.specs.Decide.Check.{broken};
 ghost use Rattle.evaluator.specs.Coding.{Codes, EndsCond, RunAs, lane};
@@ -83,7 +84,7 @@ fn bit_of(b: bool) -> u8
 // The truth of the condition that begins at a token, 1 or 0, at every state.
 pub fn fill_row(kinds: &[u8], values: &[u16], bounds: Bounds, at: usize, row: &mut [u8])
     ensures { λ _. ⌜ ((vs : List Var) (c : Cond) → Condition vs c (now (kinds .entry)) (now (values .entry)) bounds at
-        → 4096 ≤ length (now (row .entry)) → TruthRow vs c (now (row .exit))) ⌝ }
+        → 4096 ≤ length (now (row .entry)) → TruthRow vs (truth c vs) (now (row .exit))) ⌝ }
 {
     let states = bounds.states;
     if 4096 < states {
@@ -194,10 +195,10 @@ fn lane_of(lanes: &[u16; 96], j: usize) -> [u16; 6]
 // The number of the state after a body that was run in lane j; 4096 where it leaves a range or ends with the kept condition false.
 fn state_after(bounds: Bounds, ok: u16, ended: &[u16; 96], j: usize, kept: &[u8]) -> u16
     requires { ⌜ j < 16 ⌝ }
-    ensures { λ r. ⌜ ((vs : List Var) (keep : Cond) (q : Region) (kinds values holds : List ℕ) (at guard s : ℕ)
+    ensures { λ r. ⌜ ((vs : List Var) (keep : List ℤ → Bool) (q : Region) (kinds values holds : List ℕ) (at guard s : ℕ)
         → Body vs keep q kinds values bounds at guard (now (kept .entry)) holds → s < count vs
-        → RunAs vs (member ok j) (lane (now (ended .entry)) j) (runBlock (q .body) vs (stateAt vs s))
-        → Ended vs keep s (runBlock (q .body) vs (stateAt vs s)) r) ⌝ }
+        → RunAs vs (member ok j) (lane (now (ended .entry)) j) (outcome q vs (stateAt vs s))
+        → Ended vs keep s (outcome q vs (stateAt vs s)) r) ⌝ }
 {
     if !sets::has(ok, j as u32) {
         return 4096;
@@ -228,9 +229,9 @@ fn moved(
     s: usize,
 ) -> u16
     requires { ⌜ (j < 16) × (s < length (now kept)) × (s < length (now holds)) ⌝ }
-    ensures { λ r. ⌜ ((vs : List Var) (keep : Cond) (q : Region) (kinds values : List ℕ) (at : ℕ)
+    ensures { λ r. ⌜ ((vs : List Var) (keep : List ℤ → Bool) (q : Region) (kinds values : List ℕ) (at : ℕ)
         → Body vs keep q kinds values bounds at guard (now (kept .entry)) (now (holds .entry)) → s < count vs
-        → RunAs vs (member ok j) (lane (now (ended .entry)) j) (runBlock (q .body) vs (stateAt vs s))
+        → RunAs vs (member ok j) (lane (now (ended .entry)) j) (outcome q vs (stateAt vs s))
         → Moved vs keep q s r) ⌝ }
 {
     if kept[s] != 1 {
@@ -256,7 +257,7 @@ fn moves_from(
 )
     requires { ⌜ (from ≤ 4080) × (from % 16 ≡ 0) × (length (now moves) ≡ 16) ⌝ }
     requires { ⌜ (bounds .states ≤ length (now kept)) × (bounds .states ≤ length (now holds)) ⌝ }
-    ensures { λ _. ⌜ ((vs : List Var) (keep : Cond) (q : Region)
+    ensures { λ _. ⌜ ((vs : List Var) (keep : List ℤ → Bool) (q : Region)
         → Body vs keep q (now (kinds .entry)) (now (values .entry)) bounds at guard (now (kept .entry)) (now (holds .entry))
         → Sixteen vs (Moves vs keep q (now (moves .exit))) from) ⌝ }
 {
@@ -292,7 +293,7 @@ fn after_row(
 ) -> usize
     requires { ⌜ (bounds .states ≤ 4096) ⌝ }
     requires { ⌜ (4096 ≤ length (now kept)) × (4096 ≤ length (now holds)) × (4096 ≤ length (now after)) ⌝ }
-    ensures { λ r. ⌜ ((vs : List Var) (keep : Cond) (q : Region)
+    ensures { λ r. ⌜ ((vs : List Var) (keep : List ℤ → Bool) (q : Region)
         → Body vs keep q (now (kinds .entry)) (now (values .entry)) bounds at guard (now (kept .entry)) (now (holds .entry))
         → RowDone vs keep q (λ k. getD (now (after .exit)) k 0) r) ⌝ }
 {
@@ -330,7 +331,7 @@ pub fn fill_after(
         → count ≡ length (regions m) → count ≤ 16 → BodiesAt m ls ats → GuardNumbers m «guard_of»
         → 4096 ≤ length (now (kept .entry)) → 4096 ≤ length (now (holds .entry)) → 65536 ≤ length (now (after .entry))
         → KeptAll m (now (kept .entry)) → HoldsAll m (now (holds .entry))
-        → AfterAs m r (broken (vars m) (m .keep) 0 (regions m)) (now (after .exit))) ⌝ }
+        → AfterAs m r (broken m) (now (after .exit))) ⌝ }
 {
     if kept.len() < 4096 {
         return Broken::Never;

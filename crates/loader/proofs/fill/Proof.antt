@@ -1,7 +1,7 @@
 -- `loader::fill` meets its contract: 8 by the kept condition's truth at the start, 9 by what `fill_after` answers, and the slices as the tables leave them.
 use Prim.Native.Nat.{_≤_}
 use native.Mathlib.Omega.{arith}
-use mathlib.Core.Path.{_≡_}
+use mathlib.Core.Path.{_≡_, _∙_}
 use mathlib.Core.List.{List}
 use lib.ListN.{length}
 use denote.Ref.{now}
@@ -9,14 +9,13 @@ use borrow.Author.Needs.{needs}
 use Rattle.syntax.specs.Token.{Lexeme}
 use Rattle.syntax.specs.Tree.{Monitor}
 use Rattle.logic.proofs.Bools.{not-true}
-use Rattle.meaning.specs.Value.{truth}
 use Rattle.meaning.specs.State.{starts}
+use Rattle.meaning.specs.Kept.{keptAt}
 use Rattle.meaning.specs.Decide.Check.{broken}
 use Rattle.meaning.specs.Model.{vars, regions}
 use Rattle.states.specs.Rows.{KeptAll, HoldsAll, AfterAs}
-use Rattle.states.proofs.Holding.{kept-of-row}
 use Rattle.loader.specs.Filling.{Filling}
-use Rattle.loader.proofs.Fills.{keeping, guarding, bodies-of, numbers-of, failed, filled-8, filled-9, filled-0}
+use Rattle.loader.proofs.Fills.{keeping, keep-is-kept, kept-row, guarding, bodies-of, numbers-of, failed, filled-8, filled-9, filled-0}
 use Rattle.loader.proofs.fill.Statement.{statement}
 use Rattle.loader.proofs.fill.Tie as tie
 
@@ -27,11 +26,12 @@ Given c m ls =
     Filling m ls (now (a .kinds)) (now (a .values)) (a .bounds) (a .layout)
 
 holds-at-start : (c : tie.After-holds-at) {m : Monitor} {ls : List Lexeme} → Given c m ls
-    → c .holds-at .result ≡ truth (m .keep) (vars m) (starts (vars m))
+    → c .holds-at .result ≡ keptAt m (starts (vars m))
 holds-at-start c {m} {ls} f =
     let k = keeping f in
-    c .holds-at .ensures (vars m) (starts (vars m)) (k .ls) (k .us) (m .keep) (k .codes) (k .bounded .start-values) (k .spelled) (k .ends)
-    (omega (arith, k .few))
+    c .holds-at .ensures (vars m) (starts (vars m)) (k .ls) (k .us) _ (k .codes) (k .bounded .start-values) (k .spelled)
+    (k .ends) (omega (arith, k .few))
+    ∙ keep-is-kept m (starts (vars m))
 
 -- where the slices have been filled
 abbrev At : Type 0
@@ -53,12 +53,12 @@ module _ (c : At) {m : Monitor} {ls : List Lexeme} (f : Given (start-of c) m ls)
     (l₂ : 4096 ≤ length (now (entry-of c .args .holds))) (l₃ : 65536 ≤ length (now (entry-of c .args .after))) where
   by-kept : KeptAll m (row-of c .fill-row .last .1 .1 .1 .1 .0)
   by-kept =
-      kept-of-row m (row-of c .fill-row .last .1 .1 .1 .1 .0) (row-of c .fill-row .ensures (vars m) (m .keep) (keeping f) l₁)
+      kept-row m (row-of c .fill-row .last .1 .1 .1 .1 .0) (row-of c .fill-row .ensures (vars m) _ (keeping f) l₁)
 
   by-holds : HoldsAll m (holds-of c .fill-holds .last .1 .1 .1 .1 .1 .0)
   by-holds = holds-of c .fill-holds .ensures m (guarding f _ (holds-of c .before .before .guards-at .ensures)) l₂
 
-  by-after : AfterAs m (c .before .before .fill-after .result) (broken (vars m) (m .keep) 0 (regions m))
+  by-after : AfterAs m (c .before .before .fill-after .result) (broken m)
       (c .before .before .fill-after .last .1 .1 .1 .1 .1 .1 .1 .1 .0)
   by-after =
       c .before .before .fill-after .ensures m ls (f .codes) (f .bounded) (f .few) (f .laid .region-count)

@@ -3,11 +3,13 @@
 use Prim.Native.Nat.{_-_, _*_, _/_, _≤_, _<_}
 use native.Mathlib.Omega.{arith}
 use mathlib.Core.Path.{_≡_, refl, _∙_}
+use mathlib.Core.Bool.{Bool}
 use mathlib.Core.List.{List}
 use mathlib.Core.Logic.{⊎-elim}
 use lib.ListN.{length, getD, length-set}
 use denote.Ref.{now}
-use Rattle.syntax.specs.Tree.{Var, Cond, Region}
+use lib.IntN.{ℤ}
+use Rattle.syntax.specs.Tree.{Var, Region}
 use Rattle.meaning.specs.State.{count}
 use Rattle.states.specs.Promises.{Sixteen, Body, Moves, Below}
 use Rattle.states.proofs.Lanes.{Known, known-first, known-at, known-next, below-none, below-more, row-whole, row-first}
@@ -17,7 +19,7 @@ use Rattle.states.proofs.after_row.Tie as tie
 abbrev Inv-loop : tie.InvT-loop
 Inv-loop kinds values bounds at guard kept holds after₀ states moves₀ s₀ after moves s =
     (s ≤ states) × (length after ≡ length after₀) × (length moves ≡ 16)
-    × ((vs : List Var) (keep : Cond) (q : Region) → Body vs keep q kinds values bounds at guard kept holds
+    × ((vs : List Var) (keep : List ℤ → Bool) (q : Region) → Body vs keep q kinds values bounds at guard kept holds
     → Below vs keep q s (λ k. getD after k 0) × Known vs (Moves vs keep q moves) s)
 
 abbrev μ-loop : tie.MeasureT-loop
@@ -35,7 +37,7 @@ known-long c =
 known-now : (c : tie.Joined1 Inv-loop μ-loop) →
     let i = c .before .before .loop in
     let a = c .before .before .before .before .before .before .before .before .args in
-    (vs : List Var) (keep : Cond) (q : Region)
+    (vs : List Var) (keep : List ℤ → Bool) (q : Region)
     → Body vs keep q (now (a .kinds)) (now (a .values)) (a .bounds) (a .at) (a .guard) (now (a .kept)) (now (a .holds))
     → Sixteen vs (Moves vs keep q (c .if1 .moves)) (i .s / 16 * 16)
 known-now c vs keep q b =

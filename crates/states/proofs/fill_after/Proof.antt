@@ -6,6 +6,7 @@ use mathlib.Core.List.{List}
 use lib.ListN.{length, getD}
 use denote.Ref.{now}
 use Rattle.syntax.specs.Tree.{Monitor}
+use Rattle.meaning.specs.Kept.{keptAt}
 use Rattle.meaning.specs.Model.{vars, region}
 use Rattle.states.specs.Promises.{RowDone}
 use Rattle.states.proofs.Lanes.{passed, below-same}
@@ -61,10 +62,10 @@ new-long : (c : At) → length (new c) ≡ length (xs c)
 new-long c = back-length (xs c) (ys c) (R c) (size c) (is-size c) (room c) (whole c)
 
 row-done : (c : At) (m : Monitor) → Fill (loop-of c) m
-    → RowDone (vars m) (m .keep) (region m (R c)) (λ k. getD (ys c) k 0) (c .before .before .after-row .result)
+    → RowDone (vars m) (keptAt m) (region m (R c)) (λ k. getD (ys c) k 0) (c .before .before .after-row .result)
 row-done c m f =
     let at = c .before .before .before .before .wide in
-    c .before .before .after-row .ensures (vars m) (m .keep) (region m (R c)) (body-of f (R c) (omega arith) (at .result) (at .ensures))
+    c .before .before .after-row .ensures (vars m) (keptAt m) (region m (R c)) (body-of f (R c) (omega arith) (at .result) (at .ensures))
 
 -- the rows before it are as they were
 still : (c : At) (m : Monitor) → Fill (loop-of c) m → (j : ℕ) → j < R c → Done m (new c) j

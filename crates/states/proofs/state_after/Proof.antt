@@ -2,13 +2,15 @@
 use Prim.Native.Nat.{ℕ, _<_}
 use native.Mathlib.Omega.{arith}
 use mathlib.Core.Path.{sym, _∙_}
+use mathlib.Core.Bool.{Bool}
 use mathlib.Core.List.{List}
 use denote.Ref.{now}
 use borrow.Author.Needs.{needs}
 use borrow.Author.Tests.{not-false}
 use Rattle.sets.specs.Set.{member}
-use Rattle.syntax.specs.Tree.{Var, Cond, Region}
-use Rattle.meaning.specs.Value.{runBlock}
+use lib.IntN.{ℤ}
+use Rattle.syntax.specs.Tree.{Var, Region}
+use Rattle.meaning.specs.Value.{outcome}
 use Rattle.meaning.specs.State.{count, stateAt}
 use Rattle.meaning.specs.Decide.Check.{keptAfter}
 use Rattle.logic.proofs.Bools.{not-true}
@@ -19,11 +21,11 @@ use Rattle.states.proofs.state_after.Statement.{statement}
 use Rattle.states.proofs.state_after.Tie as tie
 
 -- the number that a run ends in
-at-number : (c : tie.After-number-of) {vs : List Var} {keep : Cond} {q : Region} {kinds values holds : List ℕ} {at guard : ℕ} (s : ℕ)
+at-number : (c : tie.After-number-of) {vs : List Var} {keep : List ℤ → Bool} {q : Region} {kinds values holds : List ℕ} {at guard : ℕ} (s : ℕ)
     → let a = c .before .before .before .before .before .args in
     Body vs keep q kinds values (a .bounds) at guard (now (a .kept)) holds → s < count vs
-    → RunAs vs (member (a .ok) (a .j)) (lane (now (a .ended)) (a .j)) (runBlock (q .body) vs (stateAt vs s))
-    → Reached vs keep (now (a .kept)) s (runBlock (q .body) vs (stateAt vs s)) (c .number-of .result)
+    → RunAs vs (member (a .ok) (a .j)) (lane (now (a .ended)) (a .j)) (outcome q vs (stateAt vs s))
+    → Reached vs keep (now (a .kept)) s (outcome q vs (stateAt vs s)) (c .number-of .result)
 at-number c {vs} s b low run =
     let g = c .before in
     let has = g .before .before .has in
@@ -32,7 +34,7 @@ at-number c {vs} s b low run =
 
 returns : tie.Need-returns
 returns c vs keep q kinds values holds at guard s b low run =
-    ended-fault (fault vs keep _ _ (runBlock (q .body) vs (stateAt vs s)) run (sym (c .before .has .ensures) ∙ not-true (c .if1 .taken)))
+    ended-fault (fault vs keep _ _ (outcome q vs (stateAt vs s)) run (sym (c .before .has .ensures) ∙ not-true (c .if1 .taken)))
 
 returns-2 : tie.Need-returns-2
 returns-2 c vs keep q kinds values holds at guard s b low run =
@@ -45,7 +47,7 @@ returns-3 c vs keep q kinds values holds at guard s b low run =
 returns-4 : tie.Need-returns-4
 returns-4 c vs keep q kinds values holds at guard s b low run =
     let r = at-number (c .before .before .before .before) s b low run in
-    ended-fault (bit-other (keptAfter vs keep _) (λ e. c .if4 .taken (r .held ∙ e)))
+    ended-fault (bit-other (keptAfter keep _) (λ e. c .if4 .taken (r .held ∙ e)))
 
 returns-5 : tie.Need-returns-5
 returns-5 c vs keep q kinds values holds at guard s b low run =
