@@ -62,8 +62,10 @@ recordOf m c =
       howMany = ones (eachThread threads 0 (c .notified));
     }
 
+-- what a run gives: its record, the file's refusal, or a refusal of the start or of the trace
 pub data Running : Type 0 where
   ran : Record → Running
+  refused-file : Answer → Running
   not-run : Answer → Running
 
 -- 11: "start state number not below the count of states, or kept condition false there"; a state that counts
