@@ -2,25 +2,22 @@
 use Prim.Native.Nat.{ℕ, _+_, _≤_, _<_}
 use native.Mathlib.Omega.{arith}
 use mathlib.Core.Path.{_≡_, sym, ap, _∙_}
-use mathlib.Core.Bool.{Bool, true, false, not, _&&_}
+use mathlib.Core.Bool.{true}
 use mathlib.Core.List.{List, [], _∷_, _++_}
 use lib.ListN.{length, length-append}
 use lib.Dec.{ltb}
 use borrow.Author.Tests.{ltb-true, lt-ltb}
-use lib.IntN.{ℤ}
-use Rattle.syntax.specs.Tree.{Var, Cond, Region, Monitor}
+use Rattle.syntax.specs.Tree.{Cond, Region, Monitor}
 use Rattle.syntax.proofs.Grammar.{one-cond}
 use Rattle.logic.specs.Tests.{bit}
 use Rattle.machine.specs.Held.{Held}
 use Rattle.machine.specs.Decide.Table.{runs}
-use Rattle.meaning.specs.Value.{truth, outcome}
 use Rattle.meaning.specs.State.{count, stateAt}
 use Rattle.meaning.specs.Kept.{keptAt}
 use Rattle.meaning.specs.Model.{vars, regions, guards, guardsOf, placeIn, guardOf, kept, holds, after, model}
 use Rattle.meaning.proofs.ModelLaws.{guard-below, kept-below, keeps}
-use Rattle.meaning.specs.Decide.Check.{keptAfter, breaks}
 use Rattle.meaning.specs.Accepted.{Sound}
-use Rattle.logic.proofs.Bools.{both, split, not-true}
+use Rattle.logic.proofs.Bools.{both, split}
 use Rattle.states.specs.Rows.{TruthRow, GuardNumbers, KeptAll, HoldsAll, AfterAll}
 
 -- a file has at most as many guards as regions
@@ -36,15 +33,6 @@ guards-of-few found (r ∷ rs) =
     let few = guards-of-few (found ++ (r .guard ∷ [])) rs in
     let l = length-append found (r .guard ∷ []) in
     rw e (omega arith))
-
--- a region breaks where kept condition and guard hold and the body does not keep
-pub breaks-parts : (vs : List Var) (keep : List ℤ → Bool) (q : Region) (as′ : List ℤ) → breaks vs keep q as′ ≡ true
-    → (keep as′ ≡ true) × (truth (q .guard) vs as′ ≡ true) × (keptAfter keep (outcome q vs as′) ≡ false)
-unfolding breaks
-breaks-parts vs keep q as′ h =
-    let t = both (keep as′ && truth (q .guard) vs as′) (not (keptAfter keep (outcome q vs as′))) h in
-    let u = both (keep as′) (truth (q .guard) vs as′) (t .0) in
-    (u .0, u .1, not-true (t .1))
 
 module _ (m : Monitor) where
   pub guards-few : length (guards m) ≤ length (regions m)

@@ -9,7 +9,8 @@ use lib.IntN.{ℤ}
 use Rattle.syntax.specs.Tree.{Var, Region}
 use Rattle.meaning.specs.Value.{outcome}
 use Rattle.meaning.specs.State.{count, stateAt}
-use Rattle.states.specs.Promises.{Body, Moved}
+use Rattle.states.specs.Rows.{Moved}
+use Rattle.states.specs.Promises.{Body}
 use Rattle.states.proofs.Lanes.{stored}
 use Rattle.states.proofs.moves_from.Statement.{statement}
 use Rattle.states.proofs.moves_from.Tie as tie
