@@ -35,7 +35,7 @@ use Rattle.meaning.proofs.TableLines.{rowsOf, table-lines, row-stands, rows-inc
 use Rattle.meaning.proofs.Verdicts.{accepted-iff, refused-iff}
 use Rattle.meaning.proofs.Sizes.{sizes}
 use lib.IntN.{ℤ}
-use Rattle.meaning.proofs.BodyLaws.{run-of-block-runs, block-runs-state}
+use Rattle.meaning.proofs.BodyLaws.{outcome-of-runs, block-runs-state}
 use Rattle.demands.specs.Demand2.{IsEntry, IsTable, FollowsRules, Demand2, Moves, truthOf, Makes, ByValues}
 
 -- What an accepted file's monitor, freed from its syntax, is known for
@@ -161,7 +161,7 @@ module _ (m : Monitor) where
         let t = ok .keeps r (region m r) (stateAt (vars m) s) (region-numbered m r low) meets in (
           t .0,
           record { meets = meets; runs = t .1 },
-          rw (run-of-block-runs (t .1)) (state-at-number (ok .ranges) (block-runs-state (t .1) (meets .state))),
+          rw (outcome-of-runs (region m r) (t .1)) (state-at-number (ok .ranges) (block-runs-state (t .1) (meets .state))),
         )
 
     -- and back
@@ -178,7 +178,7 @@ module _ (m : Monitor) where
             guard = holds-guard m one-cond r s ∙ rw e (q .guard);
           },
           e,
-          rw (e, run-of-block-runs (h .runs)) (state-at-number (ok .ranges) (block-runs-state (h .runs) (q .state))),
+          rw (e, outcome-of-runs (region m r) (h .runs)) (state-at-number (ok .ranges) (block-runs-state (h .runs) (q .state))),
         )
 
     stands-iff : (r g : ℕ)

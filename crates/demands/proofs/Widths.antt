@@ -23,7 +23,7 @@ use Rattle.meaning.specs.Answer.{Answer}
 use Rattle.meaning.specs.Model.{noRegion, vars, regions, model}
 use Rattle.meaning.specs.Hex.{hex2}
 use Rattle.meaning.specs.Decide.Table.{entryLine, forEach, tableOf}
-use Rattle.meaning.specs.Calls.{Machine, eachThread, recordOf, Running, ran, not-run}
+use Rattle.meaning.specs.Calls.{Machine, eachThread, recordOf, Running, ran, refused-file, not-run}
 use Rattle.meaning.specs.Lines.{hex4, refusalLine, valueDigits, placeDigits, recordLine, runLine}
 use Rattle.meaning.specs.Accepted.{FirstOffends, Crowded, PastLimit, Misnamed, IsRegion, AtMost, GoodRange, GoodRanges, one-var, State, no-values, one-value}
 use Rattle.logic.proofs.Bools.{both, and, not-true, true-not}
@@ -35,11 +35,10 @@ use Rattle.meaning.specs.Trace.{linesOf}
 use Rattle.meaning.proofs.Frames.{lines-seven}
 use Rattle.meaning.specs.Accepted.{Accepted}
 use Rattle.meaning.specs.Refusal.{Past2, Refusal, too-long, no-token, too-many, no-file, ends-early, past-limit, wrong-name, ill-ranged, start-not-kept, broken}
-use Rattle.meaning.proofs.Verdicts.{refusal-number, accepted-iff, not-both}
+use Rattle.meaning.proofs.Verdicts.{refusal-number, accepted-iff}
 use Rattle.meaning.proofs.Sizes.{sizes-of, sizes}
 use Rattle.meaning.proofs.ModelLaws.{startable-iff}
 use Rattle.demands.specs.Demand1.{RunsAs, no-monitor, no-start, bad-line, frame-refused, all-allowed}
-use Rattle.demands.specs.Demand3.{runAnswer}
 use Rattle.demands.proofs.Demand2.{checked, run-reached, runs-keep, stops-within, follows-rules}
 use Rattle.demands.specs.Widths.{AnswerFits, RecordFits, RunFits}
 
@@ -77,6 +76,18 @@ refusal-places (broken {ts = ts} {m = m} {k = k} p h b) =
     let state = b .below in
     let states = p .few in
     (omega arith, omega arith)
+
+refusal-digits : {file : List ℕ} {a : Answer} → Refusal file a → a .number ≤ 14
+refusal-digits (too-long h) = omega arith
+refusal-digits (no-token h s) = omega arith
+refusal-digits (too-many p f) = omega arith
+refusal-digits (no-file p f) = omega arith
+refusal-digits (ends-early p v n) = omega arith
+refusal-digits (past-limit p f) = omega arith
+refusal-digits (wrong-name p f) = omega arith
+refusal-digits (ill-ranged p t s) = omega arith
+refusal-digits (start-not-kept p f s) = omega arith
+refusal-digits (broken p t b) = omega arith
 
 -- the widest range
 byteRange : Var
@@ -130,9 +141,8 @@ record-fits {file} {m} {c} a s x =
 
 pub refusal-fits : {file : List ℕ} {a : Answer} → Refusal file a → AnswerFits a
 refusal-fits r =
-    let n = refusal-number r in
     let p = refusal-places r in
-    record { refuses = n .0; number = omega arith; first = p .0; second = p .1 }
+    record { refuses = refusal-number r; number = refusal-digits r; first = p .0; second = p .1 }
 
 module _ {file bytes : List ℕ} {s : ℕ} {w : Machine} where
   -- "at most 65,536 bytes"
@@ -155,16 +165,6 @@ module _ {file bytes : List ℕ} {s : ℕ} {w : Machine} where
       record-fits a (runs-keep file m ok s h fs w c reached .1)
       (run-reached m (checked file m ok) s (startable-iff m s .1 h) fs w c reached)
 
-  -- the number of a run of an accepted file is none of a file's refusals
-  pub trace-number : {m : Monitor} {x : Running} → Accepted file m → RunsAs file bytes s w x
-      → (runAnswer x .number ≡ 0) ⊎ (10 < runAnswer x .number)
-  unfolding runAnswer
-  trace-number {m} ok (no-monitor {a} r) = absurd (not-both file m a ok r)
-  trace-number ok (no-start a n) = inr (omega arith)
-  trace-number ok (bad-line a h t) = inr (omega arith)
-  trace-number ok (frame-refused a h r e t) = let x = stops-within t in inr (omega arith)
-  trace-number ok (all-allowed a h r e t) = inl refl
-
 -- Lengths
 
 values-length : (as′ : List ℤ) → length (valueDigits as′) ≡ 2 * length as′
@@ -183,6 +183,7 @@ line-short (ran r) f =
     let few = f .few in
     let sixteen = f .sixteen in
     simp (length-append, values-length, places-length) (omega arith)
+line-short (refused-file a) f = omega arith
 line-short (not-run a) f = omega arith
 
 entry-short : (r g : ℕ) (e : Entry) → length (entryLine r g e) ≤ 9

@@ -13,7 +13,7 @@ use Rattle.meaning.specs.Answer.{Answer, answer, Verdict}
 use Rattle.meaning.specs.Decide.Check.{check}
 use Rattle.meaning.specs.Model.{model}
 use Rattle.meaning.specs.Decide.Table.{tableOf}
-use Rattle.meaning.specs.Calls.{Startable, noticesOf, Placing, notPlaced, Machine, recordOf, Running, ran, not-run}
+use Rattle.meaning.specs.Calls.{Startable, noticesOf, Placing, notPlaced, Machine, recordOf, Running, ran, refused-file, not-run}
 use Rattle.meaning.specs.Decide.Calls.{place, running}
 use Rattle.meaning.specs.Accepted.{Accepted}
 use Rattle.meaning.specs.Trace.{FrameRecords, linesOf}
@@ -40,7 +40,7 @@ pub data PlacesAs (file buffer : List ℕ) : Placing → Type 0 where
 
 pub data RunsAs (file bytes : List ℕ) (s : ℕ) (w : Machine) : Running → Type 0 where
   -- 1 to 9
-  no-monitor : {a : Answer} → Refusal file a → RunsAs file bytes s w (not-run a)
+  no-monitor : {a : Answer} → Refusal file a → RunsAs file bytes s w (refused-file a)
   -- 11
   no-start : {m : Monitor} → Accepted file m → (Startable m s → ⊥) → RunsAs file bytes s w (not-run (answer 11 0 0))
   -- 12: "first line that is no frame"

@@ -17,7 +17,7 @@ use Rattle.meaning.specs.Value.{truth}
 use Rattle.meaning.specs.Answer.{Answer, answer, accepted}
 use Rattle.meaning.specs.Decide.Check.{check}
 use Rattle.meaning.specs.Model.{vars, kept, model, region, guardOf}
-use Rattle.meaning.specs.Calls.{plain-machine, table-machine, Record, threadsOf, Running, ran, not-run}
+use Rattle.meaning.specs.Calls.{plain-machine, table-machine, Record, threadsOf, Running, ran, refused-file, not-run}
 use Rattle.meaning.specs.Decide.Calls.{runList, running}
 use Rattle.meaning.specs.Trace.{linesOf}
 use mathlib.Core.Option.{some}
@@ -33,6 +33,7 @@ pub record Demand3 : Type 0 where
 -- "An answer is the number (0 for accepted) and two places"
 unfoldable pub runAnswer : Running → Answer
 runAnswer (ran r) = answer 0 0 0
+runAnswer (refused-file a) = a
 runAnswer (not-run a) = a
 
 pub record SameRunning (file bytes : List ℕ) (s : ℕ) : Type 0 where

@@ -5,7 +5,7 @@ use lib.ListN.{length, getD}
 use lib.IntN.{pos, _+ℤ_, natAbs}
 use Rattle.machine.specs.Monitor.{idle, waiting, due}
 use Rattle.meaning.specs.Answer.{Answer}
-use Rattle.meaning.specs.Calls.{Record, Running, ran, not-run}
+use Rattle.meaning.specs.Calls.{Record, Running, ran, refused-file, not-run}
 
 -- The record of a run
 
@@ -26,4 +26,5 @@ pub record AnswerFits (a : Answer) : Type 0 where
 
 unfoldable pub RunFits : Running → Type 0
 RunFits (ran r) = RecordFits r
+RunFits (refused-file a) = AnswerFits a
 RunFits (not-run a) = AnswerFits a

@@ -6,18 +6,21 @@ use mathlib.Core.Bool.{Bool, true, false, not}
 use mathlib.Core.List.{List, _∷_}
 use mathlib.Core.Option.{Option, none, some}
 use lib.ListN.{length, getD}
+use lib.IntN.{ℤ}
 use Rattle.syntax.specs.Token.{Lexeme, mark, semicolon}
 use Rattle.syntax.specs.Tree.{Monitor}
-use Rattle.logic.proofs.Bools.{clash}
-use Rattle.logic.proofs.Bools.{different}
+use Rattle.logic.specs.Tests.{bit}
+use Rattle.logic.proofs.Bools.{clash, different}
 use Rattle.meaning.specs.Value.{truth}
-use Rattle.meaning.specs.State.{starts}
+use Rattle.meaning.specs.State.{starts, stateAt}
+use Rattle.meaning.specs.Kept.{keptAt}
 use Rattle.meaning.specs.Decide.Check.{broken}
 use Rattle.meaning.specs.Model.{vars, regions, guards}
 use Rattle.variables.specs.declared.Bounds.{Bounds}
 use Rattle.layout.specs.declared.Layout.{Layout}
-use Rattle.states.specs.Rows.{GuardsAt, BodiesAt, GuardNumbers, KeptAll, HoldsAll, AfterAll, AfterAs}
-use Rattle.states.proofs.Holding.{guards-few}
+use Rattle.states.specs.Rows.{TruthRow, GuardsAt, BodiesAt, GuardNumbers, KeptAll, HoldsAll, Outcomes, BrokenAs}
+use Rattle.states.proofs.Holding.{guards-few, kept-of-row}
+use Rattle.states.proofs.Breaking.{after-all}
 use Rattle.states.specs.Promises.{Condition, Guards}
 use Rattle.states.specs.declared.Broken.{Broken}
 use Rattle.states.specs.declared.Broken.the-variants.{Never, At}
@@ -25,6 +28,16 @@ use Rattle.answers.specs.declared.Answer.{Answer}
 use Rattle.loader.proofs.GuardsAt.{guards-stand}
 use Rattle.loader.proofs.Counts.{ends-kept}
 use Rattle.loader.specs.Filling.{Filling, Filled}
+
+-- The code evaluates the tokens behind `keep`: their truth is the kept condition's
+
+pub keep-is-kept : (m : Monitor) (as′ : List ℤ) → truth (m .keep) (vars m) as′ ≡ keptAt m as′
+unfolding keptAt
+keep-is-kept m as′ = refl
+
+pub kept-row : (m : Monitor) (row : List ℕ) → TruthRow (vars m) (truth (m .keep) (vars m)) row → KeptAll m row
+unfolding TruthRow
+kept-row m row t = kept-of-row m row (λ s h. t s h ∙ ap bit (keep-is-kept m (stateAt (vars m) s)))
 
 module _ {m : Monitor} {ls : List Lexeme} {kinds values : List ℕ} {b : Bounds} {l : Layout} (f : Filling m ls kinds values b l) where
   pub keeping : Condition (vars m) (m .keep) kinds values b (l .keep)
@@ -78,18 +91,18 @@ failed {b = true} h = refl
 failed {b = false} h = clash refl h
 
 -- the answer for refusal 9, read backwards
-stopped : (m : Monitor) (o : Option (ℕ × ℕ)) (rows : List ℕ) {x : Broken} {k n : ℕ} → AfterAs m x o rows → x ≡ At k n → o ≡ some (k, n)
-unfolding AfterAs
-stopped m none rows a e = let z = a .0 in different (cc)
-stopped m (some (i, j)) rows a e = cc
+stopped : (o : Option (ℕ × ℕ)) {x : Broken} {k n : ℕ} → BrokenAs x o → x ≡ At k n → o ≡ some (k, n)
+unfolding BrokenAs
+stopped none a e = different (cc)
+stopped (some (i, j)) a e = cc
 
-passed : (m : Monitor) (o : Option (ℕ × ℕ)) (rows : List ℕ) {x : Broken} → AfterAs m x o rows → x ≡ Never → (o ≡ none) × AfterAll m rows
-unfolding AfterAs
-passed m none rows a e = (refl, a .1)
-passed m (some q) rows a e = different (cc)
+passed : (o : Option (ℕ × ℕ)) {x : Broken} → BrokenAs x o → x ≡ Never → o ≡ none
+unfolding BrokenAs
+passed none a e = refl
+passed (some q) a e = different (cc)
 
 module _ (m : Monitor) (place : ℕ) (r : Answer) (kept holds after : List ℕ) {t : Bool}
-    (is : t ≡ truth (m .keep) (vars m) (starts (vars m))) where
+    (is : t ≡ keptAt m (starts (vars m))) where
   -- 8
   pub filled-8 : t ≡ false → (r .number ≡ 8) × (r .first ≡ place) × (r .second ≡ 0) → Filled m place r kept holds after
   filled-8 off (a, b, c) =
@@ -99,11 +112,11 @@ module _ (m : Monitor) (place : ℕ) (r : Answer) (kept holds after : List ℕ) 
         passes = λ on e. clash on (sym is ∙ off);
       }
 
-  module _ (on : t ≡ true) {x : Broken} (a : AfterAs m x (broken (vars m) (m .keep) 0 (regions m)) after) where
+  module _ (on : t ≡ true) {x : Broken} (a : BrokenAs x (broken m)) where
     -- 9
     pub filled-9 : (k n : ℕ) → x ≡ At k n → (r .number ≡ 9) × (r .first ≡ k) × (r .second ≡ n) → Filled m place r kept holds after
     filled-9 k n e (p, q, s) =
-        let stops = stopped m (broken (vars m) (m .keep) 0 (regions m)) after a e in
+        let stops = stopped (broken m) a e in
         record {
           fails = λ off. clash on (is ∙ off);
           breaks = λ _ i j h.
@@ -113,12 +126,12 @@ module _ (m : Monitor) (place : ℕ) (r : Answer) (kept holds after : List ℕ) 
         }
 
     -- 0
-    pub filled-0 : x ≡ Never → KeptAll m kept → HoldsAll m holds → (r .number ≡ 0) × (r .first ≡ 0) × (r .second ≡ 0)
-        → Filled m place r kept holds after
-    filled-0 e by-kept by-holds (p, q, s) =
-        let (none-stops, by-after) = passed m (broken (vars m) (m .keep) 0 (regions m)) after a e in
+    pub filled-0 : x ≡ Never → KeptAll m kept → HoldsAll m holds → Outcomes m (keptAt m) after
+        → (r .number ≡ 0) × (r .first ≡ 0) × (r .second ≡ 0) → Filled m place r kept holds after
+    filled-0 e by-kept by-holds outcomes (p, q, s) =
+        let none-stops = passed (broken m) a e in
         record {
           fails = λ off. clash on (is ∙ off);
           breaks = λ _ i j h. different (cc);
-          passes = λ _ _. (record { number = p; first = q; second = s }, by-kept, by-holds, by-after);
+          passes = λ _ h. (record { number = p; first = q; second = s }, by-kept, by-holds, after-all m after outcomes h);
         }

@@ -11,8 +11,8 @@ use Rattle.syntax.specs.Tree.{Monitor}
 use Rattle.syntax.specs.Held.Kind.{Words}
 use Rattle.logic.proofs.Bools.{split}
 use Rattle.logic.proofs.Bools.{different}
-use Rattle.meaning.specs.Value.{truth}
 use Rattle.meaning.specs.State.{starts}
+use Rattle.meaning.specs.Kept.{keptAt}
 use Rattle.meaning.specs.Answer.{Answer, answer, accepted, refused}
 use Rattle.meaning.specs.Decide.Check.{broken, check}
 use Rattle.meaning.specs.Model.{vars, regions}
@@ -124,7 +124,7 @@ module _ {file : List ℕ} {ts : List Token} {kinds values places : List ℕ} (w
     refuses : {v : Answer} → check file ≡ refused v → Says a v → Loads file loaded kept holds after
     refuses e s = record { verdict = is-refused file e s; monitored = λ n h. different (cc) }
 
-    accepts : truth (m .keep) (vars m) (starts (vars m)) ≡ true → broken (vars m) (m .keep) 0 (regions m) ≡ none
+    accepts : keptAt m (starts (vars m)) ≡ true → broken m ≡ none
         → check file ≡ accepted m → Loads file loaded kept holds after
     unfolding Is answerOf
     accepts on none-breaks e =
@@ -146,13 +146,11 @@ module _ {file : List ℕ} {ts : List Token} {kinds values places : List ℕ} (w
     pub loads : Loads file loaded kept holds after
     unfolding regions
     loads =
-        split (truth (m .keep) (vars m) (starts (vars m))) (λ on. go on (broken (vars m) (m .keep) 0 (regions m)) refl)
-        (λ off. refuses
-        (says-8 w (p .uncrowded) m (p .grammar) (p .counts) (p .names) (p .ranges) (j .keep) (p .keep-stands) off)
+        split (keptAt m (starts (vars m))) (λ on. go on (broken m) refl)
+        (λ off. refuses (says-8 w (p .uncrowded) m (p .grammar) (p .counts) (p .names) (p .ranges) (j .keep) (p .keep-stands) off)
         (rw at-keep at (filled .fails off)))
       where
-        go : truth (m .keep) (vars m) (starts (vars m)) ≡ true → (o : Option (ℕ × ℕ))
-            → broken (vars m) (m .keep) 0 (regions m) ≡ o
+        go : keptAt m (starts (vars m)) ≡ true → (o : Option (ℕ × ℕ)) → broken m ≡ o
             → Loads file loaded kept holds after
         go on (some (k, n)) e =
             refuses (says-9 w (p .uncrowded) m (p .grammar) (p .counts) (p .names) (p .ranges) on e)

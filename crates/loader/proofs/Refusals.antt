@@ -12,11 +12,10 @@ use Rattle.syntax.specs.Held.Kind.{kindOf, Words}
 use Rattle.syntax.specs.Tree.{Monitor, all, spell}
 use Rattle.syntax.specs.Decide.Reading.{got, read}
 use Rattle.syntax.proofs.Grammar.{read-spells, spelled-read}
-use Rattle.meaning.specs.Value.{truth}
 use Rattle.meaning.specs.State.{starts}
+use Rattle.meaning.specs.Kept.{keptAt}
 use Rattle.meaning.specs.Answer.{answer, refused, accepted}
 use Rattle.meaning.specs.Decide.Check.{crowded, pastLimit, misnamed, illRanged, placesOf, broken, check}
-use Rattle.meaning.specs.Accepted.{regionsOf}
 use Rattle.meaning.proofs.RangeLaws.{ill-ranged-good}
 use Rattle.meaning.proofs.KeywordPlaces.{behindKeep}
 use Rattle.logic.proofs.Bools.{different}
@@ -105,18 +104,16 @@ module _ {file : List ℕ} {ts : List Token} {kinds values places : List ℕ} (w
           module _ (ranges : illRanged 1 (all (m .vars)) (placesOf k-var ts) ≡ none) where
             -- 8
             pub says-8 : (k : ℕ) → drop k (lexemes ts) ≡ key k-keep ∷ behindKeep m
-                → truth (m .keep) (all (m .vars)) (starts (all (m .vars))) ≡ false
-                → check file ≡ refused (answer 8 (getD places k 0) 0)
+                → keptAt m (starts (all (m .vars))) ≡ false → check file ≡ refused (answer 8 (getD places k 0) 0)
             says-8 k at h =
                 check-8 file (w .short) (w .cut) room tree few names ranges h
                 ∙ ap (λ (b : ℕ). refused (answer 8 b 0)) (sym (keep-byte ts m spelt k at w))
 
-            module _ (start : truth (m .keep) (all (m .vars)) (starts (all (m .vars))) ≡ true) where
+            module _ (start : keptAt m (starts (all (m .vars))) ≡ true) where
               -- 9
-              pub says-9 : {k n : ℕ} → broken (all (m .vars)) (m .keep) 0 (regionsOf (all (m .methods))) ≡ some (k, n)
+              pub says-9 : {k n : ℕ} → broken m ≡ some (k, n)
                   → check file ≡ refused (answer 9 k n)
               says-9 = check-9 file (w .short) (w .cut) room tree few names ranges start
 
-              pub says-0 : broken (all (m .vars)) (m .keep) 0 (regionsOf (all (m .methods))) ≡ none
-                  → check file ≡ accepted m
+              pub says-0 : broken m ≡ none → check file ≡ accepted m
               says-0 = check-0 file (w .short) (w .cut) room tree few names ranges start

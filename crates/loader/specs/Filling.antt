@@ -7,8 +7,8 @@ use mathlib.Core.Option.{none, some}
 use lib.ListN.{length}
 use Rattle.syntax.specs.Token.{Lexeme}
 use Rattle.syntax.specs.Tree.{Monitor}
-use Rattle.meaning.specs.Value.{truth}
 use Rattle.meaning.specs.State.{starts}
+use Rattle.meaning.specs.Kept.{keptAt}
 use Rattle.meaning.specs.Answer.{answer}
 use Rattle.meaning.specs.Decide.Check.{broken}
 use Rattle.meaning.specs.Model.{vars, regions}
@@ -30,8 +30,8 @@ pub record Filling (m : Monitor) (ls : List Lexeme) (kinds values : List ℕ) (b
 
 -- 8 with the place of `keep`, 9, or 0 and the slices filled
 pub record Filled (m : Monitor) (place : ℕ) (r : Answer) (kept holds after : List ℕ) : Type 0 where
-  pub fails : truth (m .keep) (vars m) (starts (vars m)) ≡ false → Says r (answer 8 place 0)
-  pub breaks : truth (m .keep) (vars m) (starts (vars m)) ≡ true → (k n : ℕ) → broken (vars m) (m .keep) 0 (regions m) ≡ some (k, n)
+  pub fails : keptAt m (starts (vars m)) ≡ false → Says r (answer 8 place 0)
+  pub breaks : keptAt m (starts (vars m)) ≡ true → (k n : ℕ) → broken m ≡ some (k, n)
       → Says r (answer 9 k n)
-  pub passes : truth (m .keep) (vars m) (starts (vars m)) ≡ true → broken (vars m) (m .keep) 0 (regions m) ≡ none
+  pub passes : keptAt m (starts (vars m)) ≡ true → broken m ≡ none
       → Says r (answer 0 0 0) × KeptAll m kept × HoldsAll m holds × AfterAll m after

@@ -103,7 +103,7 @@ fn guards_at(layout: Layout) -> [u16; 16]
     ats
 }
 
-// 8 and 9, once names and braces are resolved: the truths and the states after, into lent slices.
+// 8 and 9, once names and braces are resolved: the truths and the outcomes of the bodies, into lent slices.
 fn fill(
     kinds: &[u8],
     values: &[u16],
@@ -134,17 +134,19 @@ fn fill(
     );
     let bodies = layout.bodies_at;
     let numbers = layout.guard_of;
-    match states::fill_after(
+    let regions = layout.regions;
+    states::fill_after(
         kinds,
         values,
         bounds,
         bodies,
         numbers,
-        layout.regions,
+        regions,
         kept,
         holds,
         after,
-    ) {
+    );
+    match states::first_broken(bounds, numbers, regions, kept, holds, after) {
         Broken::At(r, s) => answers::say(9, r, s),
         Broken::Never => answers::say(0, 0, 0),
     }

@@ -6,8 +6,8 @@ use mathlib.Core.List.{List, [], _∷_}
 use mathlib.Core.Option.{Option, none, some, Option·some-injective}
 use lib.IntN.{ℤ}
 use Rattle.syntax.specs.Bytes.{sameBytes}
-use Rattle.syntax.specs.Tree.{Block, end, then, Stmt, assign, if-then, if-else, Var}
-use Rattle.meaning.specs.Value.{inRange, assigned, exprValue, truth, andThen, runBlock, runStmt}
+use Rattle.syntax.specs.Tree.{Block, end, then, Stmt, assign, if-then, if-else, Region, Var}
+use Rattle.meaning.specs.Value.{inRange, assigned, exprValue, truth, andThen, runBlock, runStmt, outcome}
 use Rattle.meaning.specs.Accepted.{State, one-value, Assigns, here, later, BlockRuns, ends, goes-on, StmtRuns, assigns, if-true, if-false, else-true, else-false}
 use Rattle.logic.proofs.Bools.{split, clash, is-false, no-some}
 use Rattle.syntax.proofs.Lexemes.{decides-same}
@@ -95,6 +95,17 @@ block-runs-iff b as′ bs = (block-runs-of-run b as′, run-of-block-runs)
 
 pub stmt-runs-iff : {vs : List Var} (s : Stmt) (as′ bs : List ℤ) → (runStmt s vs as′ ≡ some bs) ↔ StmtRuns vs s as′ bs
 stmt-runs-iff s as′ bs = (stmt-runs-of-run s as′, run-of-stmt-runs)
+
+-- a region's outcome is the end of its body's run
+pub runs-of-outcome : {vs : List Var} (r : Region) (as′ : List ℤ) {bs : List ℤ} → outcome r vs as′ ≡ some bs
+    → BlockRuns vs (r .body) as′ bs
+unfolding outcome
+runs-of-outcome r as′ h = block-runs-of-run (r .body) as′ h
+
+pub outcome-of-runs : {vs : List Var} (r : Region) {as′ bs : List ℤ} → BlockRuns vs (r .body) as′ bs
+    → outcome r vs as′ ≡ some bs
+unfolding outcome
+outcome-of-runs r h = run-of-block-runs h
 
 -- a run keeps every value in its range
 mutual

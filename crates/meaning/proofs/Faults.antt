@@ -9,6 +9,7 @@ use lib.IntN.{ℤ}
 use Rattle.syntax.specs.Bytes.{sameBytes}
 use Rattle.syntax.specs.Tree.{Expr, Cond, Block, end, then, Stmt, assign, if-then, if-else, Region, Var, Monitor, all}
 use Rattle.meaning.specs.Value.{inRange, assigned, exprValue, truth, andThen, runBlock, runStmt}
+use Rattle.meaning.specs.Kept.{keptAt}
 use Rattle.meaning.specs.Accepted.{State, no-values, one-value, Assigns, here, later, BlockRuns, ends, goes-on, StmtRuns, assigns, if-true, if-false, else-true, else-false, Keeps}
 use Rattle.logic.proofs.Bools.{split, clash, is-false, no-some}
 use Rattle.syntax.proofs.Lexemes.{decides-same}
@@ -101,7 +102,7 @@ one-end r t = Option·some-injective _ _ (sym (run-of-block-runs r) ∙ run-of-b
 pub not-keeps-iff : (m : Monitor) (r : Region) (as′ : List ℤ) → State (all (m .vars)) as′
     → (Keeps m r as′ → ⊥)
     ↔ (BlockFaults (all (m .vars)) (r .body) as′
-    ⊎ ((bs : List ℤ) × BlockRuns (all (m .vars)) (r .body) as′ bs × (truth (m .keep) (all (m .vars)) bs ≡ false)))
+    ⊎ ((bs : List ℤ) × BlockRuns (all (m .vars)) (r .body) as′ bs × (keptAt m bs ≡ false)))
 unfolding Keeps
 not-keeps-iff m r as′ s = (
   λ n. ⊎-elim (λ t. inr (t .0, t .1, is-false (λ h. n (t .0, t .1, h)))) inl (runs-or-faults (r .body) as′ s),

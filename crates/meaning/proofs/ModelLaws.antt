@@ -15,6 +15,7 @@ use Rattle.machine.specs.Monitor as machine
 use Rattle.machine.specs.Decide.Step.{isWaiting}
 use Rattle.meaning.specs.Value.{truth}
 use Rattle.meaning.specs.State.{count, stateAt, numberOf}
+use Rattle.meaning.specs.Kept.{keptAt}
 use Rattle.meaning.specs.Model.{sameGuard, placeIn, guardsOf, goesOnIn, noGuard, noRegion, numberAfter, vars, regions, guards, region, guardOf, holds, kept, after, follows}
 use Rattle.meaning.specs.Accepted.{State, Keeps, Meets, IsRegion, Sound}
 use Rattle.logic.proofs.Bools.{both, and, split, clash, no-some}
@@ -22,7 +23,7 @@ use Rattle.logic.proofs.Bools.{Decides, different}
 use Rattle.meaning.proofs.SameGuards.{decides-lexemes}
 use Rattle.meaning.proofs.MethodLaws.{goes-on-below}
 use Rattle.meaning.proofs.StateLaws.{state-at, number-below, state-at-number}
-use Rattle.meaning.proofs.BodyLaws.{run-of-block-runs, block-runs-state}
+use Rattle.meaning.proofs.BodyLaws.{outcome-of-runs, block-runs-state}
 use Rattle.meaning.specs.Calls.{Startable}
 
 -- Guards in a list
@@ -243,11 +244,11 @@ module _ (m : Monitor) where
 
   pub kept-below : (s : ℕ) → kept m s ≡ true → s < count (vars m)
   unfolding kept
-  kept-below s h = ltb-true s (count (vars m)) (both (ltb s (count (vars m))) (truth (m .keep) (vars m) (stateAt (vars m) s)) h .0)
+  kept-below s h = ltb-true s (count (vars m)) (both (ltb s (count (vars m))) (keptAt m (stateAt (vars m) s)) h .0)
 
-  kept-truth : (s : ℕ) → kept m s ≡ true → truth (m .keep) (vars m) (stateAt (vars m) s) ≡ true
+  kept-truth : (s : ℕ) → kept m s ≡ true → keptAt m (stateAt (vars m) s) ≡ true
   unfolding kept
-  kept-truth s h = both (ltb s (count (vars m))) (truth (m .keep) (vars m) (stateAt (vars m) s)) h .1
+  kept-truth s h = both (ltb s (count (vars m))) (keptAt m (stateAt (vars m) s)) h .1
 
   no-region : (r : ℕ) → length (regions m) ≤ r → region m r ≡ noRegion
   unfolding region
@@ -291,7 +292,7 @@ module _ (m : Monitor) where
           }
 
       -- a kept condition stays so, over every body that may run
-      kept-number : (bs : List ℤ) → State (vars m) bs → truth (m .keep) (vars m) bs ≡ true → kept m (numberOf (vars m) bs) ≡ true
+      kept-number : (bs : List ℤ) → State (vars m) bs → keptAt m bs ≡ true → kept m (numberOf (vars m) bs) ≡ true
       unfolding kept
       kept-number bs s t =
           and (lt-ltb (numberOf (vars m) bs) (count (vars m)) (number-below (ok .ranges) s))
@@ -302,14 +303,14 @@ module _ (m : Monitor) where
       keeps r s k h =
           let q = meets r s k h in
           let t = ok .keeps r (region m r) (stateAt (vars m) s) (region-numbered r (holds-region r s h)) q in
-          rw (run-of-block-runs (t .1)) (kept-number (t .0) (block-runs-state (t .1) (q .state)) (t .2))
+          rw (outcome-of-runs (region m r) (t .1)) (kept-number (t .0) (block-runs-state (t .1) (q .state)) (t .2))
 
 -- 11
 pub startable-iff : (m : Monitor) (s : ℕ) → (kept m s ≡ true) ↔ Startable m s
 unfolding kept
 startable-iff m s = (
   λ h.
-      let t = both (ltb s (count (vars m))) (truth (m .keep) (vars m) (stateAt (vars m) s)) h in
+      let t = both (ltb s (count (vars m))) (keptAt m (stateAt (vars m) s)) h in
       record { below = ltb-true s (count (vars m)) (t .0); keeps = t .1 },
   λ h. and (lt-ltb s (count (vars m)) (h .below)) (h .keeps),
 )

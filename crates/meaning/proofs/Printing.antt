@@ -8,14 +8,15 @@ use Rattle.machine.specs.Decide.Table.{runs, someMove, everyMove, stands, uncon
 use Rattle.meaning.specs.Decide.Calls.{written, place, toldBy, runningOf, runList, runFrames, runFrom, running}
 use Rattle.meaning.specs.Calls.{eachThread, bits, ones, recordOf}
 use Rattle.meaning.specs.Accepted.{opens, closes, regionsOf}
-use Rattle.meaning.specs.Decide.Check.{tally, crowded, placeOf, leftOf, pastLimit, member, misnamed, placesOf, inByte, goodRange, illRanged, keptAfter, breaks, firstFrom, broken, checkMeaning, checkTokens, check}
+use Rattle.meaning.specs.Decide.Check.{tally, crowded, placeOf, leftOf, pastLimit, member, misnamed, placesOf, inByte, goodRange, illRanged, keptAfter, breaks, firstFrom, brokenFrom, broken, checkMeaning, checkTokens, check}
 use Rattle.meaning.specs.Lines.{hex4, refusalLine, placeByte, valueDigits, placeDigits, recordLine, runLine, machineLine, placer, runner}
 use Rattle.meaning.specs.Model.{sameLexeme, sameLexemes, sameGuard, placeIn, guardsOf, beginsIn, goesOnIn, noGuard, noRegion, numberAfter, regions, guards, region, guardOf, holds, kept, after, follows, model}
 use Rattle.meaning.specs.Hex.{hexDigit, hex2, hexBool}
 use Rattle.meaning.specs.Decide.Table.{entryLine, forEach, tableOf}
 use Rattle.meaning.specs.State.{size, count, stateAt, numberOf, starts}
+use Rattle.meaning.specs.Kept.{keptAt}
 use Rattle.meaning.specs.Decide.Frames.{linesFrom, isHex, hexValue, allHex, pairAt, isFrame, frameOf, prepend, framesFrom, framesOf}
-use Rattle.meaning.specs.Value.{intOf, negative, less, compares, valueOf, inRange, assigned, atomValue, joined, termsValue, exprValue, truth, conjTruth, simpleTruth, andThen, runBlock, runStmt}
+use Rattle.meaning.specs.Value.{intOf, negative, less, compares, valueOf, inRange, assigned, atomValue, joined, termsValue, exprValue, truth, conjTruth, simpleTruth, andThen, runBlock, runStmt, outcome}
 use Rattle.syntax.specs.Bytes.{bytes, between, blank, letter, digit, wordByte, leading, decimal, sameBytes, startsWith}
 use Rattle.syntax.specs.Decide.Reading.{onwards, _>>=_, give, begins, rest, choose, expect, readName, readNumber, readMany, readSome, readInt, readAtom, readSign, readTerm, isSign, readExpr, readComparison, readCond, readConj, readSimple, readBlock, readStmt, readRegion, readMethod, readVar, atEnd, readMonitor, read}
 use Rattle.syntax.specs.Token.{keywords, marks, lexemes, markNumber, keywordNumber, isMark, isKey, isName}
@@ -30,7 +31,7 @@ pub data Case : Type 0 where
   whole : List ℕ → List ℕ → Case
 
 unfoldable pub printing : Case → List ℕ
-unfolding any threads put without isDue isWaiting ahead beginWait leave allIdle onGuard waitsOn next firstNotified own plainTold mayBeAt may ran waited rechecked allowed act judged step run runs someMove everyMove stands unconditional broadcast entryOf acts entryTold tableTold written place toldBy eachThread bits ones recordOf runningOf runList runFrames runFrom running opens closes tally crowded placeOf leftOf pastLimit member misnamed placesOf inByte goodRange illRanged regionsOf keptAfter breaks firstFrom broken checkMeaning checkTokens check hex4 refusalLine placeByte valueDigits placeDigits recordLine runLine machineLine placer runner sameLexeme sameLexemes sameGuard placeIn guardsOf beginsIn goesOnIn noGuard noRegion numberAfter regions guards region guardOf holds kept after follows model hexDigit hex2 hexBool entryLine forEach tableOf size count stateAt numberOf starts linesFrom isHex hexValue allHex pairAt isFrame frameOf prepend framesFrom framesOf intOf negative less compares valueOf inRange assigned atomValue joined termsValue exprValue truth conjTruth simpleTruth andThen runBlock runStmt bytes between blank letter digit wordByte leading decimal sameBytes startsWith onwards _>>=_ give begins rest choose expect readName readNumber readMany readSome readInt readAtom readSign readTerm isSign readExpr readComparison readCond readConj readSimple readBlock readStmt readRegion readMethod readVar atEnd readMonitor read keywords marks wordOf atMost markOf scan token-prepend tokensFrom tokenize lexemes markNumber keywordNumber isMark isKey isName spellInt spellAtom signMark spellTerm each spellExpr comparisonMark spellConstant spellCond spellConj spellSimple spellBlock spellStmt spellRegion spellMethod spellVar spell InGrammar Viable
+unfolding any threads put without isDue isWaiting ahead beginWait leave allIdle onGuard waitsOn next firstNotified own plainTold mayBeAt may ran waited rechecked allowed act judged step run runs someMove everyMove stands unconditional broadcast entryOf acts entryTold tableTold written place toldBy eachThread bits ones recordOf runningOf runList runFrames runFrom running opens closes tally crowded placeOf leftOf pastLimit member misnamed placesOf inByte goodRange illRanged regionsOf keptAfter breaks firstFrom brokenFrom broken checkMeaning checkTokens check hex4 refusalLine placeByte valueDigits placeDigits recordLine runLine machineLine placer runner sameLexeme sameLexemes sameGuard placeIn guardsOf beginsIn goesOnIn noGuard noRegion numberAfter regions guards region guardOf holds kept after follows model hexDigit hex2 hexBool entryLine forEach tableOf size count stateAt numberOf starts linesFrom isHex hexValue allHex pairAt isFrame frameOf prepend framesFrom framesOf intOf negative less compares valueOf inRange assigned atomValue joined termsValue exprValue truth conjTruth simpleTruth andThen runBlock runStmt outcome keptAt bytes between blank letter digit wordByte leading decimal sameBytes startsWith onwards _>>=_ give begins rest choose expect readName readNumber readMany readSome readInt readAtom readSign readTerm isSign readExpr readComparison readCond readConj readSimple readBlock readStmt readRegion readMethod readVar atEnd readMonitor read keywords marks wordOf atMost markOf scan token-prepend tokensFrom tokenize lexemes markNumber keywordNumber isMark isKey isName spellInt spellAtom signMark spellTerm each spellExpr comparisonMark spellConstant spellCond spellConj spellSimple spellBlock spellStmt spellRegion spellMethod spellVar spell InGrammar Viable
 printing (placing file) = placer file
 printing (running-of file trace) = runner file trace
 printing (whole file trace) = placer file ++ runner file trace

@@ -12,18 +12,19 @@ use lib.Dec.{eqb}
 use lib.IntN.{ℤ}
 use borrow.Author.Tests.{eqb-true, eqb-false}
 use Rattle.syntax.specs.Token.{k-var, k-keep, Token}
-use Rattle.syntax.specs.Tree.{Cond, Region, Var, Monitor, all}
-use Rattle.meaning.specs.Value.{truth, runBlock}
+use Rattle.syntax.specs.Tree.{Region, Var, Monitor, all}
+use Rattle.meaning.specs.Value.{truth, outcome}
 use Rattle.meaning.specs.State.{count, stateAt, numberOf, starts}
+use Rattle.meaning.specs.Kept.{keptAt}
 use Rattle.meaning.specs.Answer.{answer, Verdict, accepted, refused}
-use Rattle.meaning.specs.Decide.Check.{placesOf, illRanged, keptAfter, breaks, firstFrom, broken, checkMeaning}
+use Rattle.meaning.specs.Decide.Check.{placesOf, illRanged, keptAfter, breaks, firstFrom, brokenFrom, broken, checkMeaning}
 use Rattle.meaning.specs.Accepted.{regionsOf}
 use Rattle.meaning.specs.Model.{vars}
 use Rattle.meaning.specs.Accepted.{GoodRanges, State, BlockRuns, Keeps, Meets, IsRegion, Sound}
 use Rattle.logic.proofs.Bools.{both, and, split, clash, not-true, true-not, is-false, no-some}
 use Rattle.logic.proofs.Bools.{different}
 use Rattle.meaning.proofs.StateLaws.{state-at, number-of-state-at, number-below, state-at-number}
-use Rattle.meaning.proofs.BodyLaws.{block-runs-of-run, run-of-block-runs, block-runs-state}
+use Rattle.meaning.proofs.BodyLaws.{runs-of-outcome, outcome-of-runs, block-runs-state}
 use Rattle.meaning.proofs.RangeLaws.{ill-ranged-first, ill-ranged-good, good-or-ill}
 use Rattle.meaning.specs.Refusal.{FirstBroken}
 use Rattle.meaning.proofs.Judged.{Judged, sound, ill-ranged, start-not-kept}
@@ -98,9 +99,9 @@ first-some-iff n p j = (
 
 -- 9, by the numbers of states
 
-module _ (vs : List Var) (keep : Cond) where
+module _ (vs : List Var) (kept : List ℤ → Bool) where
   breaksAt : Region → ℕ → Bool
-  breaksAt r n = breaks vs keep r (stateAt vs n)
+  breaksAt r n = breaks vs kept r (stateAt vs n)
 
   -- no state breaks in a region; state n is the first that does
   abbrev Quiet : Region → Type 0
@@ -109,12 +110,12 @@ module _ (vs : List Var) (keep : Cond) where
   abbrev FirstAt : Region → ℕ → Type 0
   FirstAt r n = FirstBelow (breaksAt r) (count vs) n
 
-  broken-step : (k : ℕ) (r : Region) (rs : List Region) → Quiet r → broken vs keep k (r ∷ rs) ≡ broken vs keep (k + 1) rs
-  unfolding broken breaksAt
+  broken-step : (k : ℕ) (r : Region) (rs : List Region) → Quiet r → brokenFrom vs kept k (r ∷ rs) ≡ brokenFrom vs kept (k + 1) rs
+  unfolding brokenFrom breaksAt
   broken-step k r rs q = cc (none-first (count vs) (breaksAt r) q)
 
-  broken-stop : (k : ℕ) (r : Region) (rs : List Region) (n : ℕ) → FirstAt r n → broken vs keep k (r ∷ rs) ≡ some (k, n)
-  unfolding broken breaksAt
+  broken-stop : (k : ℕ) (r : Region) (rs : List Region) (n : ℕ) → FirstAt r n → brokenFrom vs kept k (r ∷ rs) ≡ some (k, n)
+  unfolding brokenFrom breaksAt
   broken-stop k r rs n f = cc (some-first (count vs) (breaksAt r) n f)
 
   -- all regions of a list are quiet; those below number i are
@@ -132,13 +133,13 @@ module _ (vs : List Var) (keep : Cond) where
   quiet-below r rs i quiet h zero q low e = subst Quiet (Option·some-injective _ _ e) quiet
   quiet-below r rs i quiet h (suc j) q low e = h j q (omega arith) e
 
-  broken-none-of : (k : ℕ) (rs : List Region) → AllQuiet rs → broken vs keep k rs ≡ none
-  unfolding broken
+  broken-none-of : (k : ℕ) (rs : List Region) → AllQuiet rs → brokenFrom vs kept k rs ≡ none
+  unfolding brokenFrom
   broken-none-of k [] h = refl
   broken-none-of k (r ∷ rs) h = broken-step k r rs (h 0 r refl) ∙ broken-none-of (k + 1) rs (λ j. h (suc j))
 
   broken-some-of : (k : ℕ) (rs : List Region) (i : ℕ) (r : Region) (n : ℕ) → getElem? rs i ≡ some r → FirstAt r n → QuietBelow rs i
-      → broken vs keep k rs ≡ some (k + i, n)
+      → brokenFrom vs kept k rs ≡ some (k + i, n)
   broken-some-of k [] i r n e f h = no-some e
   broken-some-of k (q ∷ rs) zero r n e f h =
       let same : q ≡ r = Option·some-injective _ _ e in
@@ -159,25 +160,25 @@ module _ (vs : List Var) (keep : Cond) where
       (λ t. let (q, e, f, h) = t .2 in inr (suc (t .0), t .1, (q, e, f, quiet-below r rs (t .0) quiet h))) (quiet-or-first rs))
       (λ t. inr (0, t .0, (r, refl, t .1, λ j q low. absurd (omega arith)))) (none-or-first (count vs) (breaksAt r))
 
-  none-broken : (rs : List Region) → AllQuiet rs → broken vs keep 0 rs ≡ none
+  none-broken : (rs : List Region) → AllQuiet rs → brokenFrom vs kept 0 rs ≡ none
   none-broken rs h = broken-none-of 0 rs h
 
-  some-broken : (rs : List Region) (i n : ℕ) → FirstIn rs i n → broken vs keep 0 rs ≡ some (i, n)
+  some-broken : (rs : List Region) (i n : ℕ) → FirstIn rs i n → brokenFrom vs kept 0 rs ≡ some (i, n)
   some-broken rs i n (r, e, f, h) = rw (zero-add) at (broken-some-of 0 rs i r n e f h)
 
   pub broken-none-iff : (rs : List Region)
-      → (broken vs keep 0 rs ≡ none)
-      ↔ ((j : ℕ) (q : Region) → getElem? rs j ≡ some q → (n : ℕ) → n < count vs → breaks vs keep q (stateAt vs n) ≡ false)
+      → (brokenFrom vs kept 0 rs ≡ none)
+      ↔ ((j : ℕ) (q : Region) → getElem? rs j ≡ some q → (n : ℕ) → n < count vs → breaks vs kept q (stateAt vs n) ≡ false)
   unfolding breaksAt
   broken-none-iff rs =
       (λ e. ⊎-elim (λ h. h) (λ t. no-some (sym e ∙ some-broken rs (t .0) (t .1) (t .2))) (quiet-or-first rs), none-broken rs)
 
   -- region i breaks at state n, at no lower state, and no lower region breaks
   pub broken-some-iff : (rs : List Region) (i n : ℕ)
-      → (broken vs keep 0 rs ≡ some (i, n))
+      → (brokenFrom vs kept 0 rs ≡ some (i, n))
       ↔ ((r : Region) × (getElem? rs i ≡ some r)
-      × ((n < count vs) × (breaks vs keep r (stateAt vs n) ≡ true) × ((k : ℕ) → k < n → breaks vs keep r (stateAt vs k) ≡ false))
-      × ((j : ℕ) (q : Region) → j < i → getElem? rs j ≡ some q → (k : ℕ) → k < count vs → breaks vs keep q (stateAt vs k) ≡ false))
+      × ((n < count vs) × (breaks vs kept r (stateAt vs n) ≡ true) × ((k : ℕ) → k < n → breaks vs kept r (stateAt vs k) ≡ false))
+      × ((j : ℕ) (q : Region) → j < i → getElem? rs j ≡ some q → (k : ℕ) → k < count vs → breaks vs kept q (stateAt vs k) ≡ false))
   unfolding breaksAt
   broken-some-iff rs i n = (
     λ e. ⊎-elim (λ h. no-some (sym (none-broken rs h) ∙ e))
@@ -189,41 +190,41 @@ module _ (vs : List Var) (keep : Cond) where
 -- 9, by values
 
 module _ (m : Monitor) where
-  keeps-of : (r : Region) (as′ : List ℤ) → keptAfter (vars m) (m .keep) (runBlock (r .body) (vars m) as′) ≡ true → Keeps m r as′
+  keeps-of : (r : Region) (as′ : List ℤ) → keptAfter (keptAt m) (outcome r (vars m) as′) ≡ true → Keeps m r as′
   unfolding keptAfter Keeps
-  keeps-of r as′ h = go (runBlock (r .body) (vars m) as′) refl
+  keeps-of r as′ h = go (outcome r (vars m) as′) refl
     where
-      go : (o : Option (List ℤ)) → runBlock (r .body) (vars m) as′ ≡ o → Keeps m r as′
+      go : (o : Option (List ℤ)) → outcome r (vars m) as′ ≡ o → Keeps m r as′
       go none e = absurd (false≢true (rw e at h))
-      go (some bs) e = (bs, block-runs-of-run (r .body) as′ e, rw e at h)
+      go (some bs) e = (bs, runs-of-outcome r as′ e, rw e at h)
 
-  kept-after : (r : Region) (as′ : List ℤ) → Keeps m r as′ → keptAfter (vars m) (m .keep) (runBlock (r .body) (vars m) as′) ≡ true
+  kept-after : (r : Region) (as′ : List ℤ) → Keeps m r as′ → keptAfter (keptAt m) (outcome r (vars m) as′) ≡ true
   unfolding keptAfter Keeps
-  kept-after r as′ k = rw (run-of-block-runs (k .1)) (k .2)
+  kept-after r as′ k = rw (outcome-of-runs r (k .1)) (k .2)
 
   -- a state breaks exactly where it counts and the body does not keep from it
-  breaks-of : (r : Region) (as′ : List ℤ) → State (vars m) as′ → breaks (vars m) (m .keep) r as′ ≡ true
+  breaks-of : (r : Region) (as′ : List ℤ) → State (vars m) as′ → breaks (vars m) (keptAt m) r as′ ≡ true
       → Meets m r as′ × (Keeps m r as′ → ⊥)
   unfolding breaks
   breaks-of r as′ s h =
       let vs = vars m in
-      let after = keptAfter vs (m .keep) (runBlock (r .body) vs as′) in
-      let t = both (truth (m .keep) vs as′ && truth (r .guard) vs as′) (not after) h in
-      let u = both (truth (m .keep) vs as′) (truth (r .guard) vs as′) (t .0) in
+      let after = keptAfter (keptAt m) (outcome r vs as′) in
+      let t = both (keptAt m as′ && truth (r .guard) vs as′) (not after) h in
+      let u = both (keptAt m as′) (truth (r .guard) vs as′) (t .0) in
       (record { state = s; kept = u .0; guard = u .1 }, λ k. clash (kept-after r as′ k) (not-true (t .1)))
 
-  breaks-true : (r : Region) (as′ : List ℤ) → Meets m r as′ → (Keeps m r as′ → ⊥) → breaks (vars m) (m .keep) r as′ ≡ true
+  breaks-true : (r : Region) (as′ : List ℤ) → Meets m r as′ → (Keeps m r as′ → ⊥) → breaks (vars m) (keptAt m) r as′ ≡ true
   unfolding breaks
   breaks-true r as′ q n = and (and (q .kept) (q .guard)) (true-not (is-false (λ h. n (keeps-of r as′ h))))
 
-  keeps-or-breaks : (r : Region) (as′ : List ℤ) → breaks (vars m) (m .keep) r as′ ≡ false → Meets m r as′ → Keeps m r as′
+  keeps-or-breaks : (r : Region) (as′ : List ℤ) → breaks (vars m) (keptAt m) r as′ ≡ false → Meets m r as′ → Keeps m r as′
   keeps-or-breaks r as′ f q =
-      split (keptAfter (vars m) (m .keep) (runBlock (r .body) (vars m) as′)) (keeps-of r as′)
+      split (keptAfter (keptAt m) (outcome r (vars m) as′)) (keeps-of r as′)
       (λ n. clash (breaks-true r as′ q (λ k. clash (kept-after r as′ k) n)) f)
 
   module _ (good : GoodRanges (vars m)) where
     -- what holds of the state with each number below n holds of each state with a number below n
-    keeps-below : (r : Region) (n : ℕ) → NoneBelow (breaksAt (vars m) (m .keep) r) n → (as′ : List ℤ)
+    keeps-below : (r : Region) (n : ℕ) → NoneBelow (breaksAt (vars m) (keptAt m) r) n → (as′ : List ℤ)
         → numberOf (vars m) as′ < n → Meets m r as′ → Keeps m r as′
     unfolding breaksAt
     keeps-below r n h as′ low q =
@@ -231,20 +232,20 @@ module _ (m : Monitor) where
 
     below-keeps : (r : Region) (n : ℕ) → n ≤ count (vars m)
         → ((as′ : List ℤ) → numberOf (vars m) as′ < n → Meets m r as′ → Keeps m r as′)
-        → NoneBelow (breaksAt (vars m) (m .keep) r) n
+        → NoneBelow (breaksAt (vars m) (keptAt m) r) n
     unfolding breaksAt
     below-keeps r n few h i low = is-false (λ b.
         let t = breaks-of r (stateAt (vars m) i) (state-at good i (omega arith)) b in
         t .1 (h (stateAt (vars m) i) (rw (number-of-state-at (vars m) i (omega arith)) low) (t .0)))
 
     -- no state breaks in a region, as its numbers say and as its values do
-    keeps-quiet : (r : Region) → Quiet (vars m) (m .keep) r → (as′ : List ℤ) → Meets m r as′ → Keeps m r as′
+    keeps-quiet : (r : Region) → Quiet (vars m) (keptAt m) r → (as′ : List ℤ) → Meets m r as′ → Keeps m r as′
     keeps-quiet r h as′ q = keeps-below r (count (vars m)) h as′ (number-below good (q .state)) q
 
-    quiet-keeps : (r : Region) → ((as′ : List ℤ) → Meets m r as′ → Keeps m r as′) → Quiet (vars m) (m .keep) r
+    quiet-keeps : (r : Region) → ((as′ : List ℤ) → Meets m r as′ → Keeps m r as′) → Quiet (vars m) (keptAt m) r
     quiet-keeps r h = below-keeps r (count (vars m)) (omega arith) (λ as′ low. h as′)
 
-    first-broken : (i n : ℕ) → FirstIn (vars m) (m .keep) (regionsOf (all (m .methods))) i n → FirstBroken m i n
+    first-broken : (i n : ℕ) → FirstIn (vars m) (keptAt m) (regionsOf (all (m .methods))) i n → FirstBroken m i n
     unfolding IsRegion breaksAt
     first-broken i n (r, e, f, h) =
         let t = breaks-of r (stateAt (vars m) n) (state-at good n (f .0)) (f .1) in
@@ -258,7 +259,7 @@ module _ (m : Monitor) where
           lower-region = λ j q as′ low e′. keeps-quiet q (h j q low e′) as′;
         }
 
-    broken-first : (i n : ℕ) → FirstBroken m i n → FirstIn (vars m) (m .keep) (regionsOf (all (m .methods))) i n
+    broken-first : (i n : ℕ) → FirstBroken m i n → FirstIn (vars m) (keptAt m) (regionsOf (all (m .methods))) i n
     unfolding IsRegion breaksAt
     broken-first i n t = (
       t .region,
@@ -279,39 +280,39 @@ module _ (ts : List Token) (m : Monitor) where
   says-7 k e = cc
 
   module _ (ranges : illRanged 1 (vars m) (placesOf k-var ts) ≡ none) where
-    says-8 : truth (m .keep) (vars m) (starts (vars m)) ≡ false
+    says-8 : keptAt m (starts (vars m)) ≡ false
         → checkMeaning ts m ≡ refused (answer 8 (getD (placesOf k-keep ts) 0 0) 0)
     unfolding checkMeaning
     says-8 f = cc
 
-    says-9 : truth (m .keep) (vars m) (starts (vars m)) ≡ true → (k n : ℕ)
-        → broken (vars m) (m .keep) 0 (regionsOf (all (m .methods))) ≡ some (k, n) → checkMeaning ts m ≡ refused (answer 9 k n)
+    says-9 : keptAt m (starts (vars m)) ≡ true → (k n : ℕ)
+        → broken m ≡ some (k, n) → checkMeaning ts m ≡ refused (answer 9 k n)
     unfolding checkMeaning
     says-9 t k n e = cc
 
-    says-accepted : truth (m .keep) (vars m) (starts (vars m)) ≡ true
-        → broken (vars m) (m .keep) 0 (regionsOf (all (m .methods))) ≡ none → checkMeaning ts m ≡ accepted m
+    says-accepted : keptAt m (starts (vars m)) ≡ true
+        → broken m ≡ none → checkMeaning ts m ≡ accepted m
     unfolding checkMeaning
     says-accepted t e = cc
 
   -- a verdict with grounds is the check's
   says-judged : {v : Verdict} → Judged ts m v → checkMeaning ts m ≡ v
-  unfolding IsRegion
+  unfolding IsRegion broken
   says-judged (sound s) =
       says-accepted (ill-ranged-good (placesOf k-var ts) (s .ranges) (s .few)) (s .start)
-      (none-broken (vars m) (m .keep) (regionsOf (all (m .methods)))
+      (none-broken (vars m) (keptAt m) (regionsOf (all (m .methods)))
       (λ j q e. quiet-keeps m (s .ranges) q (λ as′. s .keeps j q as′ e)))
   says-judged (ill-ranged {i} t) = says-7 (getD (placesOf k-var ts) i 0) (ill-ranged-first (placesOf k-var ts) t)
   says-judged (start-not-kept good few f) = says-8 (ill-ranged-good (placesOf k-var ts) good few) f
   says-judged (judged.broken {k} {n} good few t b) =
       says-9 (ill-ranged-good (placesOf k-var ts) good few) t k n
-      (some-broken (vars m) (m .keep) (regionsOf (all (m .methods))) k n (broken-first m good k n b))
+      (some-broken (vars m) (keptAt m) (regionsOf (all (m .methods))) k n (broken-first m good k n b))
 
   -- the check's verdict has grounds
   abbrev Grounds : Type 0
   Grounds = (v : Verdict) × Judged ts m v
 
-  by-bodies : GoodRanges (vars m) → count (vars m) ≤ 4096 → truth (m .keep) (vars m) (starts (vars m)) ≡ true → Grounds
+  by-bodies : GoodRanges (vars m) → count (vars m) ≤ 4096 → keptAt m (starts (vars m)) ≡ true → Grounds
   unfolding IsRegion
   by-bodies good few t =
       ⊎-elim
@@ -325,12 +326,12 @@ module _ (ts : List Token) (m : Monitor) where
         }),
       ))
       (λ b. (refused (answer 9 (b .0) (b .1)), judged.broken good few t (first-broken m good (b .0) (b .1) (b .2))))
-      (quiet-or-first (vars m) (m .keep) (regionsOf (all (m .methods))))
+      (quiet-or-first (vars m) (keptAt m) (regionsOf (all (m .methods))))
 
   grounds : Grounds
   grounds =
       ⊎-elim
-      (λ g. split (truth (m .keep) (vars m) (starts (vars m))) (by-bodies (g .1) (g .2))
+      (λ g. split (keptAt m (starts (vars m))) (by-bodies (g .1) (g .2))
       (λ f. (refused (answer 8 (getD (placesOf k-keep ts) 0 0) 0), start-not-kept (g .1) (g .2) f)))
       (λ t. (refused (answer 7 (getD (placesOf k-var ts) (t .0) 0) 0), ill-ranged (t .2)))
       (good-or-ill (vars m) (placesOf k-var ts))
@@ -355,7 +356,7 @@ module _ (ts : List Token) (m : Monitor) where
   -- range and ends in a state with the kept condition true
   pub accepted-bodies-keep : (m′ : Monitor) → checkMeaning ts m ≡ accepted m′ → (k : ℕ) (r : Region) (as′ : List ℤ)
       → IsRegion m k r → Meets m r as′
-      → (bs : List ℤ) × BlockRuns (vars m) (r .body) as′ bs × State (vars m) bs × (truth (m .keep) (vars m) bs ≡ true)
+      → (bs : List ℤ) × BlockRuns (vars m) (r .body) as′ bs × State (vars m) bs × (keptAt m bs ≡ true)
   unfolding Keeps
   accepted-bodies-keep m′ e k r as′ n q =
       let t = check-meaning-accepted-iff m′ .0 e .1 .keeps k r as′ n q in

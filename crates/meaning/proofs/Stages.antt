@@ -10,11 +10,10 @@ use Rattle.syntax.specs.Token.{Lexeme, number, k-var, k-keep, Token, lexemes}
 use Rattle.syntax.specs.Decide.Scan.{tokens, none-at, tokenize}
 use Rattle.syntax.specs.Tree.{Monitor, all}
 use Rattle.syntax.specs.Decide.Reading.{got, stuck, read}
-use Rattle.meaning.specs.Value.{truth}
 use Rattle.meaning.specs.State.{starts}
+use Rattle.meaning.specs.Kept.{keptAt}
 use Rattle.meaning.specs.Answer.{answer, accepted, refused}
 use Rattle.meaning.specs.Decide.Check.{crowded, pastLimit, misnamed, placesOf, placeOf, leftOf, illRanged, broken, checkMeaning, checkTokens, check}
-use Rattle.meaning.specs.Accepted.{regionsOf}
 
 pub check-1 : (file : List ℕ) → 8192 < length file → check file ≡ refused (answer 1 0 0)
 unfolding check
@@ -59,17 +58,17 @@ module _ (file : List ℕ) (short : length file ≤ 8192) where
             check-7 e = cc by-meaning
 
             module _ (ranges : illRanged 1 (all (m .vars)) (placesOf k-var ts) ≡ none) where
-              pub check-8 : truth (m .keep) (all (m .vars)) (starts (all (m .vars))) ≡ false
+              pub check-8 : keptAt m (starts (all (m .vars))) ≡ false
                   → check file ≡ refused (answer 8 (getD (placesOf k-keep ts) 0 0) 0)
               unfolding checkMeaning
               check-8 e = cc by-meaning
 
-              module _ (start : truth (m .keep) (all (m .vars)) (starts (all (m .vars))) ≡ true) where
-                pub check-9 : {k n : ℕ} → broken (all (m .vars)) (m .keep) 0 (regionsOf (all (m .methods))) ≡ some (k, n)
+              module _ (start : keptAt m (starts (all (m .vars))) ≡ true) where
+                pub check-9 : {k n : ℕ} → broken m ≡ some (k, n)
                     → check file ≡ refused (answer 9 k n)
                 unfolding checkMeaning
                 check-9 e = cc by-meaning
 
-                pub check-0 : broken (all (m .vars)) (m .keep) 0 (regionsOf (all (m .methods))) ≡ none → check file ≡ accepted m
+                pub check-0 : broken m ≡ none → check file ≡ accepted m
                 unfolding checkMeaning
                 check-0 e = cc by-meaning

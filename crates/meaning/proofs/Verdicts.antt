@@ -32,17 +32,18 @@ use Rattle.meaning.proofs.Soundness.{check-meaning-iff}
 use Rattle.meaning.specs.Accepted.{Accepted}
 use Rattle.meaning.specs.Refusal.{Past2, Past3, Past4, Past5, Past6, Refusal, broken, ends-early, ill-ranged, no-file, no-token, past-limit, start-not-kept, too-long, too-many, wrong-name}
 
-pub refusal-number : {file : List ℕ} {a : Answer} → Refusal file a → (1 ≤ a .number) × (a .number ≤ 9)
-refusal-number (too-long h) = (omega arith, omega arith)
-refusal-number (no-token h s) = (omega arith, omega arith)
-refusal-number (too-many p f) = (omega arith, omega arith)
-refusal-number (no-file p f) = (omega arith, omega arith)
-refusal-number (ends-early p v n) = (omega arith, omega arith)
-refusal-number (past-limit p f) = (omega arith, omega arith)
-refusal-number (wrong-name p f) = (omega arith, omega arith)
-refusal-number (ill-ranged p t s) = (omega arith, omega arith)
-refusal-number (start-not-kept p f s) = (omega arith, omega arith)
-refusal-number (broken p t b) = (omega arith, omega arith)
+-- 0 is no refusal
+pub refusal-number : {file : List ℕ} {a : Answer} → Refusal file a → 1 ≤ a .number
+refusal-number (too-long h) = omega arith
+refusal-number (no-token h s) = omega arith
+refusal-number (too-many p f) = omega arith
+refusal-number (no-file p f) = omega arith
+refusal-number (ends-early p v n) = omega arith
+refusal-number (past-limit p f) = omega arith
+refusal-number (wrong-name p f) = omega arith
+refusal-number (ill-ranged p t s) = omega arith
+refusal-number (start-not-kept p f s) = omega arith
+refusal-number (broken p t b) = omega arith
 
 -- Each verdict that says what holds is the check's
 
@@ -270,6 +271,3 @@ module _ (file : List ℕ) where
 
   pub one-verdict : (v w : Verdict) → HasVerdict file v → HasVerdict file w → v ≡ w
   one-verdict v w s t = sym (says file v s) ∙ says file w t
-
-  pub not-both : (m : Monitor) (a : Answer) → Accepted file m → Refusal file a → ⊥
-  not-both m a s t = let e = one-verdict (accepted m) (refused a) s t in different (cc)

@@ -12,6 +12,7 @@ use Rattle.syntax.specs.Token.{Lexeme, name, key, Keyword, k-monitor, k-var, k-
 use Rattle.syntax.specs.Tree.{Expr, Cond, Block, end, then, Stmt, assign, if-then, if-else, Region, Var, Monitor, all, Method, spell}
 use Rattle.meaning.specs.Value.{intOf, less, inRange, truth, exprValue}
 use Rattle.meaning.specs.State.{count, starts}
+use Rattle.meaning.specs.Kept.{keptAt}
 use Rattle.syntax.specs.Spelling.{Cover}
 
 -- 3, 5 and 6 name the first token that offends, by what stands before it
@@ -112,12 +113,12 @@ mutual
 
 -- 9: the body keeps the kept condition and every range from these values
 unfoldable pub Keeps : Monitor → Region → List ℤ → Type 0
-Keeps m r as′ = (bs : List ℤ) × BlockRuns (all (m .vars)) (r .body) as′ bs × (truth (m .keep) (all (m .vars)) bs ≡ true)
+Keeps m r as′ = (bs : List ℤ) × BlockRuns (all (m .vars)) (r .body) as′ bs × (keptAt m bs ≡ true)
 
 -- these values count: they are a state and meet kept condition and guard
 pub record Meets (m : Monitor) (r : Region) (as′ : List ℤ) : Type 0 where
   pub state : State (all (m .vars)) as′
-  pub kept : truth (m .keep) (all (m .vars)) as′ ≡ true
+  pub kept : keptAt m as′ ≡ true
   pub guard : truth (r .guard) (all (m .vars)) as′ ≡ true
 
 -- the regions of all methods, in file order
@@ -133,7 +134,7 @@ IsRegion m k r = getElem? (regionsOf (all (m .methods))) k ≡ some r
 pub record Sound (m : Monitor) : Type 0 where
   pub ranges : GoodRanges (all (m .vars))
   pub few : count (all (m .vars)) ≤ 4096
-  pub start : truth (m .keep) (all (m .vars)) (starts (all (m .vars))) ≡ true
+  pub start : keptAt m (starts (all (m .vars))) ≡ true
   pub keeps : (k : ℕ) (r : Region) (as′ : List ℤ) → IsRegion m k r → Meets m r as′ → Keeps m r as′
 
 -- Accepted: "within document 01's grammar and limits, its kept condition holds at the start, and every region keeps it and every range"

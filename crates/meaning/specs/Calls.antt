@@ -9,8 +9,8 @@ use Rattle.syntax.specs.Tree.{Monitor}
 use Rattle.machine.specs.Monitor.{Place, idle, Threads, Config, threads}
 use Rattle.machine.specs.Rules.{Notices, PlainNotices, TableNotices}
 use Rattle.machine.specs.Decide.Table.{entryOf}
-use Rattle.meaning.specs.Value.{truth}
 use Rattle.meaning.specs.State.{count, stateAt}
+use Rattle.meaning.specs.Kept.{keptAt}
 use Rattle.meaning.specs.Answer.{Answer, answer}
 use Rattle.meaning.specs.Model.{vars, model}
 
@@ -66,14 +66,16 @@ recordOf m c =
       howMany = ones (eachThread threads 0 (c .notified));
     }
 
+-- what a run gives: its record, the file's refusal, or a refusal of the start or of the trace
 pub data Running : Type 0 where
   ran : Record → Running
+  refused-file : Answer → Running
   not-run : Answer → Running
 
 -- 11: "start state number not below the count of states, or kept condition false there"; a state that counts
 pub record Startable (m : Monitor) (s : ℕ) : Type 0 where
   pub below : s < count (vars m)
-  pub keeps : truth (m .keep) (vars m) (stateAt (vars m) s) ≡ true
+  pub keeps : keptAt m (stateAt (vars m) s) ≡ true
 
 -- whom a body notifies, by the source's Figures 4 and 6
 unfoldable pub noticesOf : Monitor → Machine → Notices

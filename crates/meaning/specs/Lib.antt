@@ -1,5 +1,6 @@
 pub mod Value
 pub mod State
+pub mod Kept
 pub mod Answer
 pub mod Accepted
 pub mod Refusal

@@ -11,7 +11,7 @@ use Rattle.meaning.specs.Decide.Check.{check}
 use Rattle.meaning.specs.Model.{vars, model}
 use Rattle.meaning.specs.Hex.{hex2}
 use Rattle.meaning.specs.Decide.Table.{tableOf}
-use Rattle.meaning.specs.Calls.{Machine, plain-machine, table-machine, Record, Running, ran, not-run}
+use Rattle.meaning.specs.Calls.{Machine, plain-machine, table-machine, Record, Running, ran, refused-file, not-run}
 use Rattle.meaning.specs.Decide.Calls.{runFrom}
 
 unfoldable pub hex4 : ℕ → List ℕ
@@ -41,6 +41,7 @@ recordLine r = hex2 0 ++ (valueDigits (r .values) ++ (placeDigits (r .places) ++
 
 unfoldable pub runLine : Running → List ℕ
 runLine (ran r) = recordLine r
+runLine (refused-file a) = refusalLine a
 runLine (not-run a) = refusalLine a
 
 -- a machine's line for a trace, from the start values

@@ -10,8 +10,9 @@ use Rattle.syntax.specs.Bytes.{sameBytes}
 use Rattle.syntax.specs.Token.{Lexeme, name, key, number, mark, isMark, isKey}
 use Rattle.syntax.specs.Tree.{Cond, only, just, constant, end, Region, Method, Var, Monitor, all, spellCond}
 use Rattle.machine.specs.Monitor as machine
-use Rattle.meaning.specs.Value.{truth, runBlock}
+use Rattle.meaning.specs.Value.{truth, outcome}
 use Rattle.meaning.specs.State.{count, stateAt, numberOf}
+use Rattle.meaning.specs.Kept.{keptAt}
 use Rattle.meaning.specs.Accepted.{regionsOf}
 
 unfoldable pub sameLexeme : Lexeme → Lexeme → Bool
@@ -87,10 +88,10 @@ module _ (m : Monitor) where
 
   -- the kept condition
   unfoldable pub kept : ℕ → Bool
-  kept n = ltb n (count vars) && truth (m .keep) vars (stateAt vars n)
+  kept n = ltb n (count vars) && keptAt m (stateAt vars n)
 
   unfoldable pub after : ℕ → ℕ → ℕ
-  after r n = numberAfter vars n (runBlock (region r .body) vars (stateAt vars n))
+  after r n = numberAfter vars n (outcome (region r) vars (stateAt vars n))
 
   -- "due at the method's next region, or idle"
   unfoldable pub follows : ℕ → machine.Place

@@ -8,8 +8,8 @@ use lib.ListN.{length}
 use lib.IntN.{ℤ}
 use Rattle.syntax.specs.Token.{k-var, k-keep, Token, Lexeme, Keyword, lexemes, name, key, mark, lbrace, k-monitor}
 use Rattle.syntax.specs.Tree.{Region, Var, Monitor, all, spell, InGrammar, Viable, each, spellVar}
-use Rattle.meaning.specs.Value.{truth}
 use Rattle.meaning.specs.State.{size, count, stateAt, numberOf, starts}
+use Rattle.meaning.specs.Kept.{keptAt}
 use Rattle.meaning.specs.Answer.{answer, Answer, Verdict, accepted, refused}
 use Rattle.meaning.specs.Accepted.{Accepted, GoodRange, GoodRanges, Keeps, Meets, IsRegion, NoneOffends, FirstOffends, Crowded, PastLimit, Misnamed}
 use Rattle.syntax.specs.Spelling.{Cover, Stops}
@@ -104,11 +104,11 @@ pub data Refusal (file : List ℕ) : Answer → Type 0 where
       → Stands ts (upTo m (t .before)) k-var k → Refusal file (answer 7 k 0)
   -- "byte of `keep`": "the kept condition is false at the start values"
   start-not-kept :
-      {ts : List Token} {m : Monitor} {k : ℕ} → Past7 file ts m → truth (m .keep) (all (m .vars)) (starts (all (m .vars))) ≡ false
+      {ts : List Token} {m : Monitor} {k : ℕ} → Past7 file ts m → keptAt m (starts (all (m .vars))) ≡ false
       → Stands ts (upTo m (all (m .vars))) k-keep k → Refusal file (answer 8 k 0)
   -- "lowest region, then lowest state"
   broken :
-      {ts : List Token} {m : Monitor} {k n : ℕ} → Past7 file ts m → truth (m .keep) (all (m .vars)) (starts (all (m .vars))) ≡ true
+      {ts : List Token} {m : Monitor} {k n : ℕ} → Past7 file ts m → keptAt m (starts (all (m .vars))) ≡ true
       → FirstBroken m k n → Refusal file (answer 9 k n)
 
 -- the verdict of a file, in words

@@ -5,7 +5,7 @@ use mathlib.Core.List.{List, [], _∷_}
 use mathlib.Core.Option.{Option, none, some}
 use lib.IntN.{ℤ, pos, negsuc, negℤ, _+ℤ_, _-ℤ_}
 use Rattle.syntax.specs.Bytes.{sameBytes}
-use Rattle.syntax.specs.Tree.{Int, plain, negated, Atom, literal, variable, Sign, added, taken, Term, Expr, Comparison, eq, ne, lt, le, gt, ge, Cond, only, or, Conj, just, and, Simple, negation, bracketed, constant, compare, Block, end, then, Stmt, assign, if-then, if-else, Var}
+use Rattle.syntax.specs.Tree.{Int, plain, negated, Atom, literal, variable, Sign, added, taken, Term, Expr, Comparison, eq, ne, lt, le, gt, ge, Cond, only, or, Conj, just, and, Simple, negation, bracketed, constant, compare, Block, end, then, Stmt, assign, if-then, if-else, Region, Var}
 
 unfoldable pub intOf : Int → ℤ
 intOf (plain n) = pos n
@@ -90,3 +90,7 @@ unfoldable mutual
   runStmt (assign x e) vs as′ = assigned vs as′ x (exprValue vs as′ e)
   runStmt (if-then c b) vs as′ = elim (truth c vs as′) [ true ↦ runBlock b vs as′ | false ↦ some as′ ]
   runStmt (if-else c a b) vs as′ = elim (truth c vs as′) [ true ↦ runBlock a vs as′ | false ↦ runBlock b vs as′ ]
+
+-- the outcome of a region's body from some values: the values after it, or none, a fault
+unfoldable pub outcome : Region → List Var → List ℤ → Option (List ℤ)
+outcome r vs as′ = runBlock (r .body) vs as′

@@ -3,6 +3,7 @@
 use Prim.Native.Nat.{ℕ, _≤_}
 use native.Mathlib.Omega.{arith}
 use mathlib.Core.Path.{_≡_, refl}
+use mathlib.Core.Bool.{true}
 use mathlib.Core.List.{List}
 use lib.ListN.{length, replicate, length-replicate}
 use lib.IntN.{ℤ}
@@ -49,10 +50,11 @@ module _ (file : List ℕ) (r : code.Answer) (is : Is r (check file)) where
 
 -- a run: the refusal with no record, or the run of the monitor
 module _ (file bytes : List ℕ) (start : ℕ) (w : Machine) where
-  pub not-loaded : (r : Running) → Is (r .answer) (check file) → (r .answer .number ≡ 0 → ⊥) → NoRecord (r .record)
+  pub not-loaded : (r : Running) → Is (r .answer) (check file) → (r .answer .number ≡ 0 → ⊥) → NoRecord (r .record) → r .«of_file» ≡ true
       → Runs (running file bytes start w) r
   unfolding Is answerOf running Runs
-  not-loaded r is other none = let (a, e) = refusal-of file (r .answer) is other in rw (e, running) (rw e at is, none)
+  not-loaded r is other none whose =
+      let (a, e) = refusal-of file (r .answer) is other in rw (e, running) (rw e at is, none, whose)
 
   pub ran-loaded : (r : Running) (a : code.Answer) → Is a (check file) → a .number ≡ 0
       → ((m : Monitor) → check file ≡ accepted m → Runs (runFrom m w start bytes) r) → Runs (running file bytes start w) r

@@ -126,6 +126,7 @@ fn run_loaded(
         return Running {
             answer: verdict,
             record: run::no_record(),
+            of_file: true,
         };
     }
     let bounds = loaded.bounds;

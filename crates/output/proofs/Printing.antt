@@ -3,28 +3,25 @@ use Prim.Native.Nat.{ℕ, _+_, _*_, _<_, _≤_}
 use native.Mathlib.Omega.{arith}
 use native.Mathlib.Nat.{zero-add}
 use mathlib.Core.Path.{_≡_, refl, sym, ap, _∙_, subst}
-use mathlib.Core.Bool.{Bool, true, false, _&&_}
-use mathlib.Core.Logic.{⊎-elim}
+use mathlib.Core.Bool.{true, false}
 use mathlib.Core.List.{List, _++_}
 use lib.ListN.{length, take, drop, length-append}
 use lib.Seq.{length-take-le, take-all, take-take}
-use lib.Dec.{ltb}
-use borrow.Author.Tests.{ltb-true, lt-ltb}
 use Rattle.meaning.specs.Answer.{Answer, answer, Verdict, accepted, refused}
 use Rattle.meaning.specs.Decide.Check.{check}
 use Rattle.meaning.specs.Model.{model}
-use Rattle.logic.proofs.Bools.{both, and, clash}
-use Rattle.meaning.proofs.Verdicts.{refusal-number, accepted-iff, refused-iff}
+use Rattle.logic.proofs.Bools.{clash}
+use Rattle.meaning.proofs.Verdicts.{accepted-iff, refused-iff}
 use Rattle.meaning.proofs.Sizes.{sizes}
-use Rattle.meaning.specs.Calls.{Machine, plain-machine, table-machine, ran, not-run}
+use Rattle.meaning.specs.Calls.{Machine, plain-machine, table-machine, ran, refused-file, not-run}
 use Rattle.meaning.specs.Decide.Calls.{place, running}
 use Rattle.meaning.specs.Calls as calls
-use Rattle.demands.specs.Demand1.{PlacesAs, file-refused, too-short, placed}
+use Rattle.demands.specs.Demand1.{PlacesAs, file-refused, too-short, placed, RunsAs, no-monitor, no-start, bad-line, frame-refused, all-allowed}
+use Rattle.meaning.specs.Refusal.{Refusal}
 use Rattle.demands.proofs.Demand1.{place-iff, accepted-writes-table, running-iff}
-use Rattle.demands.specs.Demand3.{runAnswer}
 use Rattle.meaning.specs.Lines.{refusalLine, recordLine, runLine, machineLine, placer, runner}
 use Rattle.demands.specs.Widths.{AnswerFits, RunFits}
-use Rattle.demands.proofs.Widths.{refusal-fits, running-fits, trace-number, line-short, table-short}
+use Rattle.demands.proofs.Widths.{refusal-fits, running-fits, line-short, table-short}
 use Rattle.answers.specs.Says.{Says}
 use Rattle.answers.specs.declared.Answer as code
 use Rattle.run.specs.Results.{Runs}
@@ -99,6 +96,7 @@ module _ (r : Running) {before after : List ℕ} {at n : ℕ} (room : at + 47 �
       → (x : calls.Running) → Runs x r → RunFits x → Writes (runLine x) before at n after
   unfolding Runs RunFits runLine
   refusal-written other put (ran rec) s f = absurd (other (s .0 .number))
+  refusal-written other put (refused-file a) s f = answer-written (r .answer) put (s .0) f (omega arith)
   refusal-written other put (not-run a) s f = answer-written (r .answer) put (s .0) f (omega arith)
 
   pub record-written : r .answer .number ≡ 0
@@ -109,14 +107,20 @@ module _ (r : Running) {before after : List ℕ} {at n : ℕ} (room : at + 47 �
   record-written z put (ran rec) s f =
       let held = s .1 in
       put rec (record { counted = held .vars; held = held .values; places = held .places; digits = f }) (omega (arith, held .vars, f .few))
+  record-written z put (refused-file a) s f = absurd (omega (arith, s .0 .number, f .refuses))
   record-written z put (not-run a) s f = absurd (omega (arith, s .0 .number, f .refuses))
 
 -- ---- the runs
 
-number-is : (x : calls.Running) (r : Running) → Runs x r → r .answer .number ≡ runAnswer x .number
-unfolding Runs runAnswer
-number-is (ran rec) r s = s .0 .number
-number-is (not-run a) r s = s .0 .number
+-- whose refusal it is
+of-file-refused : {file bytes : List ℕ} {s : ℕ} {w : Machine} {x : calls.Running} → RunsAs file bytes s w x → (r : Running)
+    → Runs x r → r .«of_file» ≡ true → (a : Answer) × Refusal file a
+unfolding Runs
+of-file-refused (no-monitor {a} q) r s h = (a, q)
+of-file-refused (no-start a n) r s h = clash h (s .2)
+of-file-refused (bad-line a k t) r s h = clash h (s .2)
+of-file-refused (frame-refused a k q e t) r s h = clash h (s .2)
+of-file-refused (all-allowed a k q e t) r s h = clash h (s .2)
 
 -- a trace is judged by its first 65,536 bytes
 pub runner-cut : (file trace : List ℕ) → runner file (take 65536 trace) ≡ runner file trace
@@ -135,39 +139,25 @@ module _ (file trace : List ℕ) (short : length trace ≤ 65536) where
   end-fits w = running-fits (running-iff file trace (startOf (check file)) w (end w) .0 refl) short
 
   module _ (r : Running) (runs : Runs (end plain-machine) r) where
-    abbrev of-file : Bool
-    of-file = ltb 0 (r .answer .number) && ltb (r .answer .number) 10
+    -- the file's refusal: one line
+    one-line : r .«of_file» ≡ true → runLine (end plain-machine) ≡ runner file trace
+    unfolding running runLine runner
+    one-line h =
+        let x = running-iff file trace (startOf (check file)) plain-machine (end plain-machine) .0 refl in
+        let (a, q) = of-file-refused x r runs h in
+        rw (refused-iff file a .1 q, running, runner)
 
-    -- the number of a file's refusal: one line
-    one-line : of-file ≡ true → runLine (end plain-machine) ≡ runner file trace
-    unfolding running runLine runner runAnswer
-    one-line h = go (check file) refl
-      where
-        go : (v : Verdict) → check file ≡ v → runLine (end plain-machine) ≡ runner file trace
-        go (refused a) e = rw (e, running, runner)
-        go (accepted m) e =
-            let b = both (ltb 0 (r .answer .number)) (ltb (r .answer .number) 10) h in
-            let low = ltb-true 0 (r .answer .number) (b .0) in
-            let high = ltb-true (r .answer .number) 10 (b .1) in
-            let n = number-is (end plain-machine) r runs in
-            ⊎-elim (λ x. absurd (omega arith)) (λ x. absurd (omega arith))
-            (trace-number (accepted-iff file m .0 e) (running-iff file trace (startOf (check file)) plain-machine (end plain-machine) .0 refl))
-
-    -- any other: a line for each machine
-    two-lines : of-file ≡ false → runLine (end plain-machine) ++ runLine (end table-machine) ≡ runner file trace
-    unfolding running runLine machineLine runner runAnswer startOf
+    -- any other end: a line for each machine
+    two-lines : r .«of_file» ≡ false → runLine (end plain-machine) ++ runLine (end table-machine) ≡ runner file trace
+    unfolding running runLine machineLine runner startOf Runs
     two-lines h = go (check file) refl
       where
         go : (v : Verdict) → check file ≡ v → runLine (end plain-machine) ++ runLine (end table-machine) ≡ runner file trace
         go (accepted m) e = rw (e, running, runner, take-all 65536 trace short, e)
-        go (refused a) e =
-            let s = number-is (end plain-machine) r runs in
-            let n = refusal-number (refused-iff file a .0 e) in
-            let same : r .answer .number ≡ a .number = s ∙ rw (e, running) in
-            clash (and (lt-ltb 0 (r .answer .number) (omega arith)) (lt-ltb (r .answer .number) 10 (omega arith))) h
+        go (refused a) e = clash ((rw (e, running) at runs) .2) h
 
     module _ {before mid : List ℕ} {next : ℕ} (one : Writes (runLine (end plain-machine)) before 0 next mid) where
-      pub one-printed : of-file ≡ true → Prints (runner file trace) before next mid
+      pub one-printed : r .«of_file» ≡ true → Prints (runner file trace) before next mid
       one-printed h = rw (← one-line h) (written-prints one)
 
       pub next-room : 4096 ≤ length before → next + 47 ≤ length mid
@@ -176,7 +166,7 @@ module _ (file trace : List ℕ) (short : length trace ≤ 65536) where
           let same = written-length one (omega arith) in
           omega (arith, one .behind)
 
-      pub two-printed : {after : List ℕ} {n : ℕ} → of-file ≡ false → 4096 ≤ length before
+      pub two-printed : {after : List ℕ} {n : ℕ} → r .«of_file» ≡ false → 4096 ≤ length before
           → Writes (runLine (end table-machine)) mid next n after → Prints (runner file trace) before n after
       two-printed h room two =
           let line = line-short (end plain-machine) (end-fits plain-machine) in

@@ -1,10 +1,8 @@
 // What the programs print, from byte 0 of a lent buffer; the bytes behind are kept. Each call states every byte, for every input.
 use run::Running;
 ghost use mathlib.Core.Path.{_≡_};
-ghost use mathlib.Core.Bool.{_&&_};
 ghost use Prim.Native.Nat.{_+_, _≤_};
 ghost use lib.ListN.{length};
-ghost use lib.Dec.{ltb};
 ghost use Rattle.meaning.specs.Calls as calls;
 ghost use Rattle.meaning.specs.Lines.{runLine, placer, runner};
 ghost use Rattle.demands.specs.Widths.{RunFits};
@@ -51,18 +49,10 @@ fn put_runs(file: &[u8], trace: &[u8], out: &mut [u8]) -> usize
     let plain = both.plain;
     let table = both.table;
     let next = put_running(out, 0, plain);
-    let answer = plain.answer;
-    if is_of_file(answer.number) {
+    if plain.of_file {
         return next;
     }
     put_running(out, next, table)
-}
-
-// Is a number one of a file's refusals?
-fn is_of_file(number: u8) -> bool
-    ensures { λ r. ⌜ r ≡ ltb 0 number && ltb number 10 ⌝ }
-{
-    (0 < number) & (number < 10)
 }
 
 // A machine's line at a place of the buffer: its refusal, or its record.

@@ -9,7 +9,7 @@ use Rattle.machine.specs.Monitor as machine
 use Rattle.stepper.specs.Shown.{placeOf}
 use Rattle.meaning.specs.Held.{Offset}
 use Rattle.meaning.specs.Answer.{answer}
-use Rattle.meaning.specs.Calls.{Machine, plain-machine, table-machine, ran, not-run}
+use Rattle.meaning.specs.Calls.{Machine, plain-machine, table-machine, ran, refused-file, not-run}
 use Rattle.meaning.specs.Calls as calls
 use Rattle.run.specs.declared.Record as code
 use Rattle.run.specs.declared.Running.{Running}
@@ -33,8 +33,9 @@ pub record NoRecord (r : code.Record) : Type 0 where
   pub how-many : r .«how_many» ≡ 0
 
 unfoldable pub Runs : calls.Running → Running → Type 0
-Runs (ran rec) r = Says (r .answer) (answer 0 0 0) × Records rec (r .record)
-Runs (not-run a) r = Says (r .answer) a × NoRecord (r .record)
+Runs (ran rec) r = Says (r .answer) (answer 0 0 0) × Records rec (r .record) × (r .«of_file» ≡ false)
+Runs (refused-file a) r = Says (r .answer) a × NoRecord (r .record) × (r .«of_file» ≡ true)
+Runs (not-run a) r = Says (r .answer) a × NoRecord (r .record) × (r .«of_file» ≡ false)
 
 -- the choice of a machine
 unfoldable pub machineOf : Bool → Machine

@@ -35,10 +35,11 @@ pub struct Record {
     pub how_many: u32,
 }
 
-// What a run answers, and its record where the trace is accepted.
+// What a run answers, its record where the trace is accepted, and whether the answer is the file's refusal.
 pub struct Running {
     pub answer: Answer,
     pub record: Record,
+    pub of_file: bool,
 }
 
 pub fn no_record() -> Record
@@ -53,13 +54,14 @@ pub fn no_record() -> Record
     }
 }
 
-// A refusal, with no record.
+// A refusal of the start or of the trace, with no record.
 fn not_run(number: u8, first: usize, second: usize) -> Running
     ensures { λ r. ⌜ Runs (calls.not-run (answer number first second)) r ⌝ }
 {
     Running {
         answer: answers::say(number, first, second),
         record: no_record(),
+        of_file: false,
     }
 }
 
@@ -136,5 +138,6 @@ pub fn run_from(
     Running {
         answer: answers::say(0, 0, 0),
         record: record_of(bounds, last),
+        of_file: false,
     }
 }

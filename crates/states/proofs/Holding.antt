@@ -2,24 +2,22 @@
 use Prim.Native.Nat.{ℕ, _+_, _≤_, _<_}
 use native.Mathlib.Omega.{arith}
 use mathlib.Core.Path.{_≡_, sym, ap, _∙_}
-use mathlib.Core.Bool.{true, false, not, _&&_}
+use mathlib.Core.Bool.{true}
 use mathlib.Core.List.{List, [], _∷_, _++_}
 use lib.ListN.{length, length-append}
 use lib.Dec.{ltb}
 use borrow.Author.Tests.{ltb-true, lt-ltb}
-use lib.IntN.{ℤ}
-use Rattle.syntax.specs.Tree.{Var, Cond, Region, Monitor}
+use Rattle.syntax.specs.Tree.{Cond, Region, Monitor}
 use Rattle.syntax.proofs.Grammar.{one-cond}
 use Rattle.logic.specs.Tests.{bit}
 use Rattle.machine.specs.Held.{Held}
 use Rattle.machine.specs.Decide.Table.{runs}
-use Rattle.meaning.specs.Value.{truth, runBlock}
 use Rattle.meaning.specs.State.{count, stateAt}
+use Rattle.meaning.specs.Kept.{keptAt}
 use Rattle.meaning.specs.Model.{vars, regions, guards, guardsOf, placeIn, guardOf, kept, holds, after, model}
 use Rattle.meaning.proofs.ModelLaws.{guard-below, kept-below, keeps}
-use Rattle.meaning.specs.Decide.Check.{keptAfter, breaks}
 use Rattle.meaning.specs.Accepted.{Sound}
-use Rattle.logic.proofs.Bools.{both, split, not-true}
+use Rattle.logic.proofs.Bools.{both, split}
 use Rattle.states.specs.Rows.{TruthRow, GuardNumbers, KeptAll, HoldsAll, AfterAll}
 
 -- a file has at most as many guards as regions
@@ -36,36 +34,27 @@ guards-of-few found (r ∷ rs) =
     let l = length-append found (r .guard ∷ []) in
     rw e (omega arith))
 
--- a region breaks where kept condition and guard hold and the body does not keep
-pub breaks-parts : (vs : List Var) (keep : Cond) (q : Region) (as′ : List ℤ) → breaks vs keep q as′ ≡ true
-    → (truth keep vs as′ ≡ true) × (truth (q .guard) vs as′ ≡ true) × (keptAfter vs keep (runBlock (q .body) vs as′) ≡ false)
-unfolding breaks
-breaks-parts vs keep q as′ h =
-    let t = both (truth keep vs as′ && truth (q .guard) vs as′) (not (keptAfter vs keep (runBlock (q .body) vs as′))) h in
-    let u = both (truth keep vs as′) (truth (q .guard) vs as′) (t .0) in
-    (u .0, u .1, not-true (t .1))
-
 module _ (m : Monitor) where
   pub guards-few : length (guards m) ≤ length (regions m)
   unfolding guards
   guards-few = omega (arith, guards-of-few [] (regions m))
 
-  pub kept-truth : (s : ℕ) → kept m s ≡ true → (s < count (vars m)) × (truth (m .keep) (vars m) (stateAt (vars m) s) ≡ true)
+  pub kept-truth : (s : ℕ) → kept m s ≡ true → (s < count (vars m)) × (keptAt m (stateAt (vars m) s) ≡ true)
   unfolding kept
   kept-truth s h =
-      let t = both (ltb s (count (vars m))) (truth (m .keep) (vars m) (stateAt (vars m) s)) h in
+      let t = both (ltb s (count (vars m))) (keptAt m (stateAt (vars m) s)) h in
       (ltb-true s (count (vars m)) (t .0), t .1)
 
-  kept-is : (s : ℕ) → s < count (vars m) → kept m s ≡ truth (m .keep) (vars m) (stateAt (vars m) s)
+  kept-is : (s : ℕ) → s < count (vars m) → kept m s ≡ keptAt m (stateAt (vars m) s)
   unfolding kept
   kept-is s h = rw (lt-ltb s (count (vars m)) h)
 
   -- the row of the kept condition is that of its truth
-  pub row-of-kept : (row : List ℕ) → KeptAll m row → TruthRow (vars m) (m .keep) row
+  pub row-of-kept : (row : List ℕ) → KeptAll m row → TruthRow (vars m) (keptAt m) row
   unfolding KeptAll TruthRow
   row-of-kept row k s h = k s h ∙ ap bit (kept-is s h)
 
-  pub kept-of-row : (row : List ℕ) → TruthRow (vars m) (m .keep) row → KeptAll m row
+  pub kept-of-row : (row : List ℕ) → TruthRow (vars m) (keptAt m) row → KeptAll m row
   unfolding KeptAll TruthRow
   kept-of-row row k s h = k s h ∙ ap bit (sym (kept-is s h))
 

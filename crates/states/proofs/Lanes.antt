@@ -1,4 +1,4 @@
--- Laws of rows: a Boolean as a number, a store behind what is done, lanes, a body's run from one state, and a region's row of states.
+-- Laws of rows: a Boolean as a number, a store behind what is done, lanes, a body's outcome from one state, and a region's row.
 use Prim.Native.Nat.{ℕ, _+_, _*_, _/_, _%_, _≤_, _<_}
 use native.Mathlib.Omega.{arith}
 use mathlib.Core.Path.{_≡_, refl, sym, ap, subst, _∙_}
@@ -11,23 +11,20 @@ use lib.Dec.{eqb, ltb}
 use lib.IntN.{ℤ}
 use borrow.Author.Tests.{eqb-true, eqb-false, eq-eqb, ne-eqb, lt-ltb}
 use Rattle.sets.specs.Set.{member}
-use Rattle.syntax.specs.Tree.{Var, Cond, Region}
+use Rattle.syntax.specs.Tree.{Var, Region}
 use Rattle.logic.specs.Tests.{bit}
-use Rattle.meaning.specs.Value.{truth, runBlock}
+use Rattle.meaning.specs.Value.{outcome}
 use Rattle.meaning.specs.State.{count, stateAt, numberOf}
-use Rattle.meaning.specs.Decide.Check.{keptAfter, breaks}
-use Rattle.meaning.specs.Model.{numberAfter}
-use Rattle.meaning.specs.Accepted.{State}
-use Rattle.logic.proofs.Bools.{and, split, clash, true-not, is-false}
+use Rattle.meaning.specs.Accepted.{State, GoodRanges}
+use Rattle.logic.proofs.Bools.{split, clash, is-false}
 use Rattle.meaning.specs.Held.{Biased}
-use Rattle.meaning.proofs.StateLaws.{state-at, number-below, state-at-number}
-use Rattle.meaning.proofs.BodyLaws.{block-runs-of-run, block-runs-state}
+use Rattle.meaning.proofs.StateLaws.{state-at, number-below}
+use Rattle.meaning.proofs.BodyLaws.{runs-of-outcome, block-runs-state}
 use Rattle.evaluator.specs.Coding.{RunAs, lane}
 use Rattle.variables.specs.Bounded.{Bounded}
 use Rattle.variables.specs.declared.Bounds.{Bounds}
-use Rattle.states.specs.Rows.{TruthRow}
-use Rattle.states.proofs.Holding.{breaks-parts}
-use Rattle.states.specs.Promises.{Sixteen, Body, Ended, Moved, Below, RowDone}
+use Rattle.states.specs.Rows.{faultMark, outcomeNumber, Moved, Row}
+use Rattle.states.specs.Promises.{Sixteen}
 
 pub bit-true : {b : Bool} → b ≡ true → bit b ≡ 1
 unfolding bit
@@ -108,110 +105,47 @@ module _ {vs : List Var} {P : ℕ → ℕ → Type 0} (s : ℕ) where
       let same : (s + 1) / 16 * 16 ≡ s / 16 * 16 = omega arith in
       rw same h
 
--- A body's run from one state
+-- A body's outcome from one state
 
-pub fault : (vs : List Var) (keep : Cond) (ok : Bool) (values : List ℕ) (o : Option (List ℤ)) → RunAs vs ok values o → ok ≡ false
-    → keptAfter vs keep o ≡ false
-unfolding RunAs keptAfter
-fault vs keep ok values none h e = refl
-fault vs keep ok values (some bs) h e = clash (h .0) e
+-- it is a state, where it is none of a fault
+pub outcome-state : {vs : List Var} → GoodRanges vs → (q : Region) (s : ℕ) → s < count vs → (bs : List ℤ)
+    → outcome q vs (stateAt vs s) ≡ some bs → State vs bs
+outcome-state {vs} good q s low bs e = block-runs-state (runs-of-outcome q (stateAt vs s) e) (state-at good s low)
 
--- a run ends in a state with a number, at which the kept condition's truth is held
-pub record Reached (vs : List Var) (keep : Cond) (kept : List ℕ) (s : ℕ) (o : Option (List ℤ)) (to : ℕ) : Type 0 where
-  pub below : to < count vs
-  pub number : to ≡ numberAfter vs s o
-  pub held : getD kept to 0 ≡ bit (keptAfter vs keep o)
+pub fault-marked : (vs : List Var) (ok : Bool) (values : List ℕ) (o : Option (List ℤ)) → RunAs vs ok values o → ok ≡ false
+    → faultMark ≡ outcomeNumber vs o
+unfolding RunAs outcomeNumber
+fault-marked vs ok values none h e = refl
+fault-marked vs ok values (some bs) h e = clash (h .0) e
 
-module _ {vs : List Var} {keep : Cond} {q : Region} {kinds values : List ℕ} {bounds : Bounds} {at guard : ℕ} {kept holds : List ℕ}
-    (b : Body vs keep q kinds values bounds at guard kept holds) (s : ℕ) (low : s < count vs) (ok : Bool) (ended : List ℕ) (to : ℕ)
+module _ {vs : List Var} {bounds : Bounds} (b : Bounded vs bounds) (q : Region) (s : ℕ) (low : s < count vs) (ok : Bool)
+    (ended : List ℕ) (to : ℕ)
     (number : (as′ : List ℤ) → Bounded vs bounds → Biased vs as′ ended → State vs as′ → to ≡ numberOf vs as′)
   where
-    reached-by : (o : Option (List ℤ)) → runBlock (q .body) vs (stateAt vs s) ≡ o → RunAs vs ok ended o → ok ≡ true
-        → Reached vs keep kept s o to
-    unfolding RunAs keptAfter numberAfter TruthRow
+    reached-by : (o : Option (List ℤ)) → outcome q vs (stateAt vs s) ≡ o → RunAs vs ok ended o → ok ≡ true
+        → (to < count vs) × (to ≡ outcomeNumber vs o)
+    unfolding RunAs outcomeNumber
     reached-by none e h t = clash t h
     reached-by (some bs) e h t =
-        let st : State vs bs = block-runs-state (block-runs-of-run (q .body) (stateAt vs s) e) (state-at (b .bounded .good) s low) in
-        let n = number bs (b .bounded) (h .1) st in
-        let few : to < count vs = rw n (number-below (b .bounded .good) st) in
-        record {
-          below = few;
-          number = n;
-          held =
-              b .by-kept to few
-              ∙ ap (λ as′. bit (truth keep vs as′)) (ap (stateAt vs) n ∙ state-at-number (b .bounded .good) st);
-        }
+        let st = outcome-state (b .good) q s low bs e in
+        let n = number bs b (h .1) st in
+        (rw n (number-below (b .good) st), n)
 
-    pub reached : RunAs vs ok ended (runBlock (q .body) vs (stateAt vs s)) → ok ≡ true
-        → Reached vs keep kept s (runBlock (q .body) vs (stateAt vs s)) to
-    reached h t = reached-by (runBlock (q .body) vs (stateAt vs s)) refl h t
-
-pub ended-fault : {vs : List Var} {keep : Cond} {s : ℕ} {o : Option (List ℤ)} → keptAfter vs keep o ≡ false → Ended vs keep s o 4096
-ended-fault f = record { keeps = λ h. absurd (omega arith); number = λ h. absurd (omega arith); faults = λ _. f }
-
-pub ended-kept : {vs : List Var} {keep : Cond} {kept : List ℕ} {s : ℕ} {o : Option (List ℤ)} {to : ℕ} → Reached vs keep kept s o to
-    → to < 4096 → getD kept to 0 ≡ 1 → Ended vs keep s o to
-ended-kept {vs} {keep} {o = o} r low e =
-    record {
-      keeps = λ _. bit-one (keptAfter vs keep o) (sym (r .held) ∙ e);
-      number = λ _. r .number;
-      faults = λ h. absurd (omega arith);
-    }
+    -- a run that stays in its ranges ends in a state, and has its number for its outcome
+    pub reached : RunAs vs ok ended (outcome q vs (stateAt vs s)) → ok ≡ true
+        → (to < count vs) × (to ≡ outcomeNumber vs (outcome q vs (stateAt vs s)))
+    reached h t = reached-by (outcome q vs (stateAt vs s)) refl h t
 
 -- A region's row of states
 
-breaks-true : (vs : List Var) (keep : Cond) (q : Region) (as′ : List ℤ) → truth keep vs as′ ≡ true → truth (q .guard) vs as′ ≡ true
-    → keptAfter vs keep (runBlock (q .body) vs as′) ≡ false → breaks vs keep q as′ ≡ true
-unfolding breaks
-breaks-true vs keep q as′ k g f = and (and k g) (true-not f)
+module _ {vs : List Var} {keep : List ℤ → Bool} {q : Region} where
+  pub row-none : (f : ℕ → ℕ) → Row vs keep q 0 f
+  row-none f = record { each = λ s h. absurd (omega arith) }
 
-module _ {vs : List Var} {keep : Cond} {q : Region} where
-  pub stays : (s : ℕ) → (truth keep vs (stateAt vs s) ≡ true → truth (q .guard) vs (stateAt vs s) ≡ true → ⊥) → Moved vs keep q s 0
-  stays s n =
-      record {
-        quiet = λ _. is-false (λ h. let t = breaks-parts vs keep q (stateAt vs s) h in n (t .0) (t .1));
-        number = λ _ k g. absurd (n k g);
-        broken = λ h. absurd (omega arith);
-      }
-
-  pub runs-on : {s to : ℕ} → truth keep vs (stateAt vs s) ≡ true → truth (q .guard) vs (stateAt vs s) ≡ true
-      → Ended vs keep s (runBlock (q .body) vs (stateAt vs s)) to → Moved vs keep q s to
-  runs-on {s} k g e =
-      record {
-        quiet = λ h. is-false (λ t. clash (e .keeps h) (breaks-parts vs keep q (stateAt vs s) t .2));
-        number = λ h _ _. e .number h;
-        broken = λ h. breaks-true vs keep q (stateAt vs s) k g (e .faults h);
-      }
-
-  pub below-none : (f : ℕ → ℕ) → Below vs keep q 0 f
-  below-none f = record { quiet = λ k h. absurd (omega arith); number = λ k h. absurd (omega arith) }
-
-  pub below-more : (xs : List ℕ) (n to : ℕ) → n < length xs → to < 4096 → Below vs keep q n (λ k. getD xs k 0) → Moved vs keep q n to
-      → Below vs keep q (n + 1) (λ k. getD (set xs n to) k 0)
-  below-more xs n to h small b t =
-      record {
-        quiet = passed (λ k. breaks vs keep q (stateAt vs k) ≡ false) n (b .quiet) (t .quiet small);
-        number =
-            stored
-            (λ k x. truth keep vs (stateAt vs k) ≡ true → truth (q .guard) vs (stateAt vs k) ≡ true
-            → x ≡ numberAfter vs k (runBlock (q .body) vs (stateAt vs k)))
-            xs n to h (b .number) (t .number small);
-      }
+  pub row-more : (xs : List ℕ) (n to : ℕ) → n < length xs → Row vs keep q n (λ k. getD xs k 0) → Moved vs keep q n to
+      → Row vs keep q (n + 1) (λ k. getD (set xs n to) k 0)
+  row-more xs n to h r t = record { each = stored (λ k x. Moved vs keep q k x) xs n to h (r .each) t }
 
   -- a row whose numbers are those of another
-  pub below-same : {n : ℕ} {f : ℕ → ℕ} (g : ℕ → ℕ) → Below vs keep q n f → ((k : ℕ) → k < n → g k ≡ f k) → Below vs keep q n g
-  below-same g b e = record { quiet = b .quiet; number = λ k h x y. e k h ∙ b .number k h x y }
-
-  pub row-whole : (f : ℕ → ℕ) → Below vs keep q (count vs) f → RowDone vs keep q f 4096
-  row-whole f b =
-      record {
-        whole = λ _. b;
-        below = λ h. absurd (omega arith);
-        first = λ h. absurd (omega arith);
-        lower = λ h. absurd (omega arith);
-      }
-
-  pub row-first : (f g : ℕ → ℕ) (s to : ℕ) → count vs ≤ 4096 → s < count vs → 4096 ≤ to → Below vs keep q s g → Moved vs keep q s to
-      → RowDone vs keep q f s
-  row-first f g s to few low big b t =
-      record { whole = λ h. absurd (omega arith); below = λ _. low; first = λ _. t .broken big; lower = λ _. b .quiet }
+  pub row-same : {n : ℕ} {f : ℕ → ℕ} (g : ℕ → ℕ) → Row vs keep q n f → ((k : ℕ) → k < n → g k ≡ f k) → Row vs keep q n g
+  row-same g r e = record { each = λ s h. record { number = λ x y. e s h ∙ r .each s h .number x y } }

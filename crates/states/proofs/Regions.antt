@@ -1,32 +1,24 @@
--- Laws of all regions and guards: what a row of the slices is given, and what the rows say of refusal 9.
-use Prim.Native.Nat.{ℕ, zero, suc, _+_, _*_, _≤_, _<_}
+-- Laws of all regions: what a row of the slices is given.
+use Prim.Native.Nat.{ℕ, _+_, _*_, _≤_, _<_}
 use native.Mathlib.Omega.{arith}
-use mathlib.Core.Path.{_≡_, refl, sym, ap, subst, _∙_}
-use mathlib.Core.Bool.{false}
-use mathlib.Core.List.{List, [], _∷_, _++_}
-use mathlib.Core.Option.{some, Option·some-injective}
-use lib.ListN.{length, getD, getElem?, take, drop, length-append, length-drop, List·getD-append}
+use mathlib.Core.Path.{_≡_, ap, _∙_}
+use mathlib.Core.Bool.{Bool}
+use mathlib.Core.List.{List, _++_}
+use lib.ListN.{length, getD, take, drop, length-append, length-drop, List·getD-append}
 use lib.Seq.{getD-take, getD-append-add, length-take-le}
+use lib.IntN.{ℤ}
 use Rattle.sets.specs.Set.{member}
 use Rattle.syntax.specs.Token.{Lexeme}
-use Rattle.syntax.specs.Tree.{Region, Monitor}
+use Rattle.syntax.specs.Tree.{Monitor}
 use Rattle.syntax.proofs.Grammar.{one-cond}
-use Rattle.machine.specs.Decide.Table.{runs}
-use Rattle.meaning.specs.Value.{truth}
-use Rattle.meaning.specs.State.{count, stateAt}
-use Rattle.meaning.specs.Decide.Check.{breaks, broken}
-use Rattle.meaning.specs.Model.{vars, regions, region, guardOf, kept, holds, after, model}
-use Rattle.meaning.proofs.ModelLaws.{region-numbered, guard-below, holds-guard}
-use Rattle.meaning.specs.Accepted.{IsRegion}
-use Rattle.logic.proofs.Bools.{both, no-some}
-use Rattle.meaning.proofs.Soundness.{broken-none-iff, broken-some-iff}
+use Rattle.meaning.specs.State.{count}
+use Rattle.meaning.specs.Model.{vars, regions, region, guardOf}
+use Rattle.meaning.proofs.ModelLaws.{guard-below, holds-guard}
 use Rattle.evaluator.specs.Coding.{Codes}
 use Rattle.variables.specs.Bounded.{Bounded}
 use Rattle.variables.specs.declared.Bounds.{Bounds}
-use Rattle.states.specs.declared.Broken.the-variants.{Never, At}
-use Rattle.states.specs.Rows.{BodiesAt, GuardNumbers, KeptAll, HoldsAll, AfterAll, AfterAs}
-use Rattle.states.proofs.Holding.{row-of-kept, kept-truth}
-use Rattle.states.specs.Promises.{Body, Below, RowDone}
+use Rattle.states.specs.Rows.{TruthRow, BodiesAt, GuardNumbers, HoldsAll, Row}
+use Rattle.states.specs.Promises.{Looked, Body}
 
 -- A row that is lent, and has come back into its slice
 
@@ -62,7 +54,18 @@ module _ (xs ys : List ℕ) (g n : ℕ) (w : n ≡ 4096) (room : g * 4096 + n �
 
 -- What a region's row is given
 
-pub record Filling (m : Monitor) (kinds values : List ℕ) (bounds : Bounds) (ats numbers : List ℕ) (n : ℕ) (kept′ holds′ : List ℕ)
+pub looked : (m : Monitor) (keep : List ℤ → Bool) (numbers kept′ holds′ : List ℕ) → GuardNumbers m numbers
+    → TruthRow (vars m) keep kept′ → HoldsAll m holds′ → (r : ℕ) → r < length (regions m)
+    → Looked (vars m) keep (region m r) (getD numbers r 0) kept′ holds′
+unfolding GuardNumbers HoldsAll
+looked m keep numbers kept′ holds′ ns k h r low =
+    record {
+      by-kept = k;
+      by-guard = λ s below.
+          ap (member (getD holds′ s 0)) (ns r low) ∙ h (guardOf m r) s (guard-below m r low) below ∙ holds-guard m one-cond r s;
+    }
+
+pub record Filling (m : Monitor) (keep : List ℤ → Bool) (kinds values : List ℕ) (bounds : Bounds) (ats numbers : List ℕ) (n : ℕ) (kept′ holds′ : List ℕ)
     : Type 0 where
   pub ls : List Lexeme
   pub codes : Codes (vars m) ls kinds values
@@ -72,15 +75,14 @@ pub record Filling (m : Monitor) (kinds values : List ℕ) (bounds : Bounds) (at
   pub few-regions : n ≤ 16
   pub bodies : BodiesAt m ls ats
   pub by-number : GuardNumbers m numbers
-  pub long : 4096 ≤ length kept′
-  pub by-kept : KeptAll m kept′
+  pub by-kept : TruthRow (vars m) keep kept′
   pub by-holds : HoldsAll m holds′
 
-pub filling : (m : Monitor) (kinds values : List ℕ) (bounds : Bounds) (ats numbers : List ℕ) (n : ℕ) (kept′ holds′ : List ℕ) (ls : List Lexeme)
+pub filling : (m : Monitor) (keep : List ℤ → Bool) (kinds values : List ℕ) (bounds : Bounds) (ats numbers : List ℕ) (n : ℕ) (kept′ holds′ : List ℕ) (ls : List Lexeme)
     → Codes (vars m) ls kinds values → Bounded (vars m) bounds → length ls ≤ 8192 → n ≡ length (regions m) → n ≤ 16 → BodiesAt m ls ats
-    → GuardNumbers m numbers → 4096 ≤ length kept′ → KeptAll m kept′ → HoldsAll m holds′
-    → Filling m kinds values bounds ats numbers n kept′ holds′
-filling m kinds values bounds ats numbers n kept′ holds′ ls c b few counted small bodies ns long k h =
+    → GuardNumbers m numbers → TruthRow (vars m) keep kept′ → HoldsAll m holds′
+    → Filling m keep kinds values bounds ats numbers n kept′ holds′
+filling m keep kinds values bounds ats numbers n kept′ holds′ ls c b few counted small bodies ns k h =
     record {
       ls = ls;
       codes = c;
@@ -90,23 +92,15 @@ filling m kinds values bounds ats numbers n kept′ holds′ ls c b few counted 
       few-regions = small;
       bodies = bodies;
       by-number = ns;
-      long = long;
       by-kept = k;
       by-holds = h;
     }
 
-module _ {m : Monitor} {kinds values : List ℕ} {bounds : Bounds} {ats numbers : List ℕ} {n : ℕ} {kept′ holds′ : List ℕ}
-    (f : Filling m kinds values bounds ats numbers n kept′ holds′) (r : ℕ) (low : r < n)
+module _ {m : Monitor} {keep : List ℤ → Bool} {kinds values : List ℕ} {bounds : Bounds} {ats numbers : List ℕ} {n : ℕ} {kept′ holds′ : List ℕ}
+    (f : Filling m keep kinds values bounds ats numbers n kept′ holds′) (r : ℕ) (low : r < n)
   where
-    by-guard : (s : ℕ) → s < count (vars m)
-        → member (getD holds′ s 0) (getD numbers r 0) ≡ truth (region m r .guard) (vars m) (stateAt (vars m) s)
-    unfolding GuardNumbers HoldsAll
-    by-guard s below =
-        let h : r < length (regions m) = omega (arith, f .counted) in
-        ap (member (getD holds′ s 0)) (f .by-number r h) ∙ f .by-holds (guardOf m r) s (guard-below m r h) below ∙ holds-guard m one-cond r s
-
     pub body-of : (at : ℕ) → at ≡ getD ats r 0
-        → Body (vars m) (m .keep) (region m r) kinds values bounds at (getD numbers r 0) kept′ holds′
+        → Body (vars m) keep (region m r) kinds values bounds at (getD numbers r 0) kept′ holds′
     unfolding BodiesAt
     body-of at p =
         let t = f .bodies r (omega (arith, f .counted)) in
@@ -117,53 +111,9 @@ module _ {m : Monitor} {kinds values : List ℕ} {bounds : Bounds} {ats numbers 
           bounded = f .bounded;
           few = f .few;
           spelled = rw p (t .1);
-          long = f .long;
-          by-kept = row-of-kept m kept′ (f .by-kept);
-          by-guard = by-guard;
+          looked = looked m keep numbers kept′ holds′ (f .by-number) (f .by-kept) (f .by-holds) r (omega (arith, f .counted));
         }
 
--- Refusal 9
-
-numbered-below : {A : Type 0} (xs : List A) (i : ℕ) (a : A) → getElem? xs i ≡ some a → i < length xs
-numbered-below [] i a e = no-some e
-numbered-below (x ∷ xs) zero a e = omega arith
-numbered-below (x ∷ xs) (suc i) a e = let h = numbered-below xs i a e in omega arith
-
-module _ (m : Monitor) (rows : List ℕ) where
-  -- region j breaks nowhere, and its row is done
-  abbrev pub Done : ℕ → Type 0
-  Done j = Below (vars m) (m .keep) (region m j) (count (vars m)) (λ s. getD rows (j * 4096 + s) 0)
-
-  -- the region with a number is the one that the number finds
-  quiet-at : (j : ℕ) (q : Region) → getElem? (regions m) j ≡ some q → Done j → (s : ℕ) → s < count (vars m)
-      → breaks (vars m) (m .keep) q (stateAt (vars m) s) ≡ false
-  unfolding IsRegion regions
-  quiet-at j q e d s h =
-      let same : region m j ≡ q =
-      Option·some-injective _ _ (sym (region-numbered m j (numbered-below (regions m) j q e)) ∙ e) in
-      subst (λ (u : Region). breaks (vars m) (m .keep) u (stateAt (vars m) s) ≡ false) same (d .quiet s h)
-
-  after-all : ((j : ℕ) → j < length (regions m) → Done j) → AfterAll m rows
-  unfolding AfterAll runs model after
-  after-all d r s h t =
-      let u = both (kept m s) (holds m (guardOf m r) s) t in
-      let k = kept-truth m s (u .0) in
-      d r h .number s (k .0) (k .1) (sym (holds-guard m one-cond r s) ∙ u .1)
-
-  pub never : ((j : ℕ) → j < length (regions m) → Done j) → AfterAs m Never (broken (vars m) (m .keep) 0 (regions m)) rows
-  unfolding AfterAs
-  never d =
-      let e = broken-none-iff (vars m) (m .keep) (regions m) .1 (λ j q e. quiet-at j q e (d j (numbered-below (regions m) j q e))) in
-      rw e (refl, after-all d)
-
-  pub stops : (r s : ℕ) (f : ℕ → ℕ) → r < length (regions m) → s < 4096 → RowDone (vars m) (m .keep) (region m r) f s
-      → ((j : ℕ) → j < r → Done j) → AfterAs m (At r s) (broken (vars m) (m .keep) 0 (regions m)) rows
-  unfolding AfterAs IsRegion regions
-  stops r s f h low t d =
-      let e = broken-some-iff (vars m) (m .keep) (regions m) r s .1 (
-        region m r,
-        region-numbered m r h,
-        (t .below low, t .first low, t .lower low),
-        λ j q l e. quiet-at j q e (d j l),
-      ) in
-      rw e refl
+-- a region's row is done
+abbrev pub Done : Monitor → (List ℤ → Bool) → List ℕ → ℕ → Type 0
+Done m keep rows j = Row (vars m) keep (region m j) (count (vars m)) (λ s. getD rows (j * 4096 + s) 0)

@@ -1,23 +1,23 @@
--- What the functions inside promise to each other: values and truths in lanes, a body's run from one state, and a region's row of states up to one.
+-- What the functions inside promise to each other: values and truths in lanes, a body's outcomes, and what the slices say of
+-- refusal 9.
 use Prim.Native.Nat.{ℕ, _+_, _*_, _<_, _≤_}
 use mathlib.Core.Path.{_≡_}
-use mathlib.Core.Bool.{true, false}
+use mathlib.Core.Bool.{Bool, true, false, not, _&&_, _||_}
 use mathlib.Core.List.{List, _∷_, _++_}
-use mathlib.Core.Option.{Option}
 use lib.ListN.{length, getD, drop}
+use lib.Dec.{eqb}
 use lib.IntN.{ℤ}
 use Rattle.syntax.specs.Token.{Lexeme, mark, rbrace}
 use Rattle.sets.specs.Set.{member}
 use Rattle.syntax.specs.Tree.{Monitor, Var, Cond, Region, spellCond, spellBlock}
-use Rattle.meaning.specs.Value.{truth, runBlock}
+use Rattle.meaning.specs.Value.{truth}
 use Rattle.meaning.specs.State.{count, stateAt}
-use Rattle.meaning.specs.Decide.Check.{keptAfter, breaks}
-use Rattle.meaning.specs.Model.{vars, guards, noGuard, numberAfter}
+use Rattle.meaning.specs.Model.{vars, guards, noGuard}
 use Rattle.meaning.specs.Held.{Biased}
 use Rattle.evaluator.specs.Coding.{Codes, EndsCond, lane}
 use Rattle.variables.specs.Bounded.{Bounded}
 use Rattle.variables.specs.declared.Bounds.{Bounds}
-use Rattle.states.specs.Rows.{TruthRow, GuardsAt}
+use Rattle.states.specs.Rows.{TruthRow, GuardsAt, faultMark, Moved}
 
 -- a condition begins at a token
 pub record Condition (vs : List Var) (c : Cond) (kinds values : List ℕ) (bounds : Bounds) (at : ℕ) : Type 0 where
@@ -63,46 +63,40 @@ Truth vs c known j s = member known j ≡ truth c vs (stateAt vs s)
 abbrev pub Truths : Monitor → List ℕ → ℕ → ℕ → Type 0
 Truths m known j s = (g : ℕ) → g < length (guards m) → Truth (vars m) (getD (guards m) g noGuard) (getD known g 0) j s
 
--- a region's body begins at a token, and the truth of kept condition and guard at every state is held
-pub record Body (vs : List Var) (keep : Cond) (q : Region) (kinds values : List ℕ) (bounds : Bounds) (at guard : ℕ) (kept holds : List ℕ)
-    : Type 0 where
+-- the truth of a test and of a region's guard at every state is held
+pub record Looked (vs : List Var) (keep : List ℤ → Bool) (q : Region) (guard : ℕ) (kept holds : List ℕ) : Type 0 where
+  pub by-kept : TruthRow vs keep kept
+  pub by-guard : (s : ℕ) → s < count vs → member (getD holds s 0) guard ≡ truth (q .guard) vs (stateAt vs s)
+
+-- and its body begins at a token
+pub record Body (vs : List Var) (keep : List ℤ → Bool) (q : Region) (kinds values : List ℕ) (bounds : Bounds) (at guard : ℕ)
+    (kept holds : List ℕ) : Type 0 where
   pub ls : List Lexeme
   pub us : List Lexeme
   pub codes : Codes vs ls kinds values
   pub bounded : Bounded vs bounds
   pub few : length ls ≤ 8192
   pub spelled : drop at ls ≡ spellBlock (q .body) ++ (mark rbrace ∷ us)
-  pub long : 4096 ≤ length kept
-  pub by-kept : TruthRow vs keep kept
-  pub by-guard : (s : ℕ) → s < count vs → member (getD holds s 0) guard ≡ truth (q .guard) vs (stateAt vs s)
+  pub looked : Looked vs keep q guard kept holds
 
--- the number of the state after a run from state s that keeps, and 4096 or more where it does not
-pub record Ended (vs : List Var) (keep : Cond) (s : ℕ) (o : Option (List ℤ)) (to : ℕ) : Type 0 where
-  pub keeps : to < 4096 → keptAfter vs keep o ≡ true
-  pub number : to < 4096 → to ≡ numberAfter vs s o
-  pub faults : 4096 ≤ to → keptAfter vs keep o ≡ false
-
--- the number of the state after a region's body, where it may run and keeps; 4096 or more where it breaks
-pub record Moved (vs : List Var) (keep : Cond) (q : Region) (s to : ℕ) : Type 0 where
-  pub quiet : to < 4096 → breaks vs keep q (stateAt vs s) ≡ false
-  pub number :
-      to < 4096 → truth keep vs (stateAt vs s) ≡ true → truth (q .guard) vs (stateAt vs s) ≡ true
-      → to ≡ numberAfter vs s (runBlock (q .body) vs (stateAt vs s))
-  pub broken : 4096 ≤ to → breaks vs keep q (stateAt vs s) ≡ true
-
-abbrev pub Moves : List Var → Cond → Region → List ℕ → ℕ → ℕ → Type 0
+abbrev pub Moves : List Var → (List ℤ → Bool) → Region → List ℕ → ℕ → ℕ → Type 0
 Moves vs keep q moves j s = Moved vs keep q s (getD moves j 0)
 
--- a region breaks at none of the states below n, and f has the number of the state after its body
-pub record Below (vs : List Var) (keep : Cond) (q : Region) (n : ℕ) (f : ℕ → ℕ) : Type 0 where
-  pub quiet : (k : ℕ) → k < n → breaks vs keep q (stateAt vs k) ≡ false
-  pub number :
-      (k : ℕ) → k < n → truth keep vs (stateAt vs k) ≡ true → truth (q .guard) vs (stateAt vs k) ≡ true
-      → f k ≡ numberAfter vs k (runBlock (q .body) vs (stateAt vs k))
+-- What the slices say of refusal 9
 
--- the first state at which a region breaks, or 4096 and the numbers after its body at every state
-pub record RowDone (vs : List Var) (keep : Cond) (q : Region) (f : ℕ → ℕ) (r : ℕ) : Type 0 where
-  pub whole : 4096 ≤ r → Below vs keep q (count vs) f
-  pub below : r < 4096 → r < count vs
-  pub first : r < 4096 → breaks vs keep q (stateAt vs r) ≡ true
-  pub lower : r < 4096 → (k : ℕ) → k < r → breaks vs keep q (stateAt vs k) ≡ false
+-- kept condition and guard hold at a state
+unfoldable pub runsBy : List ℕ → List ℕ → ℕ → ℕ → Bool
+runsBy kept holds guard s = eqb (getD kept s 0) 1 && member (getD holds s 0) guard
+
+-- an outcome is a fault, or a state at which the kept condition is false
+unfoldable pub failsBy : List ℕ → ℕ → Bool
+failsBy kept to = eqb to faultMark || not (eqb (getD kept to 0) 1)
+
+unfoldable pub breaksBy : List ℕ → List ℕ → ℕ → ℕ → ℕ → Bool
+breaksBy kept holds guard s to = failsBy kept to && runsBy kept holds guard s
+
+-- the lowest number below n that passes a test, or n where none does
+pub record Lowest (p : ℕ → Bool) (n r : ℕ) : Type 0 where
+  pub within : r ≤ n
+  pub passes : r < n → p r ≡ true
+  pub lower : (k : ℕ) → k < r → p k ≡ false

@@ -1,25 +1,26 @@
 -- What the slices hold once the states have been gone through.
 use Prim.Native.Nat.{ℕ, _+_, _*_, _<_}
 use mathlib.Core.Path.{_≡_}
-use mathlib.Core.Bool.{true}
+use mathlib.Core.Bool.{Bool, true}
 use mathlib.Core.List.{List, _∷_, _++_}
 use mathlib.Core.Option.{Option, none, some}
 use lib.ListN.{length, getD, drop}
+use lib.IntN.{ℤ}
 use Rattle.sets.specs.Set.{member}
 use Rattle.syntax.specs.Token.{Lexeme, mark, rbrace}
-use Rattle.syntax.specs.Tree.{Var, Cond, Monitor, spellCond, spellBlock}
+use Rattle.syntax.specs.Tree.{Var, Region, Monitor, spellCond, spellBlock}
 use Rattle.logic.specs.Tests.{bit}
 use Rattle.machine.specs.Decide.Table.{runs}
-use Rattle.meaning.specs.Value.{truth}
-use Rattle.meaning.specs.State.{count, stateAt}
+use Rattle.meaning.specs.Value.{truth, outcome}
+use Rattle.meaning.specs.State.{count, stateAt, numberOf}
 use Rattle.meaning.specs.Model.{vars, regions, guards, region, guardOf, noGuard, kept, holds, after, model}
 use Rattle.evaluator.specs.Coding.{EndsCond}
 use Rattle.states.specs.declared.Broken.{Broken}
 use Rattle.states.specs.declared.Broken.the-variants.{Never, At}
 
--- a condition's truth at every state
-unfoldable pub TruthRow : List Var → Cond → List ℕ → Type 0
-TruthRow vs c row = (s : ℕ) → s < count vs → getD row s 0 ≡ bit (truth c vs (stateAt vs s))
+-- the truth at every state of a test of its values
+unfoldable pub TruthRow : List Var → (List ℤ → Bool) → List ℕ → Type 0
+TruthRow vs p row = (s : ℕ) → s < count vs → getD row s 0 ≡ bit (p (stateAt vs s))
 
 -- each guard, and each region's body, begins at these tokens
 unfoldable pub GuardsAt : Monitor → List Lexeme → List ℕ → Type 0
@@ -46,7 +47,32 @@ unfoldable pub AfterAll : Monitor → List ℕ → Type 0
 AfterAll m rows =
     (r s : ℕ) → r < length (regions m) → runs (model m) r s ≡ true → getD rows (r * 4096 + s) 0 ≡ after m r s
 
--- the answer for refusal 9, and the states where there is none
-unfoldable pub AfterAs : Monitor → Broken → Option (ℕ × ℕ) → List ℕ → Type 0
-AfterAs m b none rows = (b ≡ Never) × AfterAll m rows
-AfterAs m b (some rn) rows = b ≡ At (rn .0) (rn .1)
+-- The outcome of a body as a number: that of the state after it, or the mark of a fault, which is no state's
+
+abbrev pub faultMark : ℕ
+faultMark = 4096
+
+unfoldable pub outcomeNumber : List Var → Option (List ℤ) → ℕ
+outcomeNumber vs none = faultMark
+outcomeNumber vs (some as′) = numberOf vs as′
+
+-- the outcome of a region's body from state s, where a test of the values and the guard hold there
+pub record Moved (vs : List Var) (keep : List ℤ → Bool) (q : Region) (s to : ℕ) : Type 0 where
+  pub number :
+      keep (stateAt vs s) ≡ true → truth (q .guard) vs (stateAt vs s) ≡ true
+      → to ≡ outcomeNumber vs (outcome q vs (stateAt vs s))
+
+-- the same for every state below n
+pub record Row (vs : List Var) (keep : List ℤ → Bool) (q : Region) (n : ℕ) (f : ℕ → ℕ) : Type 0 where
+  pub each : (s : ℕ) → s < n → Moved vs keep q s (f s)
+
+-- and for every region: that of region r from state s at r * 4096 + s
+unfoldable pub Outcomes : Monitor → (List ℤ → Bool) → List ℕ → Type 0
+Outcomes m keep rows =
+    (r : ℕ) → r < length (regions m)
+    → Row (vars m) keep (region m r) (count (vars m)) (λ s. getD rows (r * 4096 + s) 0)
+
+-- the answer for refusal 9
+unfoldable pub BrokenAs : Broken → Option (ℕ × ℕ) → Type 0
+BrokenAs b none = b ≡ Never
+BrokenAs b (some rn) = b ≡ At (rn .0) (rn .1)

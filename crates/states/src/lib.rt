@@ -1,7 +1,8 @@
 // Goes through the states of a file, sixteen at a time, into lent slices: the truth of the kept condition and the guards that hold
-// at every state, and the state after each region's body; refusal 9 on the way.
+// at every state, and the outcome of each region's body; then refusal 9, by looking those up.
 use variables::Bounds;
 ghost use mathlib.Core.Path.{_≡_};
+ghost use mathlib.Core.Bool.{Bool};
 ghost use mathlib.Core.List.{List, _++_};
 ghost use Prim.Native.Nat.{ℕ, _+_, _%_, _<_, _≤_};
 ghost use lib.ListN.{drop, length, getD};
@@ -12,14 +13,18 @@ ghost use Rattle.syntax.specs.Tree.{Monitor, Var, Cond, Region, spellCond};
 ghost use Rattle.logic.specs.Tests.{bit};
 ghost use Rattle.meaning.specs.State.{count, stateAt};
 ghost use Rattle.meaning.specs.Model.{vars, regions, guards};
-ghost use Rattle.meaning.specs.Value.{truth, runBlock};
+ghost use Rattle.meaning.specs.Value.{truth, outcome};
+ghost use Rattle.meaning.specs.Kept.{keptAt};
 ghost use Rattle.meaning.specs.Held.{Biased};
 ghost use Rattle.meaning.specs.Decide.Check.{broken};
 ghost use Rattle.evaluator.specs.Coding.{Codes, EndsCond, RunAs, lane};
 ghost use Rattle.variables.specs.Bounded.{Bounded};
-ghost use Rattle.states.specs.Rows.{TruthRow, BodiesAt, HoldsAll, AfterAs, KeptAll, GuardNumbers};
+ghost use Rattle.states.specs.Rows.{TruthRow, BodiesAt, HoldsAll, KeptAll, GuardNumbers, outcomeNumber, Moved, Row, Outcomes, BrokenAs};
 ghost use Rattle.variables.specs.declared.Bounds.{Bounds};
-ghost use Rattle.states.specs.Promises.{Put, Condition, Guards, Sixteen, Values, Truths, Body, Ended, Moved, Moves, RowDone};
+ghost use Rattle.states.specs.Promises.{Put, Condition, Guards, Sixteen, Values, Truths, Body, Moves, runsBy, failsBy, breaksBy, Lowest};
+
+// The outcome of a body that leaves a range: no state's number.
+const FAULT: u16 = 4096;
 
 // Every region keeps, or the lowest region and then the lowest state from which one does not (9).
 pub enum Broken {
@@ -83,7 +88,7 @@ fn bit_of(b: bool) -> u8
 // The truth of the condition that begins at a token, 1 or 0, at every state.
 pub fn fill_row(kinds: &[u8], values: &[u16], bounds: Bounds, at: usize, row: &mut [u8])
     ensures { λ _. ⌜ ((vs : List Var) (c : Cond) → Condition vs c (now (kinds .entry)) (now (values .entry)) bounds at
-        → 4096 ≤ length (now (row .entry)) → TruthRow vs c (now (row .exit))) ⌝ }
+        → 4096 ≤ length (now (row .entry)) → TruthRow vs (truth c vs) (now (row .exit))) ⌝ }
 {
     let states = bounds.states;
     if 4096 < states {
@@ -191,27 +196,43 @@ fn lane_of(lanes: &[u16; 96], j: usize) -> [u16; 6]
     ]
 }
 
-// The number of the state after a body that was run in lane j; 4096 where it leaves a range or ends with the kept condition false.
-fn state_after(bounds: Bounds, ok: u16, ended: &[u16; 96], j: usize, kept: &[u8]) -> u16
+// A number of a slice, 0 past its end.
+fn byte_at(xs: &[u8], at: usize) -> u8
+    ensures { λ r. ⌜ r ≡ getD (now (xs .entry)) at 0 ⌝ }
+{
+    if at < xs.len() { xs[at] } else { 0 }
+}
+
+fn number_at(xs: &[u16], at: usize) -> u16
+    ensures { λ r. ⌜ r ≡ getD (now (xs .entry)) at 0 ⌝ }
+{
+    if at < xs.len() { xs[at] } else { 0 }
+}
+
+// Do kept condition and guard hold at a state?
+fn may_run(kept: &[u8], holds: &[u16], guard: u8, s: usize) -> bool
+    ensures { λ r. ⌜ r ≡ runsBy (now (kept .entry)) (now (holds .entry)) guard s ⌝ }
+{
+    if byte_at(kept, s) != 1 {
+        return false;
+    }
+    sets::has(number_at(holds, s), guard as u32)
+}
+
+// The outcome of a body that was run in lane j: the number of the state after it, or a fault where it left a range.
+fn state_after(bounds: Bounds, ok: u16, ended: &[u16; 96], j: usize) -> u16
     requires { ⌜ j < 16 ⌝ }
-    ensures { λ r. ⌜ ((vs : List Var) (keep : Cond) (q : Region) (kinds values holds : List ℕ) (at guard s : ℕ)
-        → Body vs keep q kinds values bounds at guard (now (kept .entry)) holds → s < count vs
-        → RunAs vs (member ok j) (lane (now (ended .entry)) j) (runBlock (q .body) vs (stateAt vs s))
-        → Ended vs keep s (runBlock (q .body) vs (stateAt vs s)) r) ⌝ }
+    ensures { λ r. ⌜ ((vs : List Var) (q : Region) (s : ℕ) → Bounded vs bounds → s < count vs
+        → RunAs vs (member ok j) (lane (now (ended .entry)) j) (outcome q vs (stateAt vs s))
+        → r ≡ outcomeNumber vs (outcome q vs (stateAt vs s))) ⌝ }
 {
     if !sets::has(ok, j as u32) {
-        return 4096;
+        return FAULT;
     }
     let values = lane_of(ended, j);
     let to = variables::number_of(bounds, values);
-    if kept.len() <= to {
-        return 4096;
-    }
     if 4096 <= to {
-        return 4096;
-    }
-    if kept[to] != 1 {
-        return 4096;
+        return FAULT;
     }
     to as u16
 }
@@ -227,19 +248,16 @@ fn moved(
     holds: &[u16],
     s: usize,
 ) -> u16
-    requires { ⌜ (j < 16) × (s < length (now kept)) × (s < length (now holds)) ⌝ }
-    ensures { λ r. ⌜ ((vs : List Var) (keep : Cond) (q : Region) (kinds values : List ℕ) (at : ℕ)
+    requires { ⌜ j < 16 ⌝ }
+    ensures { λ r. ⌜ ((vs : List Var) (keep : List ℤ → Bool) (q : Region) (kinds values : List ℕ) (at : ℕ)
         → Body vs keep q kinds values bounds at guard (now (kept .entry)) (now (holds .entry)) → s < count vs
-        → RunAs vs (member ok j) (lane (now (ended .entry)) j) (runBlock (q .body) vs (stateAt vs s))
+        → RunAs vs (member ok j) (lane (now (ended .entry)) j) (outcome q vs (stateAt vs s))
         → Moved vs keep q s r) ⌝ }
 {
-    if kept[s] != 1 {
+    if !may_run(kept, holds, guard, s) {
         return 0;
     }
-    if !sets::has(holds[s], guard as u32) {
-        return 0;
-    }
-    state_after(bounds, ok, ended, j, kept)
+    state_after(bounds, ok, ended, j)
 }
 
 // The same for the sixteen states from one on, with the body that begins at a token run from them.
@@ -255,8 +273,7 @@ fn moves_from(
     moves: &mut [u16],
 )
     requires { ⌜ (from ≤ 4080) × (from % 16 ≡ 0) × (length (now moves) ≡ 16) ⌝ }
-    requires { ⌜ (bounds .states ≤ length (now kept)) × (bounds .states ≤ length (now holds)) ⌝ }
-    ensures { λ _. ⌜ ((vs : List Var) (keep : Cond) (q : Region)
+    ensures { λ _. ⌜ ((vs : List Var) (keep : List ℤ → Bool) (q : Region)
         → Body vs keep q (now (kinds .entry)) (now (values .entry)) bounds at guard (now (kept .entry)) (now (holds .entry))
         → Sixteen vs (Moves vs keep q (now (moves .exit))) from) ⌝ }
 {
@@ -278,8 +295,7 @@ fn moves_from(
     }
 }
 
-// The state after the body that begins at a token, from each state where kept condition and guard hold; or the lowest state
-// from which the body leaves a range or ends with the kept condition false.
+// The outcome of the body that begins at a token, from each state where kept condition and guard hold.
 fn after_row(
     kinds: &[u8],
     values: &[u16],
@@ -289,12 +305,11 @@ fn after_row(
     kept: &[u8],
     holds: &[u16],
     after: &mut [u16],
-) -> usize
-    requires { ⌜ (bounds .states ≤ 4096) ⌝ }
-    requires { ⌜ (4096 ≤ length (now kept)) × (4096 ≤ length (now holds)) × (4096 ≤ length (now after)) ⌝ }
-    ensures { λ r. ⌜ ((vs : List Var) (keep : Cond) (q : Region)
+)
+    requires { ⌜ (bounds .states ≤ 4096) × (4096 ≤ length (now after)) ⌝ }
+    ensures { λ _. ⌜ ((vs : List Var) (keep : List ℤ → Bool) (q : Region)
         → Body vs keep q (now (kinds .entry)) (now (values .entry)) bounds at guard (now (kept .entry)) (now (holds .entry))
-        → RowDone vs keep q (λ k. getD (now (after .exit)) k 0) r) ⌝ }
+        → Row vs keep q (count vs) (λ k. getD (now (after .exit)) k 0)) ⌝ }
 {
     let states = bounds.states;
     let mut moves = [0u16; 16];
@@ -303,17 +318,13 @@ fn after_row(
         if s % 16 == 0 {
             moves_from(kinds, values, bounds, at, guard, kept, holds, s, &mut moves);
         }
-        let to = moves[s % 16];
-        if 4096 <= to {
-            return s;
-        }
-        after[s] = to;
+        after[s] = moves[s % 16];
         s += 1;
     }
-    4096
 }
 
-// The state after every region's body, at region * 4096 + state; `ats` has the token at which each body begins.
+// The outcome of every region's body, at region * 4096 + state, from each state where the test that `kept` holds and the
+// guard do; whether it is kept is not asked. `ats` has the token at which each body begins.
 pub fn fill_after(
     kinds: &[u8],
     values: &[u16],
@@ -324,28 +335,22 @@ pub fn fill_after(
     kept: &[u8],
     holds: &[u16],
     after: &mut [u16],
-) -> Broken
-    ensures { λ r. ⌜ ((m : Monitor) (ls : List Lexeme)
+)
+    ensures { λ _. ⌜ ((m : Monitor) (keep : List ℤ → Bool) (ls : List Lexeme)
         → Codes (vars m) ls (now (kinds .entry)) (now (values .entry)) → Bounded (vars m) bounds → length ls ≤ 8192
         → count ≡ length (regions m) → count ≤ 16 → BodiesAt m ls ats → GuardNumbers m «guard_of»
-        → 4096 ≤ length (now (kept .entry)) → 4096 ≤ length (now (holds .entry)) → 65536 ≤ length (now (after .entry))
-        → KeptAll m (now (kept .entry)) → HoldsAll m (now (holds .entry))
-        → AfterAs m r (broken (vars m) (m .keep) 0 (regions m)) (now (after .exit))) ⌝ }
+        → 65536 ≤ length (now (after .entry))
+        → TruthRow (vars m) keep (now (kept .entry)) → HoldsAll m (now (holds .entry))
+        → Outcomes m keep (now (after .exit))) ⌝ }
 {
-    if kept.len() < 4096 {
-        return Broken::Never;
-    }
-    if holds.len() < 4096 {
-        return Broken::Never;
-    }
     if after.len() < 65536 {
-        return Broken::Never;
+        return;
     }
     if 16 < count {
-        return Broken::Never;
+        return;
     }
     if 4096 < bounds.states {
-        return Broken::Never;
+        return;
     }
     let mut r: usize = 0;
     while r < count {
@@ -353,7 +358,7 @@ pub fn fill_after(
         let to = from + 4096;
         let at = wide(ats[r]);
         let guard = guard_of[r];
-        let s = after_row(
+        after_row(
             kinds,
             values,
             bounds,
@@ -363,7 +368,72 @@ pub fn fill_after(
             holds,
             &mut after[from..to],
         );
-        if s < 4096 {
+        r += 1;
+    }
+}
+
+// Is an outcome a fault, or a state at which the kept condition is false?
+fn fails(kept: &[u8], to: u16) -> bool
+    ensures { λ r. ⌜ r ≡ failsBy (now (kept .entry)) to ⌝ }
+{
+    if to == FAULT {
+        return true;
+    }
+    byte_at(kept, wide(to)) != 1
+}
+
+// Does a region break at a state, from which its body has an outcome?
+fn breaks_at(kept: &[u8], holds: &[u16], guard: u8, s: usize, to: u16) -> bool
+    ensures { λ r. ⌜ r ≡ breaksBy (now (kept .entry)) (now (holds .entry)) guard s to ⌝ }
+{
+    if !fails(kept, to) {
+        return false;
+    }
+    may_run(kept, holds, guard, s)
+}
+
+// The lowest state at which a region breaks, by the outcomes of its body; the count of states where it never does.
+fn first_in_row(row: &[u16], states: usize, guard: u8, kept: &[u8], holds: &[u16]) -> usize
+    ensures { λ r. ⌜ Lowest (λ s. breaksBy (now (kept .entry)) (now (holds .entry)) guard s (getD (now (row .entry)) s 0)) states r ⌝ }
+{
+    let mut s: usize = 0;
+    while s < states {
+        if breaks_at(kept, holds, guard, s, number_at(row, s)) {
+            return s;
+        }
+        s += 1;
+    }
+    states
+}
+
+// Every region keeps, or the lowest region and then the lowest state from which the outcome is a fault or is not kept (9).
+pub fn first_broken(
+    bounds: Bounds,
+    guard_of: [u8; 16],
+    count: usize,
+    kept: &[u8],
+    holds: &[u16],
+    after: &[u16],
+) -> Broken
+    ensures { λ r. ⌜ ((m : Monitor) → Bounded (vars m) bounds → count ≡ length (regions m) → count ≤ 16
+        → GuardNumbers m «guard_of» → 65536 ≤ length (now (after .entry))
+        → KeptAll m (now (kept .entry)) → HoldsAll m (now (holds .entry)) → Outcomes m (keptAt m) (now (after .entry))
+        → BrokenAs r (broken m)) ⌝ }
+{
+    if after.len() < 65536 {
+        return Broken::Never;
+    }
+    if 16 < count {
+        return Broken::Never;
+    }
+    let states = bounds.states;
+    let mut r: usize = 0;
+    while r < count {
+        let from = r * 4096;
+        let to = from + 4096;
+        let guard = guard_of[r];
+        let s = first_in_row(&after[from..to], states, guard, kept, holds);
+        if s < states {
             return Broken::At(r, s);
         }
         r += 1;

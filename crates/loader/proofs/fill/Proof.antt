@@ -1,7 +1,8 @@
--- `loader::fill` meets its contract: 8 by the kept condition's truth at the start, 9 by what `fill_after` answers, and the slices as the tables leave them.
+-- `loader::fill` meets its contract: 8 by the kept condition's truth at the start, 9 by what `first_broken` answers,
+-- and the slices as they are filled.
 use Prim.Native.Nat.{_≤_}
 use native.Mathlib.Omega.{arith}
-use mathlib.Core.Path.{_≡_}
+use mathlib.Core.Path.{_≡_, _∙_}
 use mathlib.Core.List.{List}
 use lib.ListN.{length}
 use denote.Ref.{now}
@@ -9,14 +10,14 @@ use borrow.Author.Needs.{needs}
 use Rattle.syntax.specs.Token.{Lexeme}
 use Rattle.syntax.specs.Tree.{Monitor}
 use Rattle.logic.proofs.Bools.{not-true}
-use Rattle.meaning.specs.Value.{truth}
 use Rattle.meaning.specs.State.{starts}
+use Rattle.meaning.specs.Kept.{keptAt}
 use Rattle.meaning.specs.Decide.Check.{broken}
 use Rattle.meaning.specs.Model.{vars, regions}
-use Rattle.states.specs.Rows.{KeptAll, HoldsAll, AfterAs}
-use Rattle.states.proofs.Holding.{kept-of-row}
+use Rattle.states.specs.Rows.{KeptAll, HoldsAll, Outcomes, BrokenAs}
+use Rattle.states.proofs.Holding.{row-of-kept}
 use Rattle.loader.specs.Filling.{Filling}
-use Rattle.loader.proofs.Fills.{keeping, guarding, bodies-of, numbers-of, failed, filled-8, filled-9, filled-0}
+use Rattle.loader.proofs.Fills.{keeping, keep-is-kept, kept-row, guarding, bodies-of, numbers-of, failed, filled-8, filled-9, filled-0}
 use Rattle.loader.proofs.fill.Statement.{statement}
 use Rattle.loader.proofs.fill.Tie as tie
 
@@ -27,21 +28,22 @@ Given c m ls =
     Filling m ls (now (a .kinds)) (now (a .values)) (a .bounds) (a .layout)
 
 holds-at-start : (c : tie.After-holds-at) {m : Monitor} {ls : List Lexeme} → Given c m ls
-    → c .holds-at .result ≡ truth (m .keep) (vars m) (starts (vars m))
+    → c .holds-at .result ≡ keptAt m (starts (vars m))
 holds-at-start c {m} {ls} f =
     let k = keeping f in
-    c .holds-at .ensures (vars m) (starts (vars m)) (k .ls) (k .us) (m .keep) (k .codes) (k .bounded .start-values) (k .spelled) (k .ends)
-    (omega (arith, k .few))
+    c .holds-at .ensures (vars m) (starts (vars m)) (k .ls) (k .us) _ (k .codes) (k .bounded .start-values) (k .spelled)
+    (k .ends) (omega (arith, k .few))
+    ∙ keep-is-kept m (starts (vars m))
 
 -- where the slices have been filled
 abbrev At : Type 0
-At = tie.After-slice-known6
+At = tie.After-fill-after
 
 abbrev row-of : At → tie.After-fill-row
-row-of c = c .before .before .before .before .before .before .before .before .before .before .before .before .before .before .before
+row-of c = c .before .before .before .before .before .before .before .before .before .before .before .before .before
 
 abbrev holds-of : At → tie.After-fill-holds
-holds-of c = c .before .before .before .before .before .before .before .before .before .before
+holds-of c = c .before .before .before .before .before .before .before .before
 
 abbrev start-of : At → tie.After-holds-at
 start-of c = row-of c .before .before .before
@@ -51,19 +53,36 @@ entry-of c = start-of c .before .before .before .before .before .before .before
 
 module _ (c : At) {m : Monitor} {ls : List Lexeme} (f : Given (start-of c) m ls) (l₁ : 4096 ≤ length (now (entry-of c .args .kept)))
     (l₂ : 4096 ≤ length (now (entry-of c .args .holds))) (l₃ : 65536 ≤ length (now (entry-of c .args .after))) where
+  few-regions : entry-of c .args .layout .regions ≤ 16
+  few-regions = omega (arith, f .few-regions, f .laid .region-count)
+
   by-kept : KeptAll m (row-of c .fill-row .last .1 .1 .1 .1 .0)
   by-kept =
-      kept-of-row m (row-of c .fill-row .last .1 .1 .1 .1 .0) (row-of c .fill-row .ensures (vars m) (m .keep) (keeping f) l₁)
+      kept-row m (row-of c .fill-row .last .1 .1 .1 .1 .0) (row-of c .fill-row .ensures (vars m) _ (keeping f) l₁)
 
   by-holds : HoldsAll m (holds-of c .fill-holds .last .1 .1 .1 .1 .1 .0)
   by-holds = holds-of c .fill-holds .ensures m (guarding f _ (holds-of c .before .before .guards-at .ensures)) l₂
 
-  by-after : AfterAs m (c .before .before .fill-after .result) (broken (vars m) (m .keep) 0 (regions m))
-      (c .before .before .fill-after .last .1 .1 .1 .1 .1 .1 .1 .1 .0)
-  by-after =
-      c .before .before .fill-after .ensures m ls (f .codes) (f .bounded) (f .few) (f .laid .region-count)
-      (omega (arith, f .few-regions, f .laid .region-count)) (bodies-of f) (numbers-of f)
-      (omega (arith, row-of c .fill-row .kept .1 .1 .1 .1 .0)) (omega (arith, holds-of c .fill-holds .kept .1 .1 .1 .1 .1 .0)) l₃ by-kept by-holds
+  outcomes : Outcomes m (keptAt m) (c .fill-after .last .1 .1 .1 .1 .1 .1 .1 .1 .0)
+  outcomes =
+      c .fill-after .ensures m (keptAt m) ls (f .codes) (f .bounded) (f .few) (f .laid .region-count) few-regions (bodies-of f)
+      (numbers-of f) l₃ (row-of-kept m _ by-kept) by-holds
+
+-- and have been looked through
+abbrev Through : Type 0
+Through = tie.After-first-broken
+
+abbrev filled : Through → At
+filled c = c .before .before .before .before .before .before
+
+module _ (c : Through) {m : Monitor} {ls : List Lexeme} (f : Given (start-of (filled c)) m ls)
+    (l₁ : 4096 ≤ length (now (entry-of (filled c) .args .kept))) (l₂ : 4096 ≤ length (now (entry-of (filled c) .args .holds)))
+    (l₃ : 65536 ≤ length (now (entry-of (filled c) .args .after))) where
+  broken-as : BrokenAs (c .first-broken .result) (broken m)
+  broken-as =
+      c .first-broken .ensures m (f .bounded) (f .laid .region-count) (few-regions (filled c) f l₁ l₂ l₃) (numbers-of f)
+      (omega (arith, filled c .fill-after .kept .1 .1 .1 .1 .1 .1 .1 .1 .0)) (by-kept (filled c) f l₁ l₂ l₃)
+      (by-holds (filled c) f l₁ l₂ l₃) (outcomes (filled c) f l₁ l₂ l₃)
 
 returns : tie.Need-returns
 returns c m ls f l₁ l₂ l₃ =
@@ -73,13 +92,15 @@ returns c m ls f l₁ l₂ l₃ =
 returns-2 : tie.Need-returns-2
 returns-2 c m ls f l₁ l₂ l₃ =
     let g = c .before .before .before .before in
-    filled-9 m _ _ _ _ _ (holds-at-start (start-of g) f) (failed (row-of g .before .before .if1 .left)) (by-after g f l₁ l₂ l₃) _ _ (c .before .before .r .given .1) (c .say2 .ensures)
+    filled-9 m _ _ _ _ _ (holds-at-start (start-of (filled g)) f) (failed (row-of (filled g) .before .before .if1 .left))
+    (broken-as g f l₁ l₂ l₃) _ _ (c .before .before .r .given .1) (c .say2 .ensures)
 
 returns-3 : tie.Need-returns-3
 returns-3 c m ls f l₁ l₂ l₃ =
     let g = c .before .before .before in
-    filled-0 m _ _ _ _ _ (holds-at-start (start-of g) f) (failed (row-of g .before .before .if1 .left)) (by-after g f l₁ l₂ l₃) (c .before .enum-told .given .1) (by-kept g f l₁ l₂ l₃)
-    (by-holds g f l₁ l₂ l₃) (c .say3 .ensures)
+    filled-0 m _ _ _ _ _ (holds-at-start (start-of (filled g)) f) (failed (row-of (filled g) .before .before .if1 .left))
+    (broken-as g f l₁ l₂ l₃) (c .before .enum-told .given .1) (by-kept (filled g) f l₁ l₂ l₃) (by-holds (filled g) f l₁ l₂ l₃)
+    (outcomes (filled g) f l₁ l₂ l₃) (c .say3 .ensures)
 
 pub fill-spec : {M : Type 1} → statement M
 fill-spec =
@@ -88,6 +109,7 @@ fill-spec =
     (λ c κs. search needs)
     (λ c κs. search needs)
     returns
+    (λ c κs. search needs)
     (λ c κs. search needs)
     (λ c κs. search needs)
     (λ c κs. search needs)

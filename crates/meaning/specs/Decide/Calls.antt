@@ -15,7 +15,7 @@ use Rattle.meaning.specs.Decide.Check.{check}
 use Rattle.meaning.specs.Model.{kept, model}
 use Rattle.meaning.specs.Decide.Table.{tableOf}
 use Rattle.meaning.specs.Decide.Frames.{Frames, frames, none-at, framesOf}
-use Rattle.meaning.specs.Calls.{Machine, Placing, Running, not-run, notPlaced, plain-machine, ran, recordOf, table-machine}
+use Rattle.meaning.specs.Calls.{Machine, Placing, Running, refused-file, not-run, notPlaced, plain-machine, ran, recordOf, table-machine}
 
 -- "success writes the table from byte 0 and keeps the bytes behind it"
 unfoldable pub written : List ℕ → List ℕ → Placing
@@ -51,4 +51,4 @@ unfoldable pub runFrom : Monitor → Machine → ℕ → List ℕ → Running
 runFrom m w s trace = elim (kept m s) [ true ↦ runFrames m w s (framesOf trace) | false ↦ not-run (answer 11 0 0) ]
 
 unfoldable pub running : List ℕ → List ℕ → ℕ → Machine → Running
-running file trace s w = elim (check file) [ accepted m ↦ runFrom m w s trace | refused a ↦ not-run a ]
+running file trace s w = elim (check file) [ accepted m ↦ runFrom m w s trace | refused a ↦ refused-file a ]

@@ -10,10 +10,11 @@ use lib.IntN.{ℤ, pos, negℤ}
 use Rattle.syntax.specs.Bytes.{sameBytes}
 use Rattle.syntax.specs.Token.{Lexeme, name, key, number, mark, Keyword, k-monitor, k-var, k-keep, k-method, k-waituntil, Token, lexemes, isKey}
 use Rattle.syntax.specs.Decide.Scan.{tokens, none-at, tokenize}
-use Rattle.syntax.specs.Tree.{Cond, Region, Var, Monitor, all}
+use Rattle.syntax.specs.Tree.{Region, Var, Monitor, all}
 use Rattle.syntax.specs.Decide.Reading.{got, stuck, read}
-use Rattle.meaning.specs.Value.{intOf, less, inRange, truth, runBlock}
+use Rattle.meaning.specs.Value.{intOf, less, inRange, truth, outcome}
 use Rattle.meaning.specs.State.{size, count, stateAt, starts}
+use Rattle.meaning.specs.Kept.{keptAt}
 use Rattle.meaning.specs.Answer.{Verdict, accepted, answer, refused}
 use Rattle.meaning.specs.Accepted.{closes, opens, regionsOf}
 
@@ -93,14 +94,13 @@ illRanged product (v ∷ vs) ps =
     [ true ↦ illRanged (product * size v) vs (drop 1 ps) | false ↦ some (getD ps 0 0) ]
 
 -- 9: from these values, "meeting kept condition and guard", "the body assigns outside a range at any moment or ends with the
--- kept condition false"
-unfoldable pub keptAfter : List Var → Cond → Option (List ℤ) → Bool
-keptAfter vs keep none = false
-keptAfter vs keep (some as′) = truth keep vs as′
+-- kept condition false"; of a body's outcome, for any test of values
+unfoldable pub keptAfter : (List ℤ → Bool) → Option (List ℤ) → Bool
+keptAfter kept none = false
+keptAfter kept (some as′) = kept as′
 
-unfoldable pub breaks : List Var → Cond → Region → List ℤ → Bool
-breaks vs keep r as′ =
-    truth keep vs as′ && truth (r .guard) vs as′ && not (keptAfter vs keep (runBlock (r .body) vs as′))
+unfoldable pub breaks : List Var → (List ℤ → Bool) → Region → List ℤ → Bool
+breaks vs kept r as′ = kept as′ && truth (r .guard) vs as′ && not (keptAfter kept (outcome r vs as′))
 
 -- the first of n numbers from k on that passes a test
 unfoldable pub firstFrom : ℕ → ℕ → (ℕ → Bool) → Option ℕ
@@ -108,11 +108,14 @@ firstFrom zero k p = none
 firstFrom (suc n) k p = elim (p k) [ true ↦ some k | false ↦ firstFrom n (k + 1) p ]
 
 -- "lowest region, then lowest state"; regions are counted on from k
-unfoldable pub broken : List Var → Cond → ℕ → List Region → Option (ℕ × ℕ)
-broken vs keep k [] = none
-broken vs keep k (r ∷ rs) =
-    elim (firstFrom (count vs) 0 (λ n. breaks vs keep r (stateAt vs n)))
-    [ some n ↦ some (k, n) | none ↦ broken vs keep (k + 1) rs ]
+unfoldable pub brokenFrom : List Var → (List ℤ → Bool) → ℕ → List Region → Option (ℕ × ℕ)
+brokenFrom vs kept k [] = none
+brokenFrom vs kept k (r ∷ rs) =
+    elim (firstFrom (count vs) 0 (λ n. breaks vs kept r (stateAt vs n)))
+    [ some n ↦ some (k, n) | none ↦ brokenFrom vs kept (k + 1) rs ]
+
+unfoldable pub broken : Monitor → Option (ℕ × ℕ)
+broken m = brokenFrom (all (m .vars)) (keptAt m) 0 (regionsOf (all (m .methods)))
 
 -- 7 to 9, of a tree and its tokens
 unfoldable pub checkMeaning : List Token → Monitor → Verdict
@@ -120,10 +123,9 @@ checkMeaning ts m =
     let vs = all (m .vars) in
     elim (illRanged 1 vs (placesOf k-var ts)) [
       | some k ↦ refused (answer 7 k 0)
-      | none ↦ elim (truth (m .keep) vs (starts vs)) [
+      | none ↦ elim (keptAt m (starts vs)) [
         | false ↦ refused (answer 8 (getD (placesOf k-keep ts) 0 0) 0)
-        | true ↦ elim (broken vs (m .keep) 0 (regionsOf (all (m .methods))))
-            [ some rn ↦ refused (answer 9 (rn .0) (rn .1)) | none ↦ accepted m ]
+        | true ↦ elim (broken m) [ some rn ↦ refused (answer 9 (rn .0) (rn .1)) | none ↦ accepted m ]
       ]
     ]
 

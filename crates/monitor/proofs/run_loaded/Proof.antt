@@ -1,4 +1,5 @@
 -- `monitor::run_loaded` meets its contract: a number that is not 0 is a refusal, else the file's monitor runs over the slices that hold it.
+use mathlib.Core.Path.{refl}
 use borrow.Author.Needs.{needs}
 use Rattle.demands.proofs.Demand2.{checked}
 use Rattle.monitor.specs.Results.{EntriesOf}
@@ -7,7 +8,7 @@ use Rattle.monitor.proofs.run_loaded.Statement.{statement}
 use Rattle.monitor.proofs.run_loaded.Tie as tie
 
 returns : tie.Need-returns
-returns c file loads entries = not-loaded file _ _ _ _ (loads .verdict) (c .before .if1 .taken) (c .no-record .ensures)
+returns c file loads entries = not-loaded file _ _ _ _ (loads .verdict) (c .before .if1 .taken) (c .no-record .ensures) refl
 
 returns-2 : tie.Need-returns-2
 unfolding EntriesOf

@@ -1,4 +1,5 @@
 -- `run::not_run` meets its contract: the answer that is said, and no record.
+use mathlib.Core.Path.{refl}
 use borrow.Author.Needs.{needs}
 use Rattle.run.specs.Results.{Runs}
 use Rattle.run.proofs.not_run.Statement.{statement}
@@ -14,7 +15,7 @@ returns : tie.Need-returns
 unfolding Runs
 returns c =
     let s = c .before .say .ensures in
-    (record { number = s .0; first = s .1; second = s .2 }, c .no-record .ensures)
+    (record { number = s .0; first = s .1; second = s .2 }, c .no-record .ensures, refl)
 
 pub not-run-spec : {M : Type 1} → statement M
 not-run-spec = tie.close (tie.spec say-requires no-record-requires returns)

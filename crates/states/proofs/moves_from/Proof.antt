@@ -2,11 +2,15 @@
 use Prim.Native.Nat.{ℕ, _+_, _-_, _≤_, _<_}
 use native.Mathlib.Omega.{arith}
 use mathlib.Core.Path.{_≡_, refl}
+use mathlib.Core.Bool.{Bool}
 use mathlib.Core.List.{List}
 use lib.ListN.{length, getD, length-set}
-use Rattle.syntax.specs.Tree.{Var, Cond, Region}
+use lib.IntN.{ℤ}
+use Rattle.syntax.specs.Tree.{Var, Region}
+use Rattle.meaning.specs.Value.{outcome}
 use Rattle.meaning.specs.State.{count, stateAt}
-use Rattle.states.specs.Promises.{Body, Moved}
+use Rattle.states.specs.Rows.{Moved}
+use Rattle.states.specs.Promises.{Body}
 use Rattle.states.proofs.Lanes.{stored}
 use Rattle.states.proofs.moves_from.Statement.{statement}
 use Rattle.states.proofs.moves_from.Tie as tie
@@ -14,7 +18,7 @@ use Rattle.states.proofs.moves_from.Tie as tie
 abbrev Inv-loop : tie.InvT-loop
 Inv-loop kinds values bounds at guard kept holds from moves₀ states ok ended j₀ moves j =
     (j ≤ 16) × (length moves ≡ length moves₀)
-    × ((vs : List Var) (keep : Cond) (q : Region) → Body vs keep q kinds values bounds at guard kept holds
+    × ((vs : List Var) (keep : List ℤ → Bool) (q : Region) → Body vs keep q kinds values bounds at guard kept holds
     → (i : ℕ) → i < j → from + i < count vs → Moved vs keep q (from + i) (getD moves i 0))
 
 abbrev μ-loop : tie.MeasureT-loop
@@ -28,6 +32,7 @@ returns c vs keep q b =
     record { each = λ i h low. c .before .before .loop .inv .2 vs keep q b i (omega (arith, b .bounded .states)) low }
 
 loop-again : tie.Need-loop-again Inv-loop μ-loop
+unfolding outcome
 loop-again c =
     let i = c .before .before .before .before .loop in
     let g = c .before .before .before .before .before .before in

@@ -1,0 +1,9 @@
+-- The kept condition at some values. Whatever asks for it, 8, 9, 11, the table and the machines, cites this name.
+use mathlib.Core.Bool.{Bool}
+use mathlib.Core.List.{List}
+use lib.IntN.{ℤ}
+use Rattle.syntax.specs.Tree.{Monitor, all}
+use Rattle.meaning.specs.Value.{truth}
+
+unfoldable pub keptAt : Monitor → List ℤ → Bool
+keptAt m as′ = truth (m .keep) (all (m .vars)) as′

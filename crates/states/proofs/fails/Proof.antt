@@ -1,0 +1,27 @@
+-- `states::fails` meets its contract: the mark of a fault, or what is held of the kept condition there.
+use Prim.Native.Nat.{ℕ}
+use mathlib.Core.Path.{ap, _∙_}
+use mathlib.Core.Bool.{not}
+use lib.ListN.{getD}
+use lib.Dec.{eqb}
+use denote.Ref.{now}
+use borrow.Author.Needs.{needs}
+use borrow.Author.Tests.{eq-eqb, ne-eqb}
+use Rattle.states.specs.Promises.{failsBy}
+use Rattle.states.proofs.fails.Statement.{statement}
+use Rattle.states.proofs.fails.Tie as tie
+
+returns : tie.Need-returns
+unfolding failsBy
+returns c = rw (eq-eqb _ 4096 (c .if1 .taken))
+
+returns-2 : tie.Need-returns-2
+unfolding failsBy
+returns-2 c =
+    let w = c .before in
+    let a = w .before .before .before .args in
+    rw (ne-eqb (a .to) 4096 (w .before .if1 .left))
+    (ap (λ (n : ℕ). not (eqb n 1)) (c .byte-at .ensures ∙ ap (λ (i : ℕ). getD (now (a .kept)) i 0) (w .wide .ensures)))
+
+pub fails-spec : {M : Type 1} → statement M
+fails-spec = tie.close (tie.spec returns (λ c κs. search needs) (λ c κs. search needs) returns-2)
