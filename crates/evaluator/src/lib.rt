@@ -11,47 +11,12 @@ ghost use lib.Dec.{ltb};
 ghost use lib.IntN.{ℤ};
 ghost use Rattle.sets.specs.Set.{member};
 ghost use Rattle.syntax.specs.Token.{Lexeme, mark, rbrace};
+ghost use Rattle.syntax.specs.Held.Kind.{noKind};
 ghost use Rattle.syntax.specs.Tree.{Var, Cond, Block, spellCond, spellBlock};
 ghost use Rattle.meaning.specs.Value.{truth, runBlock};
 ghost use Rattle.meaning.specs.Held.{Biased, Ranges};
 ghost use Rattle.evaluator.specs.Coding.{Codes, EndsCond, RunAs, lane};
 ghost use Rattle.evaluator.specs.Promises.{Placed, Next, Closes, operand, AtomRead, Near, TermRead, ExprRead, testOf, CompareRead, CondRead, ConjRead, SimpleRead, Stored, BlockRun, StmtRun, BranchRun};
-
-const RBRACE: u8 = 1;
-
-const LPAREN: u8 = 2;
-
-const DIFFERS: u8 = 9;
-
-const BELOW: u8 = 10;
-
-const AT_MOST: u8 = 11;
-
-const ABOVE: u8 = 12;
-
-const AT_LEAST: u8 = 13;
-
-const PLUS: u8 = 14;
-
-const MINUS: u8 = 15;
-
-const BANG: u8 = 16;
-
-const AND_AND: u8 = 17;
-
-const OR_OR: u8 = 18;
-
-const IF: u8 = 25;
-
-const ELSE: u8 = 26;
-
-const TRUE: u8 = 27;
-
-const FALSE: u8 = 28;
-
-const NAME: u8 = 30;
-
-const END: u8 = 255;
 
 const MOST: usize = 8192;
 
@@ -91,9 +56,13 @@ pub struct Ran {
 }
 
 fn kind_at(kinds: &[u8], at: usize) -> u8
-    ensures { λ r. ⌜ r ≡ getD (now (kinds .entry)) at 255 ⌝ }
+    ensures { λ r. ⌜ r ≡ getD (now (kinds .entry)) at noKind ⌝ }
 {
-    if at < kinds.len() { kinds[at] } else { END }
+    if at < kinds.len() {
+        kinds[at]
+    } else {
+        syntax::NO_KIND
+    }
 }
 
 fn value_at(values: &[u16], at: usize) -> u16
@@ -122,7 +91,7 @@ fn read_atom(kinds: &[u8], values: &[u16], at: usize) -> Atom
 {
     let kind = kind_at(kinds, at);
     let next = after(kinds, at);
-    if kind == NAME {
+    if kind == syntax::NAME {
         let slot = value_at(values, at) as usize;
         return Atom {
             slot,
@@ -131,7 +100,7 @@ fn read_atom(kinds: &[u8], values: &[u16], at: usize) -> Atom
             next,
         };
     }
-    if kind == MINUS {
+    if kind == syntax::MINUS {
         let minus = value_at(values, next) as u32;
         return Atom {
             slot: 6,
@@ -217,9 +186,9 @@ fn eval_expr(kinds: &[u8], values: &[u16], vars: &[u16; 96], at: usize) -> Sum
     loop {
         let sum = eval_term(kinds, values, vars, lanes, taken, place);
         let kind = kind_at(kinds, sum.next);
-        if kind == PLUS {
+        if kind == syntax::PLUS {
             taken = false;
-        } else if kind == MINUS {
+        } else if kind == syntax::MINUS {
             taken = true;
         } else {
             return sum;
@@ -290,20 +259,20 @@ fn below(a: [u32; 16], b: [u32; 16]) -> [bool; 16]
 fn compare(kind: u8, a: [u32; 16], b: [u32; 16]) -> [bool; 16]
     ensures { λ r. ⌜ ((j : ℕ) → j < 16 → getD r j false ≡ testOf kind (getD a j 0) (getD b j 0)) ⌝ }
 {
-    if kind == BELOW {
+    if kind == syntax::BELOW {
         return below(a, b);
     }
-    if kind == ABOVE {
+    if kind == syntax::ABOVE {
         return below(b, a);
     }
-    if kind == AT_MOST {
+    if kind == syntax::AT_MOST {
         return other(below(b, a));
     }
-    if kind == AT_LEAST {
+    if kind == syntax::AT_LEAST {
         return other(below(a, b));
     }
     let differ = union(below(a, b), below(b, a));
-    if kind == DIFFERS {
+    if kind == syntax::DIFFERS {
         return differ;
     }
     other(differ)
@@ -331,7 +300,7 @@ fn eval_cond(kinds: &[u8], values: &[u16], vars: &[u16; 96], at: usize) -> Truth
     ensures { λ r. ⌜ CondRead (now (kinds .entry)) (now (values .entry)) (now (vars .entry)) at (r .holds) (r .next) ⌝ }
 {
     let conj = eval_conj(kinds, values, vars, at);
-    if kind_at(kinds, conj.next) == OR_OR {
+    if kind_at(kinds, conj.next) == syntax::OR_OR {
         let next = after(kinds, conj.next);
         let more = eval_cond(kinds, values, vars, next);
         let a = conj.holds;
@@ -349,7 +318,7 @@ fn eval_conj(kinds: &[u8], values: &[u16], vars: &[u16; 96], at: usize) -> Truth
     ensures { λ r. ⌜ ConjRead (now (kinds .entry)) (now (values .entry)) (now (vars .entry)) at (r .holds) (r .next) ⌝ }
 {
     let simple = eval_simple(kinds, values, vars, at);
-    if kind_at(kinds, simple.next) == AND_AND {
+    if kind_at(kinds, simple.next) == syntax::AND_AND {
         let next = after(kinds, simple.next);
         let more = eval_conj(kinds, values, vars, next);
         let a = simple.holds;
@@ -368,7 +337,7 @@ fn eval_simple(kinds: &[u8], values: &[u16], vars: &[u16; 96], at: usize) -> Tru
 {
     let kind = kind_at(kinds, at);
     let next = after(kinds, at);
-    if kind == BANG {
+    if kind == syntax::BANG {
         let simple = eval_simple(kinds, values, vars, next);
         let a = simple.holds;
         return Truth {
@@ -376,19 +345,19 @@ fn eval_simple(kinds: &[u8], values: &[u16], vars: &[u16; 96], at: usize) -> Tru
             next: simple.next,
         };
     }
-    if kind == LPAREN {
+    if kind == syntax::LPAREN {
         let cond = eval_cond(kinds, values, vars, next);
         let past = after(kinds, cond.next);
         let holds = cond.holds;
         return Truth { holds, next: past };
     }
-    if kind == TRUE {
+    if kind == syntax::KEY_TRUE {
         return Truth {
             holds: [true; 16],
             next,
         };
     }
-    if kind == FALSE {
+    if kind == syntax::KEY_FALSE {
         return Truth {
             holds: [false; 16],
             next,
@@ -497,10 +466,10 @@ fn run_block(
         r (now (vars .exit)) ⌝ }
 {
     let kind = kind_at(kinds, at);
-    if kind == RBRACE {
+    if kind == syntax::RBRACE {
         return [true; 16];
     }
-    if kind == END {
+    if kind == syntax::NO_KIND {
         return [true; 16];
     }
     let one = run_stmt(kinds, values, lows, highs, vars, on, at);
@@ -526,7 +495,7 @@ fn run_stmt(
 {
     let second = after(kinds, at);
     let third = after(kinds, second);
-    if kind_at(kinds, at) == IF {
+    if kind_at(kinds, at) == syntax::KEY_IF {
         let cond = eval_cond(kinds, values, vars, third);
         let open = after(kinds, cond.next);
         let holds = cond.holds;
@@ -560,7 +529,7 @@ fn run_branch(
     let next = after(kinds, close);
     let first = after(kinds, brace);
     let ok = run_block(kinds, values, lows, highs, vars, both(on, holds), first);
-    if kind_at(kinds, next) == ELSE {
+    if kind_at(kinds, next) == syntax::KEY_ELSE {
         let open = after(kinds, next);
         let last = close_of(kinds, values, open);
         let behind = after(kinds, last);

@@ -9,7 +9,7 @@ use lib.Seq.{getD-append-add}
 use lib.Dec.{eqb, ltb}
 use borrow.Author.Tests.{ltb-true, ltb-false, lt-ltb, le-ltb, ne-eqb}
 use Rattle.syntax.specs.Token.{Token, lexemes, Lexeme, key, mark, semicolon, k-keep, markNumber}
-use Rattle.syntax.specs.Held.Kind.{kindOf, valueOf, Words}
+use Rattle.syntax.specs.Held.Kind.{kindOf, noKind, valueOf, Words}
 use Rattle.syntax.specs.Tree.{Region, Method, Monitor, all, spell, spellCond}
 use Rattle.logic.specs.Tests.{bit}
 use Rattle.machine.specs.Held.{followsBy}
@@ -19,11 +19,11 @@ use Rattle.meaning.specs.Model.{guardsOf, beginsIn, goesOnIn, noRegion, regions
 use Rattle.meaning.proofs.MethodLaws.{InMethod, in-method, begins-in-method, goes-on-in-method}
 use Rattle.logic.proofs.Bools.{split}
 use Rattle.layout.specs.Laid.{IsKeep, Laid}
-use Rattle.layout.specs.Closing.{closeFrom}
 use Rattle.layout.specs.Promises.{Flagged, noFlagged, more, flagRegions, flagged, parts, found, Holds}
 use Rattle.layout.specs.declared.Layout.{Layout}
 use Rattle.layout.proofs.Methods.{flag-count, methodsAhead}
 use Rattle.layout.proofs.Closes.{close-stands, stands-below}
+use Rattle.layout.proofs.Closes.{semicolonKind, semicolonEnd}
 use Rattle.layout.proofs.Same.{kinds-are, kinds-length}
 use Rattle.layout.proofs.Spelled.{later}
 use Rattle.layout.proofs.Trees.{semicolons-balanced, keep-once}
@@ -177,13 +177,13 @@ module _ (file : List ℕ) (m : Monitor) (ts : List Token) (kinds values places 
   unfolding IsKeep
   keep-at = (keep .0, later 1 k (lexemes ts) _ (keep .1))
 
-  pub methods-at : drop (k + 1 + closeFrom 255 4 0 (drop (k + 1) kinds) + 1) (lexemes ts) ≡ methodsAhead (all (m .methods))
+  pub methods-at : drop (k + 1 + semicolonEnd (drop (k + 1) kinds) + 1) (lexemes ts) ≡ methodsAhead (all (m .methods))
   unfolding IsKeep kindOf markNumber
   methods-at =
-      let semi = close-stands 255 4 (k + 1) (lexemes ts) (spellCond (m .keep)) (keep .0) (mark semicolon) (semicolons-balanced (m .keep))
+      let semi = close-stands noKind semicolonKind (k + 1) (lexemes ts) (spellCond (m .keep)) (keep .0) (mark semicolon) (semicolons-balanced (m .keep))
       (λ e. omega arith) refl (later 1 k (lexemes ts) _ (keep .1)) in
       rw (kinds-are file ts kinds values places words)
-      (later 1 (k + 1 + closeFrom 255 4 0 (drop (k + 1) (map kindOf (lexemes ts)))) (lexemes ts) _ semi
+      (later 1 (k + 1 + semicolonEnd (drop (k + 1) (map kindOf (lexemes ts)))) (lexemes ts) _ semi
       ∙ keep-once m (lexemes ts) (keep .0) k spells (keep .1))
 
 pub words-sized : (file : List ℕ) (ts : List Token) (kinds values places : List ℕ) → Words file ts kinds values places

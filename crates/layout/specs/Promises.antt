@@ -5,8 +5,8 @@ use mathlib.Core.Bool.{Bool}
 use mathlib.Core.List.{List, [], _∷_, _++_, map}
 use lib.ListN.{length, getD, drop, take, set}
 use lib.Dec.{eqb}
-use Rattle.syntax.specs.Token.{Lexeme, mark, rbrace, rparen, Token, lexemes}
-use Rattle.syntax.specs.Held.Kind.{kindOf, Words}
+use Rattle.syntax.specs.Token.{Lexeme, key, mark, rbrace, rparen, k-waituntil, Token, lexemes}
+use Rattle.syntax.specs.Held.Kind.{kindOf, noKind, Words}
 use Rattle.syntax.specs.Tree.{Cond, Region, Method, all, each, spellCond, spellRegion}
 use Rattle.logic.specs.Tests.{bit}
 use Rattle.meaning.specs.Model.{sameLexeme, sameLexemes, sameGuard, placeIn, guardsOf, noRegion}
@@ -74,7 +74,7 @@ found done = guardsOf [] (parts done)
 
 -- does a region begin at a token
 unfoldable pub flagAt : List ℕ → ℕ → ℕ
-flagAt kinds at = bit (eqb (getD kinds at 255) 24)
+flagAt kinds at = bit (eqb (getD kinds at noKind) (kindOf (key k-waituntil)))
 
 -- The layout's arrays are whole
 pub record Arrays (l : Layout) : Type 0 where

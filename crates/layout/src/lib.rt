@@ -9,7 +9,7 @@ ghost use Rattle.syntax.specs.Token.{Lexeme, Token, lexemes};
 ghost use Rattle.syntax.specs.Tree.{Monitor, spell};
 ghost use Rattle.meaning.specs.Model.{regions};
 ghost use Rattle.layout.specs.Laid.{Kinds, IsKeep, Laid, Linked};
-ghost use Rattle.syntax.specs.Held.Kind.{Words};
+ghost use Rattle.syntax.specs.Held.Kind.{noKind, Words};
 ghost use Rattle.layout.specs.Closing.{closeFrom};
 ghost use Rattle.layout.specs.Promises.{Sized, SameToken, SameTokens, SameGuard, flagAt, withGuard, withRegion, Numbers, Room, AddsRegion, AddsMethod, Grown};
 
@@ -36,28 +36,14 @@ struct Spot {
     at: usize,
 }
 
-const LBRACE: u8 = 0;
-
-const RBRACE: u8 = 1;
-
-const LPAREN: u8 = 2;
-
-const RPAREN: u8 = 3;
-
-const SEMICOLON: u8 = 4;
-
-const METHOD: u8 = 23;
-
-const WAITUNTIL: u8 = 24;
-
-const NAME: u8 = 30;
-
-const END: u8 = 255;
-
 fn kind_at(kinds: &[u8], at: usize) -> u8
-    ensures { λ r. ⌜ r ≡ getD (now (kinds .entry)) at 255 ⌝ }
+    ensures { λ r. ⌜ r ≡ getD (now (kinds .entry)) at noKind ⌝ }
 {
-    if at < kinds.len() { kinds[at] } else { END }
+    if at < kinds.len() {
+        kinds[at]
+    } else {
+        syntax::NO_KIND
+    }
 }
 
 // The token that closes what was opened before a token: brackets or braces, by their kinds.
@@ -120,7 +106,7 @@ fn same_token(file: &[u8], kinds: &[u8], values: &[u16], places: &[u16], a: usiz
     if values[a] != values[b] {
         return false;
     }
-    if kinds[a] != NAME {
+    if kinds[a] != syntax::NAME {
         return true;
     }
     let n = wide(values[a]);
@@ -169,8 +155,8 @@ fn same_guard(file: &[u8], kinds: &[u8], values: &[u16], places: &[u16], a: usiz
     if kinds.len() < b {
         return false;
     }
-    let m = closing(kinds, a, LPAREN, RPAREN) - a;
-    let n = closing(kinds, b, LPAREN, RPAREN) - b;
+    let m = closing(kinds, a, syntax::LPAREN, syntax::RPAREN) - a;
+    let n = closing(kinds, b, syntax::LPAREN, syntax::RPAREN) - b;
     if m != n {
         return false;
     }
@@ -263,7 +249,7 @@ fn held(at: usize) -> u16
 fn flag(kinds: &[u8], at: usize) -> u8
     ensures { λ r. ⌜ r ≡ flagAt (now (kinds .entry)) at ⌝ }
 {
-    if kind_at(kinds, at) == WAITUNTIL {
+    if kind_at(kinds, at) == syntax::KEY_WAITUNTIL {
         1
     } else {
         0
@@ -285,8 +271,8 @@ fn add_region(
         × AddsRegion (now (file .entry)) (now (kinds .entry)) (now (values .entry)) (now (places .entry)) layout at begins r ⌝ }
 {
     let guard_at = at + 2;
-    let body_at = closing(kinds, guard_at, LPAREN, RPAREN) + 2;
-    let next = closing(kinds, body_at, LBRACE, RBRACE) + 1;
+    let body_at = closing(kinds, guard_at, syntax::LPAREN, syntax::RPAREN) + 2;
+    let next = closing(kinds, body_at, syntax::LBRACE, syntax::RBRACE) + 1;
     let number = guard_number(file, kinds, values, places, layout, guard_at);
     let mut numbered = layout;
     if number == layout.guards {
@@ -321,7 +307,7 @@ fn add_method(
     let mut so_far = layout;
     let mut i = at;
     let mut begins: u8 = 1;
-    while kind_at(kinds, i) == WAITUNTIL {
+    while kind_at(kinds, i) == syntax::KEY_WAITUNTIL {
         if 16 <= so_far.regions {
             return Spot {
                 layout: so_far,
@@ -355,8 +341,8 @@ pub fn lay_out(file: &[u8], kinds: &[u8], values: &[u16], places: &[u16], keep: 
         return empty(0);
     }
     let mut layout = empty(keep + 1);
-    let mut i = closing(kinds, keep + 1, END, SEMICOLON) + 1;
-    while kind_at(kinds, i) == METHOD {
+    let mut i = closing(kinds, keep + 1, syntax::NO_KIND, syntax::SEMICOLON) + 1;
+    while kind_at(kinds, i) == syntax::KEY_METHOD {
         let spot = add_method(file, kinds, values, places, layout, i + 3);
         let next = spot.layout;
         layout = next;
@@ -375,8 +361,8 @@ pub fn link_braces(kinds: &[u8], values: &mut [u16])
     }
     let mut i = 0;
     while i < kinds.len() {
-        if kinds[i] == LBRACE {
-            values[i] = held(closing(kinds, i + 1, LBRACE, RBRACE));
+        if kinds[i] == syntax::LBRACE {
+            values[i] = held(closing(kinds, i + 1, syntax::LBRACE, syntax::RBRACE));
         }
         i += 1;
     }

@@ -8,10 +8,11 @@ use mathlib.Core.List.{List, [], _∷_, _++_, List·Memᴰ, List·Memᴰ·head, 
 use mathlib.Core.Option.{Option, none, some}
 use lib.ListN.{length, take, drop, getD, length-map, List·getD-map, drop-of-length-le}
 use lib.Seq.{take-suc, drop-cons}
-use lib.Dec.{leb}
+use lib.Dec.{leb, eqb}
 use borrow.Author.Tests.{leb-false}
-use Rattle.syntax.specs.Token.{Lexeme, number, mark, lbrace, Token, k-var, k-method, k-waituntil, markNumber, isKey}
+use Rattle.syntax.specs.Token.{Lexeme, name, number, mark, lbrace, rbrace, lparen, rparen, Token, k-var, k-method, k-waituntil, isKey}
 use Rattle.syntax.specs.Held.Kind.{kindOf, valueOf, Words}
+use Rattle.syntax.proofs.ByKind.{kind-mark}
 use Rattle.meaning.specs.Accepted.{opens, closes}
 use Rattle.meaning.specs.Decide.Check.{tally, crowded, pastLimit}
 use Rattle.logic.proofs.Bools.{is-false, no-some, clash}
@@ -30,14 +31,14 @@ at-member (a ∷ l) (suc i) d h = List·Memᴰ·tail (at-member l i d (omega ari
 -- Tokens by index
 
 none-there : Token
-none-there = record { at = 0; lexeme = mark lbrace }
+none-there = record { at = 0; lexeme = name [] }
 
 pub tokenAt : List Token → ℕ → Token
 tokenAt ts i = getD ts i none-there
 
 module _ {file : List ℕ} {ts : List Token} {kinds values places : List ℕ} (h : Words file ts kinds values places) where
   pub kind-at : (i : ℕ) → getD kinds i 0 ≡ kindOf (tokenAt ts i .lexeme)
-  unfolding tokenAt none-there kindOf markNumber
+  unfolding tokenAt none-there kindOf
   kind-at i = rw (h .by-kind) (List·getD-map (λ (t : Token). kindOf (t .lexeme)) ts i none-there)
 
   pub value-at : (i : ℕ) → getD values i 0 ≡ valueOf (tokenAt ts i .lexeme)
@@ -71,6 +72,16 @@ module _ {file : List ℕ} {ts : List Token} {kinds values places : List ℕ} (h
 
   pub at-end : (i : ℕ) → length kinds ≤ i → drop i ts ≡ []
   at-end i l = drop-of-length-le ts {i = i} (omega (arith, kinds-long))
+
+-- Brackets and braces by kind
+
+pub kind-opens : (l : Lexeme) → opens l ≡ (eqb (kindOf l) (kindOf (mark lbrace)) || eqb (kindOf l) (kindOf (mark lparen)))
+unfolding opens
+kind-opens l = rw (kind-mark lbrace l, kind-mark lparen l)
+
+pub kind-closes : (l : Lexeme) → closes l ≡ (eqb (kindOf l) (kindOf (mark rbrace)) || eqb (kindOf l) (kindOf (mark rparen)))
+unfolding closes
+kind-closes l = rw (kind-mark rbrace l, kind-mark rparen l)
 
 -- A count grows by at most one
 

@@ -8,13 +8,13 @@ use mathlib.Core.Option.{none}
 use lib.ListN.{length, take, drop, getD, set, length-append, length-map, drop-of-length-le}
 use lib.Seq.{length-take-le, take-all, set-at, append-snoc, getD-at}
 use lib.Dec.{eqb}
-use Rattle.syntax.specs.Token.{Lexeme, name, key, number, mark, Token, k-var, Keyword, keywordNumber, isKey, isName}
-use Rattle.syntax.specs.Held.Kind.{kindOf, valueOf, Words}
+use Rattle.syntax.specs.Token.{Lexeme, name, key, number, mark, Token, k-var, Keyword, isKey, isName}
+use Rattle.syntax.specs.Held.Kind.{kindOf, valueOf, nameKind, numberKind, Words}
 use Rattle.logic.proofs.Bools.{split}
 use Rattle.meaning.specs.Decide.Check.{tally, pastLimit}
 use Rattle.passes.specs.declared.Names.{Names}
 use Rattle.passes.specs.Tokens.{titlesOf, titlesFrom, slotOrValue, Stands, Titles, Resolved, Grows}
-use Rattle.passes.specs.Kinds.{kind-name, kind-key}
+use Rattle.syntax.proofs.ByKind.{kind-name, kind-key}
 use Rattle.passes.proofs.ByIndex.{rest-at, tokenAt, kinds-long, values-long, value-at, kind-at, here, front-more, at-end, tally-least, Few, few-first, few-next, room}
 use Rattle.passes.proofs.Naming.{name-stands}
 
@@ -57,7 +57,7 @@ grown adds b (mark m) d t e r s = rw append-nil (d _ _ t .0 e)
 
 module _ {file : List ℕ} {ts : List Token} {kinds values places : List ℕ} (h : Words file ts kinds values places) (i : ℕ) (l : i < length kinds) where
   pub grown-at : {names after : Names} {titles : List (List ℕ)} {before : ℕ} (k : Keyword) (last : Lexeme) (adds : Bool)
-      → before ≡ kindOf last → adds ≡ (eqb (getD kinds i 0) 30 && eqb before (19 + keywordNumber k))
+      → before ≡ kindOf last → adds ≡ (eqb (getD kinds i 0) nameKind && eqb before (kindOf (key k)))
       → Grows names adds (getD places i 0) (getD values i 0) after → Titles file titles names → (isKey k last ≡ true → length titles < 8)
       → Titles file (titles ++ added (isKey k last) (tokenAt ts i .lexeme)) after
   grown-at k last adds e f d t r =
@@ -73,15 +73,14 @@ pub record Listing (file : List ℕ) (ts : List Token) (vars : Names) (before i 
   pub held : Titles file titles vars
   pub few : Few ts i last (length titles) 0
 
-pub listing-first : (file : List ℕ) (ts : List Token) (vars : Names) → Titles file [] vars → Listing file ts vars 29 0
+pub listing-first : (file : List ℕ) (ts : List Token) (vars : Names) → Titles file [] vars → Listing file ts vars numberKind 0
 unfolding titlesOf kindOf
 listing-first file ts vars t = record { last = number 0; known = refl; titles = []; so-far = refl; held = t; few = few-first ts }
 
 pub listing-next : {file : List ℕ} {ts : List Token} {kinds values places : List ℕ} → Words file ts kinds values places → pastLimit 0 0 0 ts ≡ none
     → {vars vars′ : Names} {before i : ℕ} (adds : Bool) → Listing file ts vars before i → i < length kinds
-    → adds ≡ (eqb (getD kinds i 0) 30 && eqb before 20) → Grows vars adds (getD places i 0) (getD values i 0) vars′
+    → adds ≡ (eqb (getD kinds i 0) nameKind && eqb before (kindOf (key k-var))) → Grows vars adds (getD places i 0) (getD values i 0) vars′
     → Listing file ts vars′ (getD kinds i 0) (i + 1)
-unfolding keywordNumber
 listing-next {ts = ts} h n {i = i} adds s l e d =
     let t = tokenAt ts i in
     let b = isKey k-var (s .last) in

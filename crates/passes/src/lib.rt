@@ -7,7 +7,7 @@ ghost use mathlib.Core.Option.{none};
 ghost use lib.Dec.{leb, eqb};
 ghost use Rattle.syntax.specs.Bytes.{sameBytes};
 ghost use Rattle.syntax.specs.Token.{Token, Lexeme, name, number, k-var, k-method, k-waituntil, isKey};
-ghost use Rattle.syntax.specs.Held.Kind.{kindOf, valueOf, Words};
+ghost use Rattle.syntax.specs.Held.Kind.{kindOf, valueOf, nameKind, Words};
 ghost use Rattle.meaning.specs.Accepted.{opens};
 ghost use Rattle.meaning.specs.Decide.Check.{tally, crowded, pastLimit, member, misnamed};
 ghost use Rattle.passes.specs.Tokens.{foundOf, titlesOf, slotIn, slotOrValue, Resolved, Stands, Titles, Grows, Judges};
@@ -17,27 +17,6 @@ pub enum Found {
     At(u16),
     Nothing,
 }
-
-const LBRACE: u8 = 0;
-
-const RBRACE: u8 = 1;
-
-const LPAREN: u8 = 2;
-
-const RPAREN: u8 = 3;
-
-const MONITOR: u8 = 19;
-
-const VAR: u8 = 20;
-
-const METHOD: u8 = 23;
-
-const WAITUNTIL: u8 = 24;
-
-// Also the kind before the first token, which declares nothing.
-const NUMBER: u8 = 29;
-
-const NAME: u8 = 30;
 
 // Is a kind one of two?
 fn either(kind: u8, a: u8, b: u8) -> bool
@@ -65,7 +44,7 @@ fn crowds(kind: u8, passed: usize, opened: usize, closed: usize) -> bool
     if 1024 <= passed {
         return true;
     }
-    if either(kind, LBRACE, LPAREN) {
+    if either(kind, syntax::LBRACE, syntax::LPAREN) {
         return closed + 12 <= opened;
     }
     false
@@ -87,8 +66,8 @@ pub fn find_crowded(kinds: &[u8], places: &[u16]) -> Found
         if crowds(kind, i, opened, closed) {
             return Found::At(places[i]);
         }
-        opened = more(opened, either(kind, LBRACE, LPAREN));
-        closed = more(closed, either(kind, RBRACE, RPAREN));
+        opened = more(opened, either(kind, syntax::LBRACE, syntax::LPAREN));
+        closed = more(closed, either(kind, syntax::RBRACE, syntax::RPAREN));
         i += 1;
     }
     Found::Nothing
@@ -99,13 +78,13 @@ fn exceeds(kind: u8, vars: usize, methods: usize, regions: usize) -> bool
     ensures { λ r. ⌜ ((l : Lexeme) → kind ≡ kindOf l → r ≡ ((isKey k-var l && leb 6 vars) || (isKey k-method l && leb 8 methods)
         || (isKey k-waituntil l && leb 16 regions))) ⌝ }
 {
-    if kind == VAR {
+    if kind == syntax::KEY_VAR {
         return 6 <= vars;
     }
-    if kind == METHOD {
+    if kind == syntax::KEY_METHOD {
         return 8 <= methods;
     }
-    if kind == WAITUNTIL {
+    if kind == syntax::KEY_WAITUNTIL {
         return 16 <= regions;
     }
     false
@@ -129,9 +108,9 @@ pub fn find_past_limit(kinds: &[u8], places: &[u16]) -> Found
         if exceeds(kind, vars, methods, regions) {
             return Found::At(place);
         }
-        vars = more(vars, kind == VAR);
-        methods = more(methods, kind == METHOD);
-        regions = more(regions, kind == WAITUNTIL);
+        vars = more(vars, kind == syntax::KEY_VAR);
+        methods = more(methods, kind == syntax::KEY_METHOD);
+        regions = more(regions, kind == syntax::KEY_WAITUNTIL);
         i += 1;
     }
     Found::Nothing
@@ -197,9 +176,9 @@ fn among(file: &[u8], names: Names, start: u16, len: u16) -> bool
 
 // Is this a name behind the keyword?
 fn declares(kind: u8, before: u8, keyword: u8) -> bool
-    ensures { λ r. ⌜ r ≡ (eqb kind 30 && eqb before keyword) ⌝ }
+    ensures { λ r. ⌜ r ≡ (eqb kind nameKind && eqb before keyword) ⌝ }
 {
-    kind == NAME && before == keyword
+    kind == syntax::NAME && before == keyword
 }
 
 // One name more, where it is to be added and there are not eight.
@@ -232,17 +211,17 @@ fn wrong(
 ) -> bool
     ensures { λ r. ⌜ Judges (now (file .entry)) vars methods kind before start len r ⌝ }
 {
-    if kind != NAME {
+    if kind != syntax::NAME {
         return false;
     }
-    if before == METHOD {
+    if before == syntax::KEY_METHOD {
         return among(file, methods, start, len);
     }
-    if before == MONITOR {
+    if before == syntax::KEY_MONITOR {
         return false;
     }
     let known = among(file, vars, start, len);
-    if before == VAR {
+    if before == syntax::KEY_VAR {
         return known;
     }
     !known
@@ -261,7 +240,8 @@ pub fn find_misnamed(file: &[u8], kinds: &[u8], values: &[u16], places: &[u16]) 
     }
     let mut vars = no_names();
     let mut methods = no_names();
-    let mut before = NUMBER;
+    // Before the first token a kind that declares nothing.
+    let mut before = syntax::NUMBER;
     let mut i = 0;
     while i < kinds.len() {
         let kind = kinds[i];
@@ -270,8 +250,13 @@ pub fn find_misnamed(file: &[u8], kinds: &[u8], values: &[u16], places: &[u16]) 
         if wrong(file, vars, methods, kind, before, start, len) {
             return Found::At(start);
         }
-        vars = declared(vars, declares(kind, before, VAR), start, len);
-        methods = declared(methods, declares(kind, before, METHOD), start, len);
+        vars = declared(vars, declares(kind, before, syntax::KEY_VAR), start, len);
+        methods = declared(
+            methods,
+            declares(kind, before, syntax::KEY_METHOD),
+            start,
+            len,
+        );
         before = kind;
         i += 1;
     }
@@ -290,11 +275,17 @@ pub fn variables(kinds: &[u8], values: &[u16], places: &[u16]) -> Names
     if places.len() != kinds.len() {
         return vars;
     }
-    let mut before = NUMBER;
+    // Before the first token a kind that declares nothing.
+    let mut before = syntax::NUMBER;
     let mut i = 0;
     while i < kinds.len() {
         let kind = kinds[i];
-        vars = declared(vars, declares(kind, before, VAR), places[i], values[i]);
+        vars = declared(
+            vars,
+            declares(kind, before, syntax::KEY_VAR),
+            places[i],
+            values[i],
+        );
         before = kind;
         i += 1;
     }
@@ -306,7 +297,7 @@ fn slot_or_value(file: &[u8], vars: Names, kind: u8, start: u16, value: u16) -> 
     ensures { λ r. ⌜ ((titles : List (List ℕ)) (l : Lexeme) → Titles (now (file .entry)) titles vars → kind ≡ kindOf l → value ≡ valueOf l
         → ((x : List ℕ) → l ≡ name x → Stands (now (file .entry)) x start value) → r ≡ slotOrValue titles l) ⌝ }
 {
-    if kind == NAME {
+    if kind == syntax::NAME {
         return slot_of(file, vars, start, value) as u16;
     }
     value

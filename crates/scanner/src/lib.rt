@@ -43,11 +43,10 @@ pub enum Scanned {
     TooLong,
 }
 
-// A mark's number and how many bytes it has: 0 where there is none.
+// A mark's kind and how many bytes it has: 0 where there is none.
 struct Marked(u8, usize);
 
-// How a token is held: a mark's number, 19 and a keyword's number, 29 for a number, 30 for a name; with a number's value or a name's
-// length.
+// How a token is held: its kind, with a number's value or a name's length.
 struct Code {
     kind: u8,
     value: u16,
@@ -59,16 +58,6 @@ const BLANK: u8 = 0;
 const WORD: u8 = 1;
 
 const DIGIT: u8 = 2;
-
-// What stands for a keyword where there is none.
-const NO_KEYWORD: u8 = 10;
-
-// The kinds behind those of marks.
-const KEYWORD: u8 = 19;
-
-const NUMBER: u8 = 29;
-
-const NAME: u8 = 30;
 
 fn is_blank(b: u8) -> bool
     ensures { λ r. ⌜ r ≡ blank b ⌝ }
@@ -125,50 +114,50 @@ fn mark_of(a: u8, b: u8) -> Marked
     ensures { λ r. ⌜ r ≡ marked (markOf marks (a ∷ b ∷ [])) ⌝ }
 {
     match a {
-        b'{' => Marked(0, 1),
-        b'}' => Marked(1, 1),
-        b'(' => Marked(2, 1),
-        b')' => Marked(3, 1),
-        b';' => Marked(4, 1),
+        b'{' => Marked(syntax::LBRACE, 1),
+        b'}' => Marked(syntax::RBRACE, 1),
+        b'(' => Marked(syntax::LPAREN, 1),
+        b')' => Marked(syntax::RPAREN, 1),
+        b';' => Marked(syntax::SEMICOLON, 1),
         b'=' => if b == b'=' {
-            Marked(8, 2)
+            Marked(syntax::SAME, 2)
         } else {
-            Marked(5, 1)
+            Marked(syntax::EQUALS, 1)
         },
         b'.' => if b == b'.' {
-            Marked(6, 2)
+            Marked(syntax::DOTS, 2)
         } else {
             Marked(0, 0)
         },
         b':' => if b == b'=' {
-            Marked(7, 2)
+            Marked(syntax::BECOMES, 2)
         } else {
             Marked(0, 0)
         },
         b'!' => if b == b'=' {
-            Marked(9, 2)
+            Marked(syntax::DIFFERS, 2)
         } else {
-            Marked(16, 1)
+            Marked(syntax::BANG, 1)
         },
         b'<' => if b == b'=' {
-            Marked(11, 2)
+            Marked(syntax::AT_MOST, 2)
         } else {
-            Marked(10, 1)
+            Marked(syntax::BELOW, 1)
         },
         b'>' => if b == b'=' {
-            Marked(13, 2)
+            Marked(syntax::AT_LEAST, 2)
         } else {
-            Marked(12, 1)
+            Marked(syntax::ABOVE, 1)
         },
-        b'+' => Marked(14, 1),
-        b'-' => Marked(15, 1),
+        b'+' => Marked(syntax::PLUS, 1),
+        b'-' => Marked(syntax::MINUS, 1),
         b'&' => if b == b'&' {
-            Marked(17, 2)
+            Marked(syntax::AND_AND, 2)
         } else {
             Marked(0, 0)
         },
         b'|' => if b == b'|' {
-            Marked(18, 2)
+            Marked(syntax::OR_OR, 2)
         } else {
             Marked(0, 0)
         },
@@ -212,7 +201,7 @@ fn place_of(part: &[u8], a: &[u8], b: &[u8], c: &[u8], d: &[u8], e: &[u8]) -> u8
     }
 }
 
-// The number of the reserved word that a part of the file is, and 10 where it is none.
+// The number of the reserved word that a part of the file is, and their count where it is none.
 fn keyword_of(part: &[u8]) -> u8
     ensures { λ r. ⌜ r ≡ keyCode (wordOf keywords (now (part .entry))) ⌝ }
 {
@@ -363,14 +352,14 @@ fn word_code(file: &[u8], from: usize, end: usize) -> Code
     ensures { λ r. ⌜ r ≡ lexemeCode (wordOf keywords (take (end - from) (drop from (now (file .entry))))) ⌝ }
 {
     let key = keyword_of(&file[from..end]);
-    if key == NO_KEYWORD {
+    if key == syntax::KEYWORDS {
         Code {
-            kind: NAME,
+            kind: syntax::NAME,
             value: (end - from) as u16,
         }
     } else {
         Code {
-            kind: KEYWORD + key,
+            kind: syntax::FIRST_KEYWORD + key,
             value: 0,
         }
     }
@@ -384,7 +373,7 @@ fn code_of(file: &[u8], token: Token) -> Code
     match token {
         Token::Word(from, end) => word_code(file, from, end),
         Token::Number(value) => Code {
-            kind: NUMBER,
+            kind: syntax::NUMBER,
             value: value,
         },
         Token::Mark(mark) => Code {

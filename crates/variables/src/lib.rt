@@ -30,11 +30,6 @@ pub struct Declared {
     pub bounds: Bounds,
 }
 
-// The kinds of - and of var.
-const MINUS: u8 = 15;
-
-const VAR: u8 = 20;
-
 // What is added to an integer so that it is never below 0.
 const OFFSET: u32 = 65536;
 
@@ -76,7 +71,7 @@ fn int_at(kinds: &[u8], values: &[u16], at: usize) -> Integer
     requires { ⌜ at < 2 ^ 63 + 16 ⌝ }
     ensures { λ r. ⌜ IntAt (now (kinds .entry)) (now (values .entry)) at r ⌝ }
 {
-    if kind_at(kinds, at) == MINUS {
+    if kind_at(kinds, at) == syntax::MINUS {
         Integer {
             value: OFFSET - value_at(values, at + 1) as u32,
             next: at + 2,
@@ -208,7 +203,7 @@ pub fn read(kinds: &[u8], values: &[u16], at: usize) -> Declared
 {
     let mut bounds = no_bounds();
     let mut i = at;
-    while kind_at(kinds, i) == VAR {
+    while kind_at(kinds, i) == syntax::KEY_VAR {
         let v = triple_at(kinds, values, i);
         if !fits(bounds.states, v) {
             return Declared {

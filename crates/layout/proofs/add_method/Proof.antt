@@ -4,9 +4,9 @@ use native.Mathlib.Omega.{arith}
 use mathlib.Core.Path.{_≡_, refl, sym, _∙_}
 use mathlib.Core.List.{List}
 use lib.ListN.{length, drop, getD}
-use Rattle.syntax.specs.Token.{Token, lexemes, Lexeme}
+use Rattle.syntax.specs.Token.{Token, lexemes, Lexeme, key, k-waituntil, keywordNumber}
 use Rattle.syntax.specs.Tree.{Region}
-use Rattle.syntax.specs.Held.Kind.{Words}
+use Rattle.syntax.specs.Held.Kind.{kindOf, noKind, Words}
 use Rattle.layout.specs.Promises.{Flagged, Holds, Grown}
 use Rattle.layout.proofs.Methods.{kind-within, regionsAhead, Ahead, ahead-start, ahead-turn, ahead-full, ahead-over}
 use Rattle.layout.proofs.add_method.Statement.{statement}
@@ -32,7 +32,8 @@ kind-at-requires : tie.Need-kind-at-requires Inv-loop μ-loop
 kind-at-requires c κs = tt
 
 -- in a turn `waituntil` stands there
-waits : (q : tie.Then1 Inv-loop μ-loop) → getD (q .before .before .before .before .before .before .before .args .kinds .now) (q .before .before .loop .i) 255 ≡ 24
+waits : (q : tie.Then1 Inv-loop μ-loop) → getD (q .before .before .before .before .before .before .before .args .kinds .now) (q .before .before .loop .i) noKind ≡ kindOf (key k-waituntil)
+unfolding kindOf keywordNumber
 waits q = sym (q .before .kind-at .ensures) ∙ q .if1 .taken
 
 returns : tie.Need-returns Inv-loop μ-loop
@@ -49,12 +50,12 @@ add-region-requires : tie.Need-add-region-requires Inv-loop μ-loop
 add-region-requires c κs =
     let q = c .before .before .before .before in
     let s = q .before .before .before .before .before in
-    (s .pre .0, kind-within (s .args .kinds .now) (q .loop .i) 24 (waits (c .before .before)) (omega arith), q .loop .inv .1 .room, omega (arith, c .if2 .left))
+    (s .pre .0, kind-within (s .args .kinds .now) (q .loop .i) (key k-waituntil) (waits (c .before .before)), q .loop .inv .1 .room, omega (arith, c .if2 .left))
 
 loop-less : tie.Need-loop-less Inv-loop μ-loop
 loop-less c =
     let q = c .before .before .before .before .before .before in
-    let low = kind-within (q .before .before .before .before .before .args .kinds .now) (q .loop .i) 24 (waits (c .before .before .before .before)) (omega arith) in
+    let low = kind-within (q .before .before .before .before .before .args .kinds .now) (q .loop .i) (key k-waituntil) (waits (c .before .before .before .before)) in
     omega (arith, low, c .before .add-region .ensures .1)
 
 loop-again : tie.Need-loop-again Inv-loop μ-loop
@@ -75,6 +76,7 @@ loop-again c =
     )
 
 returns-2 : tie.Need-returns-2 Inv-loop μ-loop
+unfolding kindOf keywordNumber
 returns-2 c =
     let q = c .before .before in
     let a = q .before .before .before .before .before .args in (

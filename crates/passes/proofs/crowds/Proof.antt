@@ -1,7 +1,9 @@
 -- `passes::crowds` is the test of `crowded` at a token.
 use borrow.Author.Needs.{needs}
 use borrow.Author.Tests.{le-leb, lt-leb}
-use Rattle.passes.specs.Kinds.{kind-opens}
+use Rattle.syntax.specs.Token.{markNumber}
+use Rattle.syntax.specs.Held.Kind.{kindOf}
+use Rattle.passes.proofs.ByIndex.{kind-opens}
 use Rattle.passes.proofs.crowds.Statement.{statement}
 use Rattle.passes.proofs.crowds.Tie as tie
 
@@ -15,9 +17,11 @@ add-result : tie.Need-add-result
 add-result c = search needs
 
 returns-2 : tie.Need-returns-2
+unfolding kindOf markNumber
 returns-2 c l e = rw (lt-leb 1024 _ (c .before .before .if1 .left), kind-opens l, ← e, ← c .before .either .ensures, c .if2 .taken)
 
 returns-3 : tie.Need-returns-3
+unfolding kindOf markNumber
 returns-3 c l e = rw (lt-leb 1024 _ (c .before .before .if1 .left), kind-opens l, ← e, ← c .before .either .ensures, c .if2 .left)
 
 pub crowds-spec : {M : Type 1} → statement M
