@@ -11,14 +11,22 @@ use lib.Dec.{eqb}
 use lib.ListN.{length, getD, drop, replicate, getD-replicate}
 use lib.IntN.{ℤ, pos, negℤ, _-ℤ_, +ℤ-idl}
 use borrow.Author.Tests.{eqb-false}
-use Rattle.syntax.specs.Token.{Lexeme, mark, key, Mark, markNumber, keywordNumber, rparen, and-and, or-or, semicolon, k-true, k-false, lparen, differs, at-most, above, at-least, plus, bang}
+use Rattle.syntax.specs.Token.{Lexeme, mark, key, Mark, markNumber, keywordNumber, lparen, rparen, semicolon, plus}
+use Rattle.syntax.specs.Token.{bang}
+use Rattle.syntax.specs.Token.{and-and, or-or, k-true, k-false}
 use Rattle.syntax.specs.Token as token
 use Rattle.syntax.specs.Held.Kind.{kindOf, nameKind, numberKind, noKind}
-use Rattle.syntax.specs.Tree.{Var, plain, negated, Atom, literal, variable, Sign, added, taken, Term, Expr, Comparison, eq, ne, lt, le, gt, ge, only, or, just, and, Simple, negation, bracketed, constant, compare, each, spellInt, spellAtom, signMark, spellTerm, spellExpr, comparisonMark, spellConstant, spellCond, spellConj, spellSimple}
-use Rattle.meaning.specs.Value.{intOf, atomValue, joined, termsValue, exprValue, compares, truth, conjTruth, simpleTruth}
+use Rattle.syntax.specs.Tree.{Var, plain, negated, Atom, literal, variable, Sign, added, taken, Term, Expr, Comparison}
+use Rattle.syntax.specs.Tree.{eq, ne, lt, le, gt, ge, only, or, just, and, Simple, negation, bracketed, constant}
+use Rattle.syntax.specs.Tree.{compare, each, spellInt, spellAtom, signMark, spellTerm, spellExpr, comparisonMark}
+use Rattle.syntax.specs.Tree.{spellConstant, spellCond, spellConj, spellSimple}
+use Rattle.meaning.specs.Value.{intOf, atomValue, joined, termsValue, exprValue, compares, truth, conjTruth}
+use Rattle.meaning.specs.Value.{simpleTruth}
 use Rattle.evaluator.specs.Coding.{Codes, EndsCond, lane}
 use Rattle.meaning.specs.Held.{Biased}
-use Rattle.evaluator.specs.Promises.{Next, frontKind, EndsAtom, EndsExpr, EndsConj, EndsWhole, operand, AtomRead, worth, signOf, Near, Sums, TermRead, ExprRead, testOf, Truths, spellCompared, comparedTruth, CompareRead, SimpleRead, ConjRead, CondRead}
+use Rattle.evaluator.specs.Promises.{Next, frontKind, EndsAtom, EndsExpr, EndsConj, EndsWhole, operand, AtomRead}
+use Rattle.evaluator.specs.Promises.{worth, signOf, Near, Sums, TermRead, ExprRead, testOf, Truths, spellCompared}
+use Rattle.evaluator.specs.Promises.{comparedTruth, CompareRead, SimpleRead, ConjRead, CondRead}
 use Rattle.evaluator.proofs.Numbers.{compares-worth, joined-zero, joined-parts}
 use Rattle.evaluator.proofs.Places.{front-is, behind, number-at, name-at, apart, kind-within}
 use Rattle.evaluator.proofs.Slots.{slot-value, slot-held}

@@ -9,11 +9,13 @@ use lib.ListN.{length, getD, drop, replicate, length-drop, length-append, getD-r
 use lib.IntN.{ℤ}
 use Rattle.syntax.specs.Token.{Lexeme, key, mark, markNumber, keywordNumber, rbrace, rparen, semicolon, k-else, k-if}
 use Rattle.syntax.specs.Held.Kind.{kindOf, nameKind, noKind}
-use Rattle.syntax.specs.Tree.{Var, Cond, Block, end, then, Stmt, assign, if-then, if-else, spellExpr, spellBlock, spellStmt}
+use Rattle.syntax.specs.Tree.{Var, Cond, Block, end, then, Stmt, assign, if-then, if-else, spellExpr, spellBlock}
+use Rattle.syntax.specs.Tree.{spellStmt}
 use Rattle.meaning.specs.Value.{truth, assigned, andThen, runBlock, runStmt}
 use Rattle.evaluator.specs.Coding.{Codes, RunAs, lane}
 use Rattle.meaning.specs.Held.{Biased, Ranges}
-use Rattle.evaluator.specs.Promises.{Next, Closes, frontKind, ExprRead, CondRead, Stored, BlockRun, StmtRun, BranchRun, RunIn, oneBlock}
+use Rattle.evaluator.specs.Promises.{Next, Closes, frontKind, ExprRead, CondRead, Stored, BlockRun, StmtRun}
+use Rattle.evaluator.specs.Promises.{BranchRun, RunIn, oneBlock}
 use Rattle.evaluator.proofs.Places.{front-is, behind, name-at, apart, same-length}
 use Rattle.evaluator.proofs.Readings.{semicolon-ends, rparen-ends}
 

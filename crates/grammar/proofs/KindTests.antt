@@ -1,17 +1,19 @@
 -- The tests of lexemes that the readers go by, as tests of kinds.
-use Prim.Native.Nat.{ℕ, zero, suc, _+_, _≤_, _<_}
+use Prim.Native.Nat.{ℕ, zero, suc, _≤_, _<_}
 use mathlib.Core.Bool.{Bool, true, false, _&&_, _||_, or-false}
-use mathlib.Core.Path.{_≡_, refl, sym, _∙_}
+use mathlib.Core.Path.{_≡_, refl, _∙_}
 use mathlib.Core.List.{List, [], _∷_}
 use native.Mathlib.Omega.{arith}
 use lib.Dec.{leb, eqb, leb·zero, leb·suc-zero, leb·suc-suc, eqb·zero-suc, eqb·suc-zero, eqb·suc-suc, lit<, lit≤}
-use borrow.Author.Tests.{eq-eqb, ne-eqb, eqb-true, eqb-false, le-leb, lt-leb, leb-true, leb-false}
-use Rattle.syntax.specs.Token.{Lexeme, name, key, number, mark, Mark, same, differs, below, at-most, above, at-least, plus, minus}
+use borrow.Author.Tests.{le-leb, lt-leb, leb-true, leb-false}
+use Rattle.syntax.specs.Token.{Lexeme, name, key, number, mark, Mark, same, differs, below, at-most, above, at-least}
+use Rattle.syntax.specs.Token.{plus, minus}
 use Rattle.syntax.specs.Token.{Keyword, markNumber, isMark, isKey, isName}
 use Rattle.syntax.specs.Held.Kind.{kindOf, nameKind, numberKind}
 use Rattle.syntax.proofs.ByKind.{isNumber, kind-mark, kind-key, kind-name, kind-number}
 use Rattle.syntax.specs.Tree.{Sign, added, taken, Comparison, eq, ne, lt, le, gt, ge}
-use Rattle.syntax.specs.Decide.Reading.{Got, got, stuck, Reader, onwards, _>>=_, give, begins, rest, choose, expect, readName, readNumber, isSign, readSign, readComparison}
+use Rattle.syntax.specs.Decide.Reading.{Got, got, stuck, Reader, onwards, _>>=_, give, begins, rest, choose, expect}
+use Rattle.syntax.specs.Decide.Reading.{readName, readNumber, isSign, readSign, readComparison}
 use Rattle.grammar.specs.Reads.{Follows, Tells, Expects}
 use Rattle.grammar.specs.declared.Pos.{Pos}
 use Rattle.grammar.proofs.Readers.{shape, shaped}

@@ -4,12 +4,14 @@ use native.Mathlib.Omega.{arith}
 use mathlib.Core.Path.{_≡_, refl, sym, ap, _∙_}
 use mathlib.Core.List.{List, [], _∷_, _++_, map, append-assoc, append-nil}
 use lib.ListN.{length, drop, getD, length-append}
-use Rattle.syntax.specs.Token.{Token, lexemes, Lexeme, key, mark, rbrace, k-method, k-waituntil, markNumber, keywordNumber}
+use Rattle.syntax.specs.Token.{Token, lexemes, Lexeme, key, mark, rbrace, k-method, k-waituntil, markNumber}
+use Rattle.syntax.specs.Token.{keywordNumber}
 use Rattle.syntax.specs.Held.Kind.{kindOf, noKind, Words}
 use Rattle.syntax.specs.Tree.{Region, Method, all, each, spellRegion, spellMethod}
 use Rattle.syntax.proofs.ByKind.{kind-below}
 use Rattle.logic.specs.Tests.{bit}
-use Rattle.layout.specs.Promises.{Flagged, more, flagRegions, flagged, flagAt, Holds, Reached, AddsRegion, AddsMethod}
+use Rattle.layout.specs.Promises.{Flagged, more, flagRegions, flagged, flagAt, Holds, Reached, AddsRegion}
+use Rattle.layout.specs.Promises.{AddsMethod}
 use Rattle.layout.specs.declared.Layout.{Layout}
 use Rattle.layout.specs.declared.Spot.{Spot}
 use Rattle.layout.proofs.Spelled.{later, kind-behind}

@@ -8,10 +8,17 @@ use mathlib.Core.List.{List, [], _∷_, _++_, append-assoc, head-eq-of-cons-eq, 
 use lib.Dec.{eqb}
 use lib.ListN.{length, drop, take, take-append-drop}
 use lib.Seq.{drop-append-seam}
-use Rattle.syntax.specs.Token.{Lexeme, name, key, number, mark, lbrace, rbrace, lparen, rparen, semicolon, equals, dots, becomes, minus, bang, and-and, or-or, k-monitor, k-var, k-in, k-keep, k-method, k-waituntil, k-if, k-else, k-true, k-false, markNumber, keywordNumber}
+use Rattle.syntax.specs.Token.{Lexeme, name, key, number, mark, lbrace, rbrace, lparen, rparen, semicolon, equals, dots}
+use Rattle.syntax.specs.Token.{becomes, minus, bang, and-and, or-or, k-monitor, k-var, k-in, k-keep, k-method}
+use Rattle.syntax.specs.Token.{k-waituntil, k-if, k-else, k-true, k-false, markNumber, keywordNumber}
 use Rattle.syntax.specs.Held.Kind.{kindOf, noKind}
 use Rattle.syntax.proofs.ByKind.{kind-below}
-use Rattle.syntax.specs.Tree.{Int, plain, negated, Atom, literal, variable, Sign, added, taken, Term, Expr, Comparison, eq, ne, lt, le, gt, ge, Cond, only, or, Conj, just, and, Simple, negation, bracketed, constant, compare, Block, end, then, Stmt, assign, if-then, if-else, Region, Method, Var, Monitor, all, each, spell, spellInt, spellAtom, signMark, spellTerm, spellExpr, comparisonMark, spellConstant, spellCond, spellConj, spellSimple, spellBlock, spellStmt, spellRegion, spellMethod, spellVar}
+use Rattle.syntax.specs.Tree.{Int, plain, negated, Atom, literal, variable, Sign, added, taken, Term, Expr, Comparison}
+use Rattle.syntax.specs.Tree.{eq, ne, lt, le, gt, ge, Cond, only, or, Conj, just, and, Simple, negation, bracketed}
+use Rattle.syntax.specs.Tree.{constant, compare, Block, end, then, Stmt, assign, if-then, if-else, Region, Method, Var}
+use Rattle.syntax.specs.Tree.{Monitor, all, each, spell, spellInt, spellAtom, signMark, spellTerm, spellExpr}
+use Rattle.syntax.specs.Tree.{comparisonMark, spellConstant, spellCond, spellConj, spellSimple, spellBlock, spellStmt}
+use Rattle.syntax.specs.Tree.{spellRegion, spellMethod, spellVar}
 use Rattle.layout.proofs.Closes.{Balanced, balanced-nil, balanced-join, balanced-one, balanced-wrap}
 use Rattle.layout.proofs.Closes.{openBracket, shutBracket, openBrace, shutBrace, semicolonKind}
 

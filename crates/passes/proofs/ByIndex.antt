@@ -10,7 +10,8 @@ use lib.ListN.{length, take, drop, getD, length-map, List·getD-map, drop-of-len
 use lib.Seq.{take-suc, drop-cons}
 use lib.Dec.{leb, eqb}
 use borrow.Author.Tests.{leb-false}
-use Rattle.syntax.specs.Token.{Lexeme, name, number, mark, lbrace, rbrace, lparen, rparen, Token, k-var, k-method, k-waituntil, isKey}
+use Rattle.syntax.specs.Token.{Lexeme, name, number, mark, lbrace, rbrace, lparen, rparen, Token, k-var, k-method}
+use Rattle.syntax.specs.Token.{k-waituntil, isKey}
 use Rattle.syntax.specs.Held.Kind.{kindOf, valueOf, Words}
 use Rattle.syntax.proofs.ByKind.{kind-mark}
 use Rattle.meaning.specs.Accepted.{opens, closes}

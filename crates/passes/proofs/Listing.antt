@@ -15,7 +15,8 @@ use Rattle.meaning.specs.Decide.Check.{tally, pastLimit}
 use Rattle.passes.specs.declared.Names.{Names}
 use Rattle.passes.specs.Tokens.{titlesOf, titlesFrom, slotOrValue, Stands, Titles, Resolved, Grows}
 use Rattle.syntax.proofs.ByKind.{kind-name, kind-key}
-use Rattle.passes.proofs.ByIndex.{rest-at, tokenAt, kinds-long, values-long, value-at, kind-at, here, front-more, at-end, tally-least, Few, few-first, few-next, room}
+use Rattle.passes.proofs.ByIndex.{rest-at, tokenAt, kinds-long, values-long, value-at, kind-at, here, front-more}
+use Rattle.passes.proofs.ByIndex.{at-end, tally-least, Few, few-first, few-next, room}
 use Rattle.passes.proofs.Naming.{name-stands}
 
 -- Names behind a keyword
