@@ -3,6 +3,7 @@ use Prim.Native.Nat.{ℕ, _+_, _≤_}
 use mathlib.Core.Path.{_≡_}
 use mathlib.Core.List.{List, map}
 use lib.ListN.{length}
+use Rattle.syntax.specs.Limits.{mostBytes}
 use Rattle.syntax.specs.Token.{Lexeme, name, key, number, mark, markNumber, keywordNumber, Token}
 use Rattle.syntax.specs.Decide.Scan.{tokens, tokenize}
 
@@ -47,9 +48,9 @@ valueOf (key k) = 0
 valueOf (number n) = n
 valueOf (mark m) = 0
 
--- the tokens of a file of at most 8,192 bytes
+-- the tokens of a file that is not too long
 pub record Words (file : List ℕ) (ts : List Token) (kinds values places : List ℕ) : Type 0 where
-  pub short : length file ≤ 8192
+  pub short : length file ≤ mostBytes
   pub cut : tokenize file ≡ tokens ts
   pub by-kind : kinds ≡ map (λ t. kindOf (t .lexeme)) ts
   pub by-value : values ≡ map (λ t. valueOf (t .lexeme)) ts
