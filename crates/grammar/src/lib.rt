@@ -4,6 +4,7 @@ ghost use mathlib.Core.List.{List, map};
 ghost use mathlib.Core.Path.{_≡_};
 ghost use lib.ListN.{length};
 ghost use Prim.Native.Nat.{_≤_};
+ghost use Rattle.syntax.specs.Limits.{mostBytes};
 ghost use Rattle.syntax.specs.Token.{Lexeme, isKey, k-var, k-method, k-waituntil};
 ghost use Rattle.syntax.specs.Tree.{Int, Atom, Term, Expr, Cond, Conj, Simple, Block, Stmt, Region, Method, Var, Monitor};
 ghost use Rattle.syntax.specs.Decide.Reading.{atEnd, isSign, readMany, readInt, readAtom, readTerm, readExpr, readCond, readConj, readSimple, readBlock, readStmt, readRegion, readMethod, readVar, readMonitor};
@@ -332,9 +333,9 @@ fn read_monitor(kinds: &[u8], from: Pos, left: usize) -> Pos
 
 // Where a file's tokens are no file of the grammar (4), or their count.
 pub fn read(kinds: &[u8]) -> Pos
-    ensures { λ r. ⌜ ((ls : List Lexeme) → map kindOf ls ≡ now (kinds .entry) → length ls ≤ 8192 → Reads r ls (reading.read ls)) ⌝ }
+    ensures { λ r. ⌜ ((ls : List Lexeme) → map kindOf ls ≡ now (kinds .entry) → length ls ≤ mostBytes → Reads r ls (reading.read ls)) ⌝ }
 {
-    if 8192 < kinds.len() {
+    if syntax::FILE_BYTES < kinds.len() {
         return Pos::Stuck(0);
     }
     read_monitor(kinds, Pos::Next(0), 4 * (kinds.len() + 1))

@@ -6,6 +6,8 @@ ghost use mathlib.Core.List.{List, []};
 ghost use mathlib.Core.Option.{none};
 ghost use lib.Dec.{leb, eqb};
 ghost use Rattle.syntax.specs.Bytes.{sameBytes};
+ghost use Rattle.syntax.specs.Limits.{mostTokens, mostOpen, mostVars, mostMethods};
+ghost use Rattle.machine.specs.Limits.{mostRegions};
 ghost use Rattle.syntax.specs.Token.{Token, Lexeme, name, number, k-var, k-method, k-waituntil, isKey};
 ghost use Rattle.syntax.specs.Held.Kind.{kindOf, valueOf, nameKind, Words};
 ghost use Rattle.meaning.specs.Accepted.{opens};
@@ -39,13 +41,13 @@ fn more(n: usize, one: bool) -> usize
 // Is this token past the 1,024th, or one that opens the thirteenth level?
 fn crowds(kind: u8, passed: usize, opened: usize, closed: usize) -> bool
     requires { ⌜ closed ≤ passed ⌝ }
-    ensures { λ r. ⌜ ((l : Lexeme) → kind ≡ kindOf l → r ≡ (leb 1024 passed || (opens l && leb (closed + 12) opened))) ⌝ }
+    ensures { λ r. ⌜ ((l : Lexeme) → kind ≡ kindOf l → r ≡ (leb mostTokens passed || (opens l && leb (closed + mostOpen) opened))) ⌝ }
 {
-    if 1024 <= passed {
+    if syntax::TOKENS <= passed {
         return true;
     }
     if either(kind, syntax::LBRACE, syntax::LPAREN) {
-        return closed + 12 <= opened;
+        return closed + syntax::OPEN <= opened;
     }
     false
 }
@@ -75,17 +77,17 @@ pub fn find_crowded(kinds: &[u8], places: &[u16]) -> Found
 
 // Is this token a var past 6, a method past 8 or a waituntil past 16?
 fn exceeds(kind: u8, vars: usize, methods: usize, regions: usize) -> bool
-    ensures { λ r. ⌜ ((l : Lexeme) → kind ≡ kindOf l → r ≡ ((isKey k-var l && leb 6 vars) || (isKey k-method l && leb 8 methods)
-        || (isKey k-waituntil l && leb 16 regions))) ⌝ }
+    ensures { λ r. ⌜ ((l : Lexeme) → kind ≡ kindOf l → r ≡ ((isKey k-var l && leb mostVars vars) || (isKey k-method l && leb mostMethods methods)
+        || (isKey k-waituntil l && leb mostRegions regions))) ⌝ }
 {
     if kind == syntax::KEY_VAR {
-        return 6 <= vars;
+        return syntax::VARIABLES <= vars;
     }
     if kind == syntax::KEY_METHOD {
-        return 8 <= methods;
+        return syntax::METHODS <= methods;
     }
     if kind == syntax::KEY_WAITUNTIL {
-        return 16 <= regions;
+        return machine::REGIONS <= regions;
     }
     false
 }
@@ -116,10 +118,10 @@ pub fn find_past_limit(kinds: &[u8], places: &[u16]) -> Found
     Found::Nothing
 }
 
-// Up to eight declared names: where each begins in the file, and its length.
+// Declared names, as many as there may be methods: where each begins in the file, and its length.
 pub struct Names {
-    pub starts: [u16; 8],
-    pub lens: [u16; 8],
+    pub starts: [u16; syntax::METHODS],
+    pub lens: [u16; syntax::METHODS],
     pub count: usize,
 }
 
@@ -127,8 +129,8 @@ fn no_names() -> Names
     ensures { λ r. ⌜ ((file : List ℕ) → Titles file [] r) ⌝ }
 {
     Names {
-        starts: [0u16; 8],
-        lens: [0u16; 8],
+        starts: [0u16; syntax::METHODS],
+        lens: [0u16; syntax::METHODS],
         count: 0,
     }
 }
@@ -152,12 +154,12 @@ fn same_part(file: &[u8], a: u16, a_len: u16, b: u16, b_len: u16) -> bool
 
 // The slot of a name among the declared ones, or their count.
 fn slot_of(file: &[u8], names: Names, start: u16, len: u16) -> usize
-    ensures within { λ r. ⌜ r ≤ 8 ⌝ }
+    ensures within { λ r. ⌜ r ≤ mostMethods ⌝ }
     ensures slot { λ r. ⌜ ((titles : List (List ℕ)) (x : List ℕ) → Titles (now (file .entry)) titles names
         → Stands (now (file .entry)) x start len → r ≡ slotIn titles x) ⌝ }
 {
     let mut i = 0;
-    while i < names.count && i < 8 {
+    while i < names.count && i < syntax::METHODS {
         if same_part(file, names.starts[i], names.lens[i], start, len) {
             return i;
         }
@@ -181,7 +183,7 @@ fn declares(kind: u8, before: u8, keyword: u8) -> bool
     kind == syntax::NAME && before == keyword
 }
 
-// One name more, where it is to be added and there are not eight.
+// One name more, where it is to be added and there is room.
 fn declared(names: Names, adds: bool, start: u16, len: u16) -> Names
     ensures { λ r. ⌜ Grows names adds start len r ⌝ }
 {
@@ -189,7 +191,7 @@ fn declared(names: Names, adds: bool, start: u16, len: u16) -> Names
     if !adds {
         return names;
     }
-    if 8 <= at {
+    if syntax::METHODS <= at {
         return names;
     }
     let mut more = names;

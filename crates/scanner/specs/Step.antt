@@ -5,6 +5,7 @@ use mathlib.Core.List.{List, [], _∷_}
 use lib.ListN.{take, drop}
 use lib.Dec.{eqb}
 use Rattle.syntax.specs.Bytes.{blank, digit, wordByte, leading, decimal, sameBytes}
+use Rattle.syntax.specs.Limits.{mostWordBytes, mostDigits}
 use Rattle.syntax.specs.Token.{Lexeme, name, key, number, mark, keywordNumber, keywords}
 use Rattle.syntax.specs.Held.Kind.{kindOf, keywordCount}
 use Rattle.syntax.specs.Decide.Scan.{nothing, found, scan, atMost, wordOf}
@@ -56,10 +57,10 @@ stepOf s (found l n) = stepTo (tokenOf s n l) s (s + n)
 
 -- the word, and the number, at the front of some bytes, as `scan` has them
 abbrev pub wordAt : List ℕ → Scan
-wordAt bs = atMost 16 (leading wordByte bs) (wordOf keywords (take (leading wordByte bs) bs))
+wordAt bs = atMost mostWordBytes (leading wordByte bs) (wordOf keywords (take (leading wordByte bs) bs))
 
 abbrev pub numberAt : List ℕ → Scan
-numberAt bs = atMost 3 (leading digit bs) (number (decimal 0 (take (leading digit bs) bs)))
+numberAt bs = atMost mostDigits (leading digit bs) (number (decimal 0 (take (leading digit bs) bs)))
 
 -- the token behind the blanks at a place of a file
 unfoldable pub stepAt : List ℕ → ℕ → Step

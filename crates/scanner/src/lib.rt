@@ -7,6 +7,7 @@ ghost use Prim.Native.Nat.{_+_, _-_, _≤_, _<_};
 ghost use lib.ListN.{take, drop, getD, length};
 ghost use Rattle.syntax.specs.Bytes.{blank, letter, digit, wordByte, leading, decimal, sameBytes};
 ghost use Rattle.syntax.specs.Decide.Scan.{markOf, wordOf, nothing, scan as scanned};
+ghost use Rattle.syntax.specs.Limits.{mostBytes, mostWordBytes, mostDigits};
 ghost use Rattle.syntax.specs.Token.{marks, keywords};
 ghost use Rattle.scanner.specs.Step.{passes, marked, place, keyCode, wordAt, numberAt, stepOf, stepTo, stepAt};
 ghost use Rattle.scanner.specs.Coded.{lexemeCode, Within, codeOf, Scans};
@@ -36,7 +37,7 @@ pub struct Step {
     pub next: Cursor,
 }
 
-// How many tokens a file has; the first byte that begins none (2); or that it is over 8,192 bytes (1).
+// How many tokens a file has; the first byte that begins none (2); or that it is too long (1).
 pub enum Scanned {
     Tokens(usize),
     Bad(usize),
@@ -212,9 +213,9 @@ fn keyword_of(part: &[u8]) -> u8
     5 + place_of(part, b"waituntil", b"if", b"else", b"true", b"false")
 }
 
-// The value of at most three digits.
+// The value of few enough digits.
 fn value_of(part: &[u8]) -> u16
-    requires { ⌜ (length (now part) ≤ 3) × (leading digit (now part) ≡ length (now part)) ⌝ }
+    requires { ⌜ (length (now part) ≤ mostDigits) × (leading digit (now part) ≡ length (now part)) ⌝ }
     ensures { λ r. ⌜ r ≡ decimal 0 (now (part .entry)) ⌝ }
 {
     let mut n: u16 = 0;
@@ -257,7 +258,7 @@ fn word_at(file: &[u8], start: usize) -> Step
     ensures { λ r. ⌜ r ≡ stepOf start (wordAt (drop start (now (file .entry)))) ⌝ }
 {
     let end = run_end(file, start, WORD);
-    if 16 < end - start {
+    if syntax::WORD_BYTES < end - start {
         none_at(start)
     } else {
         found(Token::Word(start, end), start, end)
@@ -269,7 +270,7 @@ fn number_at(file: &[u8], start: usize) -> Step
     ensures { λ r. ⌜ r ≡ stepOf start (numberAt (drop start (now (file .entry)))) ⌝ }
 {
     let end = run_end(file, start, DIGIT);
-    if 3 < end - start {
+    if syntax::NUMBER_DIGITS < end - start {
         none_at(start)
     } else {
         found(Token::Number(value_of(&file[start..end])), start, end)
@@ -348,7 +349,7 @@ fn read_token(file: &[u8], at: usize) -> Step
 
 // How a word of the file is held.
 fn word_code(file: &[u8], from: usize, end: usize) -> Code
-    requires { ⌜ (from ≤ end) × (end ≤ length (now file)) × (end ≤ from + 16) ⌝ }
+    requires { ⌜ (from ≤ end) × (end ≤ length (now file)) × (end ≤ from + mostWordBytes) ⌝ }
     ensures { λ r. ⌜ r ≡ lexemeCode (wordOf keywords (take (end - from) (drop from (now (file .entry))))) ⌝ }
 {
     let key = keyword_of(&file[from..end]);
@@ -386,15 +387,15 @@ fn code_of(file: &[u8], token: Token) -> Code
 
 // The tokens of a file, into slices that are long enough.
 fn scan_into(file: &[u8], kinds: &mut [u8], values: &mut [u16], places: &mut [u16]) -> Scanned
-    requires { ⌜ (length (now kinds) ≡ 8192) × (length (now values) ≡ 8192) × (length (now places) ≡ 8192) ⌝ }
+    requires { ⌜ (length (now kinds) ≡ mostBytes) × (length (now values) ≡ mostBytes) × (length (now places) ≡ mostBytes) ⌝ }
     ensures { λ r. ⌜ Scans (now (file .entry)) r (now (kinds .exit)) (now (values .exit)) (now (places .exit)) ⌝ }
 {
-    if 8192 < file.len() {
+    if syntax::FILE_BYTES < file.len() {
         return Scanned::TooLong;
     }
     let mut cursor = Cursor::new();
     let mut n: usize = 0;
-    while n < 8192 {
+    while n < syntax::FILE_BYTES {
         let at = cursor.at;
         let step = read_token(file, at);
         let start = step.start;
@@ -416,12 +417,12 @@ fn scan_into(file: &[u8], kinds: &mut [u8], values: &mut [u16], places: &mut [u1
     Scanned::Tokens(n)
 }
 
-// The tokens of a file of at most 8,192 bytes: each token's kind, a number's value or a name's length, and its place.
+// The tokens of a file that is not too long: each token's kind, a number's value or a name's length, and its place.
 pub fn scan(
     file: &[u8],
-    kinds: &mut [u8; 8192],
-    values: &mut [u16; 8192],
-    places: &mut [u16; 8192],
+    kinds: &mut [u8; syntax::FILE_BYTES],
+    values: &mut [u16; syntax::FILE_BYTES],
+    places: &mut [u16; syntax::FILE_BYTES],
 ) -> Scanned
     ensures { λ r. ⌜ Scans (now (file .entry)) r (now (kinds .exit)) (now (values .exit)) (now (places .exit)) ⌝ }
 {
