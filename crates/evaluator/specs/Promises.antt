@@ -7,6 +7,7 @@ use mathlib.Core.Option.{Option, some}
 use lib.Dec.{eqb, ltb}
 use lib.ListN.{length, getD, drop}
 use lib.IntN.{ℤ, pos, _-ℤ_}
+use Rattle.syntax.specs.Limits.{mostBytes, mostVars}
 use Rattle.syntax.specs.Token.{Lexeme, key, mark, lbrace, rbrace, k-else}
 use Rattle.syntax.specs.Token.{differs, below, at-most, above, at-least, plus, and-and, or-or}
 use Rattle.syntax.specs.Token as token
@@ -21,7 +22,7 @@ use Rattle.evaluator.specs.Coding.{Codes, RunAs, slotOf, lane}
 -- a place among few enough tokens
 pub record Placed (ks : List ℕ) (at : ℕ) : Type 0 where
   pub within : at ≤ length ks
-  pub short : length ks ≤ 8192
+  pub short : length ks ≤ mostBytes
 
 -- the next place
 pub record Next (ks : List ℕ) (at r : ℕ) : Type 0 where
@@ -55,7 +56,7 @@ EndsWhole us = EndsConj us × (frontKind us ≡ kindOf (mark or-or) → ⊥)
 
 -- what an operand adds: the value in its slot, and where that is none of the six a number
 unfoldable pub operand : List ℕ → ℕ → ℕ → ℕ
-operand vars slot p = cond (ltb slot 6) (getD vars slot 0) p
+operand vars slot p = cond (ltb slot mostVars) (getD vars slot 0) p
 
 -- an operand read from a place: what it adds, less m
 pub record AtomRead (ks values : List ℕ) (at slot p m n : ℕ) : Type 0 where

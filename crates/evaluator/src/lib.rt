@@ -18,7 +18,7 @@ ghost use Rattle.meaning.specs.Held.{Biased, Ranges};
 ghost use Rattle.evaluator.specs.Coding.{Codes, EndsCond, RunAs, lane};
 ghost use Rattle.evaluator.specs.Promises.{Placed, Next, Closes, operand, AtomRead, Near, TermRead, ExprRead, testOf, CompareRead, CondRead, ConjRead, SimpleRead, Stored, BlockRun, StmtRun, BranchRun};
 
-const MOST: usize = 8192;
+const syntax::FILE_BYTES: usize = 8192;
 
 // What is added to an expression's value.
 const ZERO: u32 = 1073741824;
@@ -124,7 +124,7 @@ fn operands(vars: &[u16; 96], slot: usize, plus: u32) -> [u32; 16]
         × (plus ≤ 65535 → getD r j 0 ≤ 65535)) ⌝ }
 {
     let mut lanes = [plus; 16];
-    if slot < 6 {
+    if slot < syntax::VARIABLES {
         let mut j: usize = 0;
         while j < 16 {
             lanes[j] = wide(vars[slot * 16 + j]);
@@ -373,7 +373,7 @@ pub fn holds(kinds: &[u8], values: &[u16], vars: &[u16; 96], at: usize) -> u16
         → drop at ls ≡ spellCond c ++ us → EndsCond us → length ls < 8193
         → member r j ≡ truth c vs as′) ⌝ }
 {
-    if MOST < kinds.len() {
+    if syntax::FILE_BYTES < kinds.len() {
         return 0;
     }
     if kinds.len() < at {
@@ -400,7 +400,7 @@ fn merged(on: [bool; 16], new: [u32; 16], old: [u32; 16]) -> [u32; 16]
 
 // Stores a value in each lane.
 fn put(vars: &mut [u16; 96], slot: usize, lanes: [u32; 16])
-    requires { ⌜ (length (now vars) ≡ 96) × (slot < 6) ⌝ }
+    requires { ⌜ (length (now vars) ≡ 96) × (slot < syntax::VARIABLES) ⌝ }
     ensures { λ _. ⌜ (length (now (vars .exit)) ≡ 96) × ((j : ℕ) → j < 16
         → lane (now (vars .exit)) j ≡ set (lane (now (vars .entry)) j) slot (getD lanes j 0 % 65536)) ⌝ }
 {
@@ -413,8 +413,8 @@ fn put(vars: &mut [u16; 96], slot: usize, lanes: [u32; 16])
 
 // An assignment in the lanes of a set: it stores the values, and says in which lanes they are in range, or nothing was stored.
 fn store(
-    lows: [u16; 6],
-    highs: [u16; 6],
+    lows: [u16; syntax::VARIABLES],
+    highs: [u16; syntax::VARIABLES],
     vars: &mut [u16; 96],
     on: [bool; 16],
     slot: usize,
@@ -424,7 +424,7 @@ fn store(
     requires { ⌜ Near 8193 sums ⌝ }
     ensures { λ r. ⌜ Stored lows highs (now (vars .entry)) on slot sums r (now (vars .exit)) ⌝ }
 {
-    if slot < 6 {
+    if slot < syntax::VARIABLES {
         let low = [wide(lows[slot]) + (ZERO - 128); 16];
         let high = [wide(highs[slot]) + (ZERO - 128); 16];
         let out = union(below(sums, low), below(high, sums));
@@ -454,8 +454,8 @@ fn close_of(kinds: &[u8], values: &[u16], brace: usize) -> usize
 fn run_block(
     kinds: &[u8],
     values: &[u16],
-    lows: [u16; 6],
-    highs: [u16; 6],
+    lows: [u16; syntax::VARIABLES],
+    highs: [u16; syntax::VARIABLES],
     vars: &mut [u16; 96],
     on: [bool; 16],
     at: usize,
@@ -481,8 +481,8 @@ fn run_block(
 fn run_stmt(
     kinds: &[u8],
     values: &[u16],
-    lows: [u16; 6],
-    highs: [u16; 6],
+    lows: [u16; syntax::VARIABLES],
+    highs: [u16; syntax::VARIABLES],
     vars: &mut [u16; 96],
     on: [bool; 16],
     at: usize,
@@ -513,8 +513,8 @@ fn run_stmt(
 fn run_branch(
     kinds: &[u8],
     values: &[u16],
-    lows: [u16; 6],
-    highs: [u16; 6],
+    lows: [u16; syntax::VARIABLES],
+    highs: [u16; syntax::VARIABLES],
     vars: &mut [u16; 96],
     on: [bool; 16],
     brace: usize,
@@ -547,8 +547,8 @@ fn run_branch(
 pub fn run_body(
     kinds: &[u8],
     values: &[u16],
-    lows: [u16; 6],
-    highs: [u16; 6],
+    lows: [u16; syntax::VARIABLES],
+    highs: [u16; syntax::VARIABLES],
     vars: [u16; 96],
     at: usize,
 ) -> Ran
@@ -558,7 +558,7 @@ pub fn run_body(
         → RunAs vs (member (r .ok) j) (lane (r .values) j) (runBlock b vs as′)) ⌝ }
 {
     let mut ended = vars;
-    if MOST < kinds.len() {
+    if syntax::FILE_BYTES < kinds.len() {
         return Ran {
             ok: 0,
             values: ended,

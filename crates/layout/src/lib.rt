@@ -4,6 +4,8 @@ ghost use mathlib.Core.Path.{_≡_};
 ghost use mathlib.Core.List.{List};
 ghost use Prim.Native.Nat.{_+_, _%_, _<_, _≤_};
 ghost use lib.ListN.{drop, take, getD, length};
+ghost use Rattle.syntax.specs.Limits.{mostTokens};
+ghost use Rattle.machine.specs.Limits.{mostRegions};
 ghost use Rattle.syntax.specs.Bytes.{sameBytes};
 ghost use Rattle.syntax.specs.Token.{Lexeme, Token, lexemes};
 ghost use Rattle.syntax.specs.Tree.{Monitor, spell};
@@ -21,13 +23,13 @@ pub struct Layout {
     pub guards: usize,
     // of each region: the tokens at which its guard and its body begin, its guard's number, whether it begins a method (1),
     // and whether another region follows it in its method (1)
-    pub guards_at: [u16; 16],
-    pub bodies_at: [u16; 16],
-    pub guard_of: [u8; 16],
-    pub begins: [u8; 16],
-    pub goes_on: [u8; 16],
+    pub guards_at: [u16; machine::REGIONS],
+    pub bodies_at: [u16; machine::REGIONS],
+    pub guard_of: [u8; machine::REGIONS],
+    pub begins: [u8; machine::REGIONS],
+    pub goes_on: [u8; machine::REGIONS],
     // of each guard: the first region that has it
-    pub firsts: [u8; 16],
+    pub firsts: [u8; machine::REGIONS],
 }
 
 // A layout so far, and the token at which to go on.
@@ -170,12 +172,12 @@ fn empty(keep: usize) -> Layout
         keep: keep,
         regions: 0,
         guards: 0,
-        guards_at: [0u16; 16],
-        bodies_at: [0u16; 16],
-        guard_of: [0u8; 16],
-        begins: [0u8; 16],
-        goes_on: [0u8; 16],
-        firsts: [0u8; 16],
+        guards_at: [0u16; machine::REGIONS],
+        bodies_at: [0u16; machine::REGIONS],
+        guard_of: [0u8; machine::REGIONS],
+        begins: [0u8; machine::REGIONS],
+        goes_on: [0u8; machine::REGIONS],
+        firsts: [0u8; machine::REGIONS],
     }
 }
 
@@ -193,7 +195,7 @@ fn guard_number(
 {
     let mut g = 0;
     while g < layout.guards {
-        let first = small(layout.firsts[g]) % 16;
+        let first = small(layout.firsts[g]) % machine::REGIONS;
         let other = wide(layout.guards_at[first]);
         if same_guard(file, kinds, values, places, at, other) {
             return g;
@@ -205,7 +207,7 @@ fn guard_number(
 
 // The next region has a guard of its own.
 fn with_guard(layout: Layout) -> Layout
-    requires { ⌜ (layout .regions < 16) × (layout .guards < 16) ⌝ }
+    requires { ⌜ (layout .regions < mostRegions) × (layout .guards < mostRegions) ⌝ }
     ensures { λ r. ⌜ r ≡ withGuard layout ⌝ }
 {
     let mut next = layout;
@@ -224,7 +226,7 @@ fn with_region(
     begins: u8,
     goes_on: u8,
 ) -> Layout
-    requires { ⌜ layout .regions < 16 ⌝ }
+    requires { ⌜ layout .regions < mostRegions ⌝ }
     ensures { λ r. ⌜ r ≡ withRegion layout «guard_at» «body_at» number begins «goes_on» ⌝ }
 {
     let mut next = layout;
@@ -266,7 +268,7 @@ fn add_region(
     at: usize,
     begins: u8,
 ) -> Spot
-    requires { ⌜ Sized (now kinds) (now values) (now places) × (at < length (now kinds)) × Room layout × (layout .regions < 16) ⌝ }
+    requires { ⌜ Sized (now kinds) (now values) (now places) × (at < length (now kinds)) × Room layout × (layout .regions < mostRegions) ⌝ }
     ensures { λ r. ⌜ Grown (now (kinds .entry)) layout at r × (at < r .at) × (r .layout .regions ≡ layout .regions + 1)
         × AddsRegion (now (file .entry)) (now (kinds .entry)) (now (values .entry)) (now (places .entry)) layout at begins r ⌝ }
 {
@@ -308,7 +310,7 @@ fn add_method(
     let mut i = at;
     let mut begins: u8 = 1;
     while kind_at(kinds, i) == syntax::KEY_WAITUNTIL {
-        if 16 <= so_far.regions {
+        if machine::REGIONS <= so_far.regions {
             return Spot {
                 layout: so_far,
                 at: i,
@@ -329,7 +331,7 @@ fn add_method(
 // The layout of a file of the grammar, whose `keep` stands at a token.
 pub fn lay_out(file: &[u8], kinds: &[u8], values: &[u16], places: &[u16], keep: usize) -> Layout
     ensures { λ r. ⌜ ((m : Monitor) (ts : List Token) → Words (now (file .entry)) ts (now (kinds .entry)) (now (values .entry)) (now (places .entry))
-        → spell m ≡ lexemes ts → length (regions m) ≤ 16 → length ts ≤ 1024 → IsKeep m ts keep → Laid m (lexemes ts) r) ⌝ }
+        → spell m ≡ lexemes ts → length (regions m) ≤ mostRegions → length ts ≤ mostTokens → IsKeep m ts keep → Laid m (lexemes ts) r) ⌝ }
 {
     if kinds.len() <= keep {
         return empty(0);
@@ -353,7 +355,7 @@ pub fn lay_out(file: &[u8], kinds: &[u8], values: &[u16], places: &[u16], keep: 
 
 // Each opening brace's value becomes the token of its closing one.
 pub fn link_braces(kinds: &[u8], values: &mut [u16])
-    ensures { λ _. ⌜ ((ls : List Lexeme) → Kinds ls (now (kinds .entry)) → length (now (values .entry)) ≡ length ls → length ls ≤ 1024
+    ensures { λ _. ⌜ ((ls : List Lexeme) → Kinds ls (now (kinds .entry)) → length (now (values .entry)) ≡ length ls → length ls ≤ mostTokens
         → Linked ls (now (values .entry)) (now (values .exit))) ⌝ }
 {
     if values.len() != kinds.len() {

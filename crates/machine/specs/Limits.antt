@@ -12,3 +12,7 @@ mostStates = 4096
 -- the states after bodies, of all regions at all states
 abbrev pub mostAfter : ℕ
 mostAfter = 65536
+
+-- the entries of all regions and guards
+abbrev pub mostEntries : ℕ
+mostEntries = 256

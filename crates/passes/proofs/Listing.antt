@@ -8,6 +8,7 @@ use mathlib.Core.Option.{none}
 use lib.ListN.{length, take, drop, getD, set, length-append, length-map, drop-of-length-le}
 use lib.Seq.{length-take-le, take-all, set-at, append-snoc, getD-at}
 use lib.Dec.{eqb}
+use Rattle.syntax.specs.Limits.{mostVars, mostMethods}
 use Rattle.syntax.specs.Token.{Lexeme, name, key, number, mark, Token, k-var, Keyword, isKey, isName}
 use Rattle.syntax.specs.Held.Kind.{kindOf, valueOf, nameKind, numberKind, Words}
 use Rattle.logic.proofs.Bools.{split}
@@ -47,7 +48,7 @@ titles-token last at (mark m) ts = refl
 -- What `declared` ensures, said of the lexeme: the names with what it adds
 
 grown : {file : List ℕ} {names after : Names} {titles : List (List ℕ)} {start len : ℕ} (adds b : Bool) (l : Lexeme) → Grows names adds start len after
-    → Titles file titles names → adds ≡ (isName l && b) → (b ≡ true → length titles < 8) → ((x : List ℕ) → l ≡ name x → Stands file x start len)
+    → Titles file titles names → adds ≡ (isName l && b) → (b ≡ true → length titles < mostMethods) → ((x : List ℕ) → l ≡ name x → Stands file x start len)
     → Titles file (titles ++ added b l) after
 unfolding added isName
 grown adds true (name x) d t e r s = d _ _ t .1 x e (r refl) (s x refl)
@@ -59,7 +60,7 @@ grown adds b (mark m) d t e r s = rw append-nil (d _ _ t .0 e)
 module _ {file : List ℕ} {ts : List Token} {kinds values places : List ℕ} (h : Words file ts kinds values places) (i : ℕ) (l : i < length kinds) where
   pub grown-at : {names after : Names} {titles : List (List ℕ)} {before : ℕ} (k : Keyword) (last : Lexeme) (adds : Bool)
       → before ≡ kindOf last → adds ≡ (eqb (getD kinds i 0) nameKind && eqb before (kindOf (key k)))
-      → Grows names adds (getD places i 0) (getD values i 0) after → Titles file titles names → (isKey k last ≡ true → length titles < 8)
+      → Grows names adds (getD places i 0) (getD values i 0) after → Titles file titles names → (isKey k last ≡ true → length titles < mostMethods)
       → Titles file (titles ++ added (isKey k last) (tokenAt ts i .lexeme)) after
   grown-at k last adds e f d t r =
       grown adds (isKey k last) (tokenAt ts i .lexeme) d t (rw (kind-name, kind-key k last, ← kind-at h i, ← e) f) r (name-stands h i l)
@@ -90,7 +91,7 @@ listing-next {ts = ts} h n {i = i} adds s l e d =
       known = kind-at h i;
       titles = s .titles ++ added b (t .lexeme);
       so-far = s .so-far ∙ rw (here h i l, titles-token (s .last) (t .at) (t .lexeme) (drop (i + 1) ts), append-assoc);
-      held = grown-at h i l k-var (s .last) adds (s .known) e d (s .held) (room b _ _ 6 (s .few .vars) (s .few .few-vars) (omega arith));
+      held = grown-at h i l k-var (s .last) adds (s .known) e d (s .held) (room b _ _ mostVars (s .few .vars) (s .few .few-vars) (omega arith));
       few = few-next h n _ 0 (s .few) l (rw length-append (omega (arith, added-few b (t .lexeme) (length (s .titles))))) (omega arith);
     }
 

@@ -7,6 +7,7 @@ use mathlib.Core.List.{List, [], _∷_, _++_, append-nil, reverse, reverse-cons}
 use mathlib.Core.Option.{Option, none, some}
 use lib.ListN.{length, drop, getD, length-append, length-reverse}
 use lib.Dec.{eqb}
+use Rattle.syntax.specs.Limits.{mostVars, mostMethods}
 use Rattle.syntax.specs.Bytes.{sameBytes}
 use Rattle.syntax.specs.Token.{Lexeme, name, key, number, mark, Token, k-var, k-method, isKey}
 use Rattle.syntax.specs.Held.Kind.{kindOf, nameKind, numberKind, Words}
@@ -149,8 +150,8 @@ module _ {file : List ℕ} {ts : List Token} {kinds values places : List ℕ} (h
         ms = added m (t .lexeme) ++ s .ms;
         so-far = goes-on naming h (number 0, [], []) summary i (s .so-far) l (judged l r d ∙ e);
         vars-held = rw (reverse-added v (t .lexeme) (s .vs)) (grown-at h i l k-var (s .last) a (s .known) f p (s .vars-held)
-            (rw length-reverse (room v _ _ 6 (s .few .vars) (s .few .few-vars) (omega arith))));
+            (rw length-reverse (room v _ _ mostVars (s .few .vars) (s .few .few-vars) (omega arith))));
         methods-held = rw (reverse-added m (t .lexeme) (s .ms)) (grown-at h i l k-method (s .last) b (s .known) g q (s .methods-held)
-            (rw length-reverse (room m _ _ 8 (s .few .methods) (s .few .few-methods) (omega arith))));
+            (rw length-reverse (room m _ _ mostMethods (s .few .methods) (s .few .few-methods) (omega arith))));
         few = few-next h n _ _ (s .few) l (rw length-append (added-few v (t .lexeme) (length (s .vs)))) (rw length-append (added-few m (t .lexeme) (length (s .ms))));
       }

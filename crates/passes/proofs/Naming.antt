@@ -8,6 +8,7 @@ use lib.ListN.{length, take, drop, getD, set, length-append, length-drop, List·
 use lib.Seq.{length-take-le, getD-at, getD-set-same, getD-set-other}
 use lib.Dec.{ltb, eqb, leb·suc-suc}
 use borrow.Author.Tests.{lt-ltb, ltb-true, ltb-false}
+use Rattle.syntax.specs.Limits.{mostMethods}
 use Rattle.syntax.specs.Bytes.{sameBytes}
 use Rattle.syntax.specs.Token.{Lexeme, name, key, number, mark, Token, k-var, k-method, k-monitor, Mark, Keyword}
 use Rattle.syntax.specs.Held.Kind.{kindOf, valueOf, nameKind, Words}
@@ -63,8 +64,8 @@ slot-member (y ∷ ys) x = split (sameBytes y x)
 
 -- One name more
 
-pub one-more : {file : List ℕ} {titles : List (List ℕ)} {names : Names} (x : List ℕ) (start len : ℕ) → Titles file titles names → length titles < 8
-    → length (names .starts) ≡ 8 → length (names .lens) ≡ 8 → Stands file x start len
+pub one-more : {file : List ℕ} {titles : List (List ℕ)} {names : Names} (x : List ℕ) (start len : ℕ) → Titles file titles names → length titles < mostMethods
+    → length (names .starts) ≡ mostMethods → length (names .lens) ≡ mostMethods → Stands file x start len
     → Titles file (titles ++ (x ∷ []))
     (record { starts = set (names .starts) (names .count) start; lens = set (names .lens) (names .count) len; count = names .count + 1 })
 one-more {file} {titles} {names} x start len t room a b s =

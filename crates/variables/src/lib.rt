@@ -5,6 +5,8 @@ ghost use mathlib.Core.List.{List, [], _++_};
 ghost use Prim.Native.Nat.{ℕ, _+_, _^_, _<_, _≤_};
 ghost use lib.ListN.{drop, length, getD};
 ghost use lib.IntN.{ℤ};
+ghost use Rattle.syntax.specs.Limits.{mostBytes, mostVars};
+ghost use Rattle.machine.specs.Limits.{mostStates};
 ghost use Rattle.syntax.specs.Token.{Lexeme};
 ghost use Rattle.syntax.specs.Tree.{Var, each, spellVar};
 ghost use Rattle.meaning.specs.State.{stateAt, numberOf, count};
@@ -15,10 +17,10 @@ ghost use Rattle.variables.specs.Promises.{IntAt, TripleAt, Good, Fittin
 
 // At most six variables: bounds, start values, sizes of ranges, and weights in a state's number.
 pub struct Bounds {
-    pub lows: [u16; 6],
-    pub highs: [u16; 6],
-    pub starts: [u16; 6],
-    pub weights: [u16; 6],
+    pub lows: [u16; syntax::VARIABLES],
+    pub highs: [u16; syntax::VARIABLES],
+    pub starts: [u16; syntax::VARIABLES],
+    pub weights: [u16; syntax::VARIABLES],
     pub count: usize,
     pub states: usize,
 }
@@ -102,7 +104,7 @@ fn triple_at(kinds: &[u8], values: &[u16], at: usize) -> Triple
 
 // Whether a variable's bounds and start value are good and leave at most 4,096 states.
 fn fits(states: usize, v: Triple) -> bool
-    requires { ⌜ states ≤ 4096 ⌝ }
+    requires { ⌜ states ≤ mostStates ⌝ }
     ensures { λ r. ⌜ Fitting states v r ⌝ }
 {
     if v.high < v.low {
@@ -120,7 +122,7 @@ fn fits(states: usize, v: Triple) -> bool
     if v.high < v.start {
         return false;
     }
-    states * ((v.high - v.low) as usize + 1) <= 4096
+    states * ((v.high - v.low) as usize + 1) <= machine::STATES
 }
 
 // No variables: slots without a variable have an empty range, and 0 as their start value.
@@ -128,10 +130,10 @@ fn no_bounds() -> Bounds
     ensures { λ r. ⌜ Loaded [] r ⌝ }
 {
     Bounds {
-        lows: [1u16; 6],
-        highs: [0u16; 6],
-        starts: [128u16; 6],
-        weights: [1u16; 6],
+        lows: [1u16; syntax::VARIABLES],
+        highs: [0u16; syntax::VARIABLES],
+        starts: [128u16; syntax::VARIABLES],
+        weights: [1u16; syntax::VARIABLES],
         count: 0,
         states: 1,
     }
@@ -140,12 +142,12 @@ fn no_bounds() -> Bounds
 // One good variable more.
 fn with_var(bounds: Bounds, v: Triple) -> Bounds
     requires { ⌜ Good (bounds .states) v ⌝ }
-    requires { ⌜ (bounds .count ≤ 6) × (bounds .states ≤ 4096) ⌝ }
+    requires { ⌜ (bounds .count ≤ mostVars) × (bounds .states ≤ mostStates) ⌝ }
     ensures { λ r. ⌜ WithVar bounds v r ⌝ }
 {
     let mut next = bounds;
     let at = bounds.count;
-    if at < 6 {
+    if at < syntax::VARIABLES {
         next.lows[at] = (v.low - LOWEST) as u16;
         next.highs[at] = (v.high - LOWEST) as u16;
         next.starts[at] = (v.start - LOWEST) as u16;
@@ -167,11 +169,15 @@ fn size_of(low: u16, high: u16) -> usize
 }
 
 // The weights of the variables, the last one weighing 1. The remainder keeps the product small for any bounds.
-fn weights_of(lows: [u16; 6], highs: [u16; 6], count: usize) -> [u16; 6]
-    requires { ⌜ count ≤ 6 ⌝ }
+fn weights_of(
+    lows: [u16; syntax::VARIABLES],
+    highs: [u16; syntax::VARIABLES],
+    count: usize,
+) -> [u16; syntax::VARIABLES]
+    requires { ⌜ count ≤ mostVars ⌝ }
     ensures { λ r. ⌜ Weights lows highs count r ⌝ }
 {
-    let mut weights = [1u16; 6];
+    let mut weights = [1u16; syntax::VARIABLES];
     let mut weight: usize = 1;
     let mut k = count;
     while 0 < k {
@@ -184,7 +190,7 @@ fn weights_of(lows: [u16; 6], highs: [u16; 6], count: usize) -> [u16; 6]
 
 // Bounds with their weights.
 fn weighed(bounds: Bounds) -> Bounds
-    requires { ⌜ bounds .count ≤ 6 ⌝ }
+    requires { ⌜ bounds .count ≤ mostVars ⌝ }
     ensures { λ r. ⌜ Weighed bounds r ⌝ }
 {
     let mut next = bounds;
@@ -198,7 +204,7 @@ fn weighed(bounds: Bounds) -> Bounds
 // The variables that begin at a token.
 pub fn read(kinds: &[u8], values: &[u16], at: usize) -> Declared
     ensures { λ r. ⌜ ((vs : List Var) (ls us : List Lexeme) → Numbers ls (now (kinds .entry)) (now (values .entry))
-        → drop at ls ≡ each spellVar vs ++ us → EndsVars us → length vs ≤ 6 → length ls ≤ 8192
+        → drop at ls ≡ each spellVar vs ++ us → EndsVars us → length vs ≤ mostVars → length ls ≤ mostBytes
         → Ranged vs ls us at r) ⌝ }
 {
     let mut bounds = no_bounds();
@@ -247,13 +253,13 @@ fn digit_of(low: u16, weight: u16, rest: usize) -> Digit
 }
 
 // The values of the state with a number.
-pub fn values_of(bounds: Bounds, state: usize) -> [u16; 6]
+pub fn values_of(bounds: Bounds, state: usize) -> [u16; syntax::VARIABLES]
     ensures { λ r. ⌜ ((vs : List Var) → Bounded vs bounds → state < count vs → Biased vs (stateAt vs state) r) ⌝ }
 {
-    let mut values = [128u16; 6];
+    let mut values = [128u16; syntax::VARIABLES];
     let mut rest = state;
     let mut k = 0;
-    while k < 6 {
+    while k < syntax::VARIABLES {
         if bounds.count <= k {
             return values;
         }
@@ -277,12 +283,12 @@ fn share_of(value: u16, low: u16, weight: u16) -> usize
 }
 
 // The number of the state with some values.
-pub fn number_of(bounds: Bounds, values: [u16; 6]) -> usize
+pub fn number_of(bounds: Bounds, values: [u16; syntax::VARIABLES]) -> usize
     ensures { λ r. ⌜ ((vs : List Var) (as′ : List ℤ) → Bounded vs bounds → Biased vs as′ values → State vs as′ → r ≡ numberOf vs as′) ⌝ }
 {
     let mut number: usize = 0;
     let mut k = 0;
-    while k < 6 {
+    while k < syntax::VARIABLES {
         if bounds.count <= k {
             return number;
         }
