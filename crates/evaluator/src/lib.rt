@@ -10,6 +10,7 @@ ghost use lib.ListN.{drop, length, getD, set};
 ghost use lib.Dec.{ltb};
 ghost use lib.IntN.{ℤ};
 ghost use Rattle.sets.specs.Set.{member};
+ghost use Rattle.syntax.specs.Limits.{mostVars};
 ghost use Rattle.syntax.specs.Token.{Lexeme, mark, rbrace};
 ghost use Rattle.syntax.specs.Held.Kind.{noKind};
 ghost use Rattle.syntax.specs.Tree.{Var, Cond, Block, spellCond, spellBlock};
@@ -18,12 +19,10 @@ ghost use Rattle.meaning.specs.Held.{Biased, Ranges};
 ghost use Rattle.evaluator.specs.Coding.{Codes, EndsCond, RunAs, lane};
 ghost use Rattle.evaluator.specs.Promises.{Placed, Next, Closes, operand, AtomRead, Near, TermRead, ExprRead, testOf, CompareRead, CondRead, ConjRead, SimpleRead, Stored, BlockRun, StmtRun, BranchRun};
 
-const syntax::FILE_BYTES: usize = 8192;
-
 // What is added to an expression's value.
 const ZERO: u32 = 1073741824;
 
-// An operand: a variable's slot, or 6 and a number, as what is added less what is taken away; and the token behind it.
+// An operand: a variable's slot, or one past all slots and a number, as what is added less what is taken away; and the token behind it.
 struct Atom {
     slot: usize,
     plus: u32,
@@ -103,7 +102,7 @@ fn read_atom(kinds: &[u8], values: &[u16], at: usize) -> Atom
     if kind == syntax::MINUS {
         let minus = value_at(values, next) as u32;
         return Atom {
-            slot: 6,
+            slot: syntax::VARIABLES,
             plus: 0,
             minus,
             next: after(kinds, next),
@@ -111,7 +110,7 @@ fn read_atom(kinds: &[u8], values: &[u16], at: usize) -> Atom
     }
     let plus = value_at(values, at) as u32;
     Atom {
-        slot: 6,
+        slot: syntax::VARIABLES,
         plus,
         minus: 0,
         next,
@@ -400,7 +399,7 @@ fn merged(on: [bool; 16], new: [u32; 16], old: [u32; 16]) -> [u32; 16]
 
 // Stores a value in each lane.
 fn put(vars: &mut [u16; 96], slot: usize, lanes: [u32; 16])
-    requires { ⌜ (length (now vars) ≡ 96) × (slot < syntax::VARIABLES) ⌝ }
+    requires { ⌜ (length (now vars) ≡ 96) × (slot < mostVars) ⌝ }
     ensures { λ _. ⌜ (length (now (vars .exit)) ≡ 96) × ((j : ℕ) → j < 16
         → lane (now (vars .exit)) j ≡ set (lane (now (vars .entry)) j) slot (getD lanes j 0 % 65536)) ⌝ }
 {
