@@ -6,7 +6,11 @@ pub const REGIONS: usize = 16;
 
 pub const STATES: usize = 4096;
 
-// One number past those of all states, where it stands beside them: also what is answered where there is no state.
+// The same, in the types in which the numbers of threads, regions and states are held. The last is also answered where there is no state.
+pub const THREAD_END: u8 = 16;
+
+pub const REGION_END: u8 = 16;
+
 pub const STATE_END: u16 = 4096;
 
 // The states after bodies, of all regions at all states.

@@ -6,6 +6,8 @@ use mathlib.Core.List.{List, _∷_, _++_}
 use mathlib.Core.Option.{Option}
 use lib.ListN.{length, getD, drop}
 use lib.IntN.{ℤ}
+use Rattle.syntax.specs.Limits.{mostVars}
+use Rattle.machine.specs.Limits.{mostStates}
 use Rattle.syntax.specs.Token.{Lexeme, mark, rbrace}
 use Rattle.sets.specs.Set.{member}
 use Rattle.syntax.specs.Tree.{Monitor, Var, Cond, Region, spellCond, spellBlock}
@@ -41,14 +43,14 @@ pub record Guards (m : Monitor) (kinds values : List ℕ) (bounds : Bounds) (ats
 
 -- six values stand at a place and every sixteenth behind it, and all else is as it was
 pub record Put (xs : List ℕ) (at : ℕ) (values ys : List ℕ) : Type 0 where
-  pub here : (k : ℕ) → k < 6 → (n : ℕ) → n ≡ at + k * 16 → getD ys n 0 ≡ getD values k 0
-  pub others : (n : ℕ) → ((k : ℕ) → k < 6 → n ≡ at + k * 16 → ⊥) → getD ys n 0 ≡ getD xs n 0
+  pub here : (k : ℕ) → k < mostVars → (n : ℕ) → n ≡ at + k * 16 → getD ys n 0 ≡ getD values k 0
+  pub others : (n : ℕ) → ((k : ℕ) → k < mostVars → n ≡ at + k * 16 → ⊥) → getD ys n 0 ≡ getD xs n 0
 
 -- the values of state s stand in lane j
 pub record InLane (vs : List Var) (lanes : List ℕ) (j s : ℕ) : Type 0 where
   pub values : List ℕ
   pub biased : Biased vs (stateAt vs s) values
-  pub places : (k : ℕ) → k < 6 → (n : ℕ) → n ≡ j + k * 16 → getD lanes n 0 ≡ getD values k 0
+  pub places : (k : ℕ) → k < mostVars → (n : ℕ) → n ≡ j + k * 16 → getD lanes n 0 ≡ getD values k 0
 
 -- what holds of lane j and the state in it, for the sixteen states from one on
 pub record Sixteen (vs : List Var) (P : ℕ → ℕ → Type 0) (from : ℕ) : Type 0 where
@@ -72,23 +74,23 @@ pub record Body (vs : List Var) (keep : Cond) (q : Region) (kinds values : List 
   pub bounded : Bounded vs bounds
   pub few : length ls ≤ 8192
   pub spelled : drop at ls ≡ spellBlock (q .body) ++ (mark rbrace ∷ us)
-  pub long : 4096 ≤ length kept
+  pub long : mostStates ≤ length kept
   pub by-kept : TruthRow vs keep kept
   pub by-guard : (s : ℕ) → s < count vs → member (getD holds s 0) guard ≡ truth (q .guard) vs (stateAt vs s)
 
--- the number of the state after a run from state s that keeps, and 4096 or more where it does not
+-- the number of the state after a run from state s that keeps, and `mostStates` or more where it does not
 pub record Ended (vs : List Var) (keep : Cond) (s : ℕ) (o : Option (List ℤ)) (to : ℕ) : Type 0 where
-  pub keeps : to < 4096 → keptAfter vs keep o ≡ true
-  pub number : to < 4096 → to ≡ numberAfter vs s o
-  pub faults : 4096 ≤ to → keptAfter vs keep o ≡ false
+  pub keeps : to < mostStates → keptAfter vs keep o ≡ true
+  pub number : to < mostStates → to ≡ numberAfter vs s o
+  pub faults : mostStates ≤ to → keptAfter vs keep o ≡ false
 
--- the number of the state after a region's body, where it may run and keeps; 4096 or more where it breaks
+-- the number of the state after a region's body, where it may run and keeps; `mostStates` or more where it breaks
 pub record Moved (vs : List Var) (keep : Cond) (q : Region) (s to : ℕ) : Type 0 where
-  pub quiet : to < 4096 → breaks vs keep q (stateAt vs s) ≡ false
+  pub quiet : to < mostStates → breaks vs keep q (stateAt vs s) ≡ false
   pub number :
-      to < 4096 → truth keep vs (stateAt vs s) ≡ true → truth (q .guard) vs (stateAt vs s) ≡ true
+      to < mostStates → truth keep vs (stateAt vs s) ≡ true → truth (q .guard) vs (stateAt vs s) ≡ true
       → to ≡ numberAfter vs s (runBlock (q .body) vs (stateAt vs s))
-  pub broken : 4096 ≤ to → breaks vs keep q (stateAt vs s) ≡ true
+  pub broken : mostStates ≤ to → breaks vs keep q (stateAt vs s) ≡ true
 
 abbrev pub Moves : List Var → Cond → Region → List ℕ → ℕ → ℕ → Type 0
 Moves vs keep q moves j s = Moved vs keep q s (getD moves j 0)
@@ -100,9 +102,9 @@ pub record Below (vs : List Var) (keep : Cond) (q : Region) (n : ℕ) (f : ℕ �
       (k : ℕ) → k < n → truth keep vs (stateAt vs k) ≡ true → truth (q .guard) vs (stateAt vs k) ≡ true
       → f k ≡ numberAfter vs k (runBlock (q .body) vs (stateAt vs k))
 
--- the first state at which a region breaks, or 4096 and the numbers after its body at every state
+-- the first state at which a region breaks, or `mostStates` and the numbers after its body at every state
 pub record RowDone (vs : List Var) (keep : Cond) (q : Region) (f : ℕ → ℕ) (r : ℕ) : Type 0 where
-  pub whole : 4096 ≤ r → Below vs keep q (count vs) f
-  pub below : r < 4096 → r < count vs
-  pub first : r < 4096 → breaks vs keep q (stateAt vs r) ≡ true
-  pub lower : r < 4096 → (k : ℕ) → k < r → breaks vs keep q (stateAt vs k) ≡ false
+  pub whole : mostStates ≤ r → Below vs keep q (count vs) f
+  pub below : r < mostStates → r < count vs
+  pub first : r < mostStates → breaks vs keep q (stateAt vs r) ≡ true
+  pub lower : r < mostStates → (k : ℕ) → k < r → breaks vs keep q (stateAt vs k) ≡ false

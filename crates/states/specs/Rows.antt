@@ -5,6 +5,7 @@ use mathlib.Core.Bool.{true}
 use mathlib.Core.List.{List, _∷_, _++_}
 use mathlib.Core.Option.{Option, none, some}
 use lib.ListN.{length, getD, drop}
+use Rattle.machine.specs.Limits.{mostStates}
 use Rattle.sets.specs.Set.{member}
 use Rattle.syntax.specs.Token.{Lexeme, mark, rbrace}
 use Rattle.syntax.specs.Tree.{Var, Cond, Monitor, spellCond, spellBlock}
@@ -44,7 +45,7 @@ HoldsAll m rows = (g s : ℕ) → g < length (guards m) → s < count (vars m) �
 -- the state after every region's body, where it may run
 unfoldable pub AfterAll : Monitor → List ℕ → Type 0
 AfterAll m rows =
-    (r s : ℕ) → r < length (regions m) → runs (model m) r s ≡ true → getD rows (r * 4096 + s) 0 ≡ after m r s
+    (r s : ℕ) → r < length (regions m) → runs (model m) r s ≡ true → getD rows (r * mostStates + s) 0 ≡ after m r s
 
 -- the answer for refusal 9, and the states where there is none
 unfoldable pub AfterAs : Monitor → Broken → Option (ℕ × ℕ) → List ℕ → Type 0

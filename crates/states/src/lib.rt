@@ -6,6 +6,8 @@ ghost use mathlib.Core.List.{List, _++_};
 ghost use Prim.Native.Nat.{ℕ, _+_, _%_, _<_, _≤_};
 ghost use lib.ListN.{drop, length, getD};
 ghost use lib.IntN.{ℤ};
+ghost use Rattle.syntax.specs.Limits.{mostBytes};
+ghost use Rattle.machine.specs.Limits.{mostRegions, mostStates, mostAfter};
 ghost use Rattle.sets.specs.Set.{member};
 ghost use Rattle.syntax.specs.Token.{Lexeme};
 ghost use Rattle.syntax.specs.Tree.{Monitor, Var, Cond, Region, spellCond};
@@ -35,12 +37,12 @@ fn wide(at: u16) -> usize
 }
 
 // A state's values at a place and every sixteenth behind it.
-fn put_values(all: &mut [u16], at: usize, values: [u16; 6])
+fn put_values(all: &mut [u16], at: usize, values: [u16; syntax::VARIABLES])
     requires { ⌜ at + 80 < length (now all) ⌝ }
     ensures { λ _. ⌜ Put (now (all .entry)) at values (now (all .exit)) ⌝ }
 {
     let mut k: usize = 0;
-    while k < 6 {
+    while k < syntax::VARIABLES {
         all[at + k * 16] = values[k];
         k += 1;
     }
@@ -48,7 +50,7 @@ fn put_values(all: &mut [u16], at: usize, values: [u16; 6])
 
 // The values of the sixteen states from one on.
 fn lanes_at(bounds: Bounds, from: usize) -> [u16; 96]
-    requires { ⌜ from ≤ 4096 ⌝ }
+    requires { ⌜ from ≤ mostStates ⌝ }
     ensures { λ r. ⌜ ((vs : List Var) → Bounded vs bounds → Sixteen vs (Values vs r) from) ⌝ }
 {
     let mut lanes = [0u16; 96];
@@ -62,7 +64,7 @@ fn lanes_at(bounds: Bounds, from: usize) -> [u16; 96]
 }
 
 // Whether the condition that begins at a token holds at some values.
-pub fn holds_at(kinds: &[u8], values: &[u16], vars: [u16; 6], at: usize) -> bool
+pub fn holds_at(kinds: &[u8], values: &[u16], vars: [u16; syntax::VARIABLES], at: usize) -> bool
     ensures { λ r. ⌜ ((vs : List Var) (as′ : List ℤ) (ls us : List Lexeme) (c : Cond)
         → Codes vs ls (now (kinds .entry)) (now (values .entry)) → Biased vs as′ vars
         → drop at ls ≡ spellCond c ++ us → EndsCond us → length ls < 8193
@@ -83,10 +85,10 @@ fn bit_of(b: bool) -> u8
 // The truth of the condition that begins at a token, 1 or 0, at every state.
 pub fn fill_row(kinds: &[u8], values: &[u16], bounds: Bounds, at: usize, row: &mut [u8])
     ensures { λ _. ⌜ ((vs : List Var) (c : Cond) → Condition vs c (now (kinds .entry)) (now (values .entry)) bounds at
-        → 4096 ≤ length (now (row .entry)) → TruthRow vs c (now (row .exit))) ⌝ }
+        → mostStates ≤ length (now (row .entry)) → TruthRow vs c (now (row .exit))) ⌝ }
 {
     let states = bounds.states;
-    if 4096 < states {
+    if machine::STATES < states {
         return;
     }
     if row.len() < states {
@@ -109,11 +111,11 @@ fn guards_from(
     kinds: &[u8],
     values: &[u16],
     lanes: &[u16; 96],
-    ats: [u16; 16],
+    ats: [u16; machine::REGIONS],
     count: usize,
     known: &mut [u16],
 )
-    requires { ⌜ (count ≤ 16) × (length (now known) ≡ 16) ⌝ }
+    requires { ⌜ (count ≤ mostRegions) × (length (now known) ≡ mostRegions) ⌝ }
     ensures { λ _. ⌜ ((m : Monitor) (bounds : Bounds) (from : ℕ) → Guards m (now (kinds .entry)) (now (values .entry)) bounds ats count
         → Sixteen (vars m) (Values (vars m) (now (lanes .entry))) from
         → Sixteen (vars m) (Truths m (now (known .exit))) from) ⌝ }
@@ -128,7 +130,7 @@ fn guards_from(
 
 // The guards that hold in lane j, as a set.
 fn guards_in(known: &[u16], j: u32, count: usize) -> u16
-    requires { ⌜ (count ≤ 16) × (length (now known) ≡ 16) ⌝ }
+    requires { ⌜ (count ≤ mostRegions) × (length (now known) ≡ mostRegions) ⌝ }
     ensures { λ r. ⌜ ((g : ℕ) → g < count → member r g ≡ member (getD (now (known .entry)) g 0) j) ⌝ }
 {
     let mut set: u16 = 0;
@@ -147,24 +149,24 @@ pub fn fill_holds(
     kinds: &[u8],
     values: &[u16],
     bounds: Bounds,
-    ats: [u16; 16],
+    ats: [u16; machine::REGIONS],
     count: usize,
     holds: &mut [u16],
 )
     ensures { λ _. ⌜ ((m : Monitor) → Guards m (now (kinds .entry)) (now (values .entry)) bounds ats count
-        → 4096 ≤ length (now (holds .entry)) → HoldsAll m (now (holds .exit))) ⌝ }
+        → mostStates ≤ length (now (holds .entry)) → HoldsAll m (now (holds .exit))) ⌝ }
 {
     let states = bounds.states;
-    if 4096 < states {
+    if machine::STATES < states {
         return;
     }
     if holds.len() < states {
         return;
     }
-    if 16 < count {
+    if machine::REGIONS < count {
         return;
     }
-    let mut known = [0u16; 16];
+    let mut known = [0u16; machine::REGIONS];
     let mut s: usize = 0;
     while s < states {
         if s % 16 == 0 {
@@ -177,7 +179,7 @@ pub fn fill_holds(
 }
 
 // The values in lane j.
-fn lane_of(lanes: &[u16; 96], j: usize) -> [u16; 6]
+fn lane_of(lanes: &[u16; 96], j: usize) -> [u16; syntax::VARIABLES]
     requires { ⌜ j < 16 ⌝ }
     ensures { λ r. ⌜ r ≡ lane (now (lanes .entry)) j ⌝ }
 {
@@ -191,7 +193,7 @@ fn lane_of(lanes: &[u16; 96], j: usize) -> [u16; 6]
     ]
 }
 
-// The number of the state after a body that was run in lane j; 4096 where it leaves a range or ends with the kept condition false.
+// The number of the state after a body that was run in lane j; STATE_END where it leaves a range or ends with the kept condition false.
 fn state_after(bounds: Bounds, ok: u16, ended: &[u16; 96], j: usize, kept: &[u8]) -> u16
     requires { ⌜ j < 16 ⌝ }
     ensures { λ r. ⌜ ((vs : List Var) (keep : Cond) (q : Region) (kinds values holds : List ℕ) (at guard s : ℕ)
@@ -200,18 +202,18 @@ fn state_after(bounds: Bounds, ok: u16, ended: &[u16; 96], j: usize, kept: &[u8]
         → Ended vs keep s (runBlock (q .body) vs (stateAt vs s)) r) ⌝ }
 {
     if !sets::has(ok, j as u32) {
-        return 4096;
+        return machine::STATE_END;
     }
     let values = lane_of(ended, j);
     let to = variables::number_of(bounds, values);
     if kept.len() <= to {
-        return 4096;
+        return machine::STATE_END;
     }
-    if 4096 <= to {
-        return 4096;
+    if machine::STATES <= to {
+        return machine::STATE_END;
     }
     if kept[to] != 1 {
-        return 4096;
+        return machine::STATE_END;
     }
     to as u16
 }
@@ -290,8 +292,8 @@ fn after_row(
     holds: &[u16],
     after: &mut [u16],
 ) -> usize
-    requires { ⌜ (bounds .states ≤ 4096) ⌝ }
-    requires { ⌜ (4096 ≤ length (now kept)) × (4096 ≤ length (now holds)) × (4096 ≤ length (now after)) ⌝ }
+    requires { ⌜ (bounds .states ≤ mostStates) ⌝ }
+    requires { ⌜ (mostStates ≤ length (now kept)) × (mostStates ≤ length (now holds)) × (mostStates ≤ length (now after)) ⌝ }
     ensures { λ r. ⌜ ((vs : List Var) (keep : Cond) (q : Region)
         → Body vs keep q (now (kinds .entry)) (now (values .entry)) bounds at guard (now (kept .entry)) (now (holds .entry))
         → RowDone vs keep q (λ k. getD (now (after .exit)) k 0) r) ⌝ }
@@ -304,53 +306,53 @@ fn after_row(
             moves_from(kinds, values, bounds, at, guard, kept, holds, s, &mut moves);
         }
         let to = moves[s % 16];
-        if 4096 <= to {
+        if machine::STATE_END <= to {
             return s;
         }
         after[s] = to;
         s += 1;
     }
-    4096
+    machine::STATES
 }
 
-// The state after every region's body, at region * 4096 + state; `ats` has the token at which each body begins.
+// The state after every region's body, at region * STATES + state; `ats` has the token at which each body begins.
 pub fn fill_after(
     kinds: &[u8],
     values: &[u16],
     bounds: Bounds,
-    ats: [u16; 16],
-    guard_of: [u8; 16],
+    ats: [u16; machine::REGIONS],
+    guard_of: [u8; machine::REGIONS],
     count: usize,
     kept: &[u8],
     holds: &[u16],
     after: &mut [u16],
 ) -> Broken
     ensures { λ r. ⌜ ((m : Monitor) (ls : List Lexeme)
-        → Codes (vars m) ls (now (kinds .entry)) (now (values .entry)) → Bounded (vars m) bounds → length ls ≤ 8192
-        → count ≡ length (regions m) → count ≤ 16 → BodiesAt m ls ats → GuardNumbers m «guard_of»
-        → 4096 ≤ length (now (kept .entry)) → 4096 ≤ length (now (holds .entry)) → 65536 ≤ length (now (after .entry))
+        → Codes (vars m) ls (now (kinds .entry)) (now (values .entry)) → Bounded (vars m) bounds → length ls ≤ mostBytes
+        → count ≡ length (regions m) → count ≤ mostRegions → BodiesAt m ls ats → GuardNumbers m «guard_of»
+        → mostStates ≤ length (now (kept .entry)) → mostStates ≤ length (now (holds .entry)) → mostAfter ≤ length (now (after .entry))
         → KeptAll m (now (kept .entry)) → HoldsAll m (now (holds .entry))
         → AfterAs m r (broken (vars m) (m .keep) 0 (regions m)) (now (after .exit))) ⌝ }
 {
-    if kept.len() < 4096 {
+    if kept.len() < machine::STATES {
         return Broken::Never;
     }
-    if holds.len() < 4096 {
+    if holds.len() < machine::STATES {
         return Broken::Never;
     }
-    if after.len() < 65536 {
+    if after.len() < machine::AFTER {
         return Broken::Never;
     }
-    if 16 < count {
+    if machine::REGIONS < count {
         return Broken::Never;
     }
-    if 4096 < bounds.states {
+    if machine::STATES < bounds.states {
         return Broken::Never;
     }
     let mut r: usize = 0;
     while r < count {
-        let from = r * 4096;
-        let to = from + 4096;
+        let from = r * machine::STATES;
+        let to = from + machine::STATES;
         let at = wide(ats[r]);
         let guard = guard_of[r];
         let s = after_row(
@@ -363,7 +365,7 @@ pub fn fill_after(
             holds,
             &mut after[from..to],
         );
-        if s < 4096 {
+        if s < machine::STATES {
             return Broken::At(r, s);
         }
         r += 1;
