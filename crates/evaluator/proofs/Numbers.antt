@@ -8,7 +8,8 @@ use mathlib.Core.Bool.{Bool, true, false, cond}
 use lib.Dec.{ltb}
 use lib.IntN.{ℤ, pos, negℤ, _+ℤ_, _-ℤ_, +ℤ-assoc, +ℤ-comm, +ℤ-idl, +ℤ-idr, +ℤ-invr, negℤ-+ℤ, negℤ-negℤ}
 use borrow.Author.Tests.{ltb-true, ltb-false, lt-ltb, le-ltb}
-use Rattle.syntax.specs.Token.{markNumber}
+use Rattle.syntax.specs.Held.Kind.{kindOf}
+use Rattle.syntax.specs.Token.{mark, markNumber}
 use Rattle.syntax.specs.Tree.{Comparison, eq, ne, lt, le, gt, ge, comparisonMark}
 use Rattle.meaning.specs.Value.{negative, less, compares, joined}
 use Rattle.meaning.proofs.Integers.{negative-difference}
@@ -61,9 +62,8 @@ shifted p q m = go (ltb p q) refl
 less-worth : (p q : ℕ) → less (worth p) (worth q) ≡ ltb p q
 less-worth p q = less-parts p 1073741824 q 1073741824 ∙ shifted p q 1073741824
 
-pub compares-worth : (o : Comparison) (p q : ℕ)
-    → testOf (markNumber (comparisonMark o)) p q ≡ compares o (worth p) (worth q)
-unfolding testOf compares comparisonMark markNumber
+pub compares-worth : (o : Comparison) (p q : ℕ) → testOf (kindOf (mark (comparisonMark o))) p q ≡ compares o (worth p) (worth q)
+unfolding testOf compares comparisonMark kindOf markNumber
 compares-worth eq p q = sym (rw (less-worth p q, less-worth q p))
 compares-worth ne p q = sym (rw (less-worth p q, less-worth q p))
 compares-worth lt p q = sym (less-worth p q)

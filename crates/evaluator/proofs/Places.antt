@@ -10,12 +10,12 @@ use mathlib.Core.List.{List, [], _∷_, _++_, map}
 use mathlib.Core.Option.{some}
 use lib.ListN.{length, getD, drop, getElem?, length-map, length-drop, length-append, List·getD-eq-default}
 use Rattle.syntax.specs.Token.{Lexeme, name, number}
-use Rattle.syntax.specs.Held.Kind.{kindOf}
+use Rattle.syntax.specs.Held.Kind.{kindOf, noKind}
 use Rattle.syntax.specs.Tree.{Var}
 use Rattle.evaluator.specs.Coding.{Kinds, Codes, slotOf}
 use Rattle.evaluator.specs.Promises.{Next, frontKind}
 
-front-map : (ls : List Lexeme) (at : ℕ) → getD (map kindOf ls) at 255 ≡ frontKind (drop at ls)
+front-map : (ls : List Lexeme) (at : ℕ) → getD (map kindOf ls) at noKind ≡ frontKind (drop at ls)
 unfolding frontKind
 front-map [] zero = refl
 front-map [] (suc at) = refl
@@ -29,9 +29,9 @@ drop-more [] (suc at) e = let z : _≡_ {A = ℕ} 0 1 = cc in absurd (omega arit
 drop-more (k ∷ ls) zero e = (cc, cc, omega arith)
 drop-more (k ∷ ls) (suc at) e = let t = drop-more ls at e in (t .0, t .1, omega (arith, t .2))
 
-kinds-front : (ls : List Lexeme) (ks : List ℕ) → Kinds ls ks → (at : ℕ) → getD ks at 255 ≡ frontKind (drop at ls)
+kinds-front : (ls : List Lexeme) (ks : List ℕ) → Kinds ls ks → (at : ℕ) → getD ks at noKind ≡ frontKind (drop at ls)
 unfolding Kinds
-kinds-front ls ks kinds at = ap (λ (l : List ℕ). getD l at 255) (sym kinds) ∙ front-map ls at
+kinds-front ls ks kinds at = ap (λ (l : List ℕ). getD l at noKind) (sym kinds) ∙ front-map ls at
 
 kinds-length : (ls : List Lexeme) (ks : List ℕ) → Kinds ls ks → length ls ≡ length ks
 unfolding Kinds
@@ -42,7 +42,7 @@ module _ {vs : List Var} {ls : List Lexeme} {ks values : List ℕ} (codes : Code
   same-length = kinds-length ls ks (codes .by-kind)
 
   -- the kind at a place is that of the lexeme there
-  pub front-is : (at : ℕ) {k : ℕ} {xs : List Lexeme} → getD ks at 255 ≡ k → drop at ls ≡ xs → frontKind xs ≡ k
+  pub front-is : (at : ℕ) {k : ℕ} {xs : List Lexeme} → getD ks at noKind ≡ k → drop at ls ≡ xs → frontKind xs ≡ k
   front-is at h e = ap frontKind (sym e) ∙ sym (kinds-front ls ks (codes .by-kind) at) ∙ h
 
   -- the place behind a lexeme
@@ -68,17 +68,17 @@ within-getD (x ∷ l) zero d e h = refl
 within-getD (x ∷ l) (suc i) d e h = within-getD l i d e (omega arith)
 
 -- a place with a kind is one of a token, and the next is one more
-pub kind-within : {ks : List ℕ} {at r : ℕ} (k : ℕ) → Next ks at r → getD ks at 255 ≡ k → eqb k 255 ≡ false
+pub kind-within : {ks : List ℕ} {at r : ℕ} (k : ℕ) → Next ks at r → getD ks at noKind ≡ k → eqb k noKind ≡ false
     → (at < length ks) × (r ≡ suc at)
 kind-within {ks} {at} {r} k next kind other = elim (decLt at (length ks)) [
   | yes h ↦ (h, next .one-more h)
-  | no h ↦ apart k 255 other kind (List·getD-eq-default ks 255 (omega arith))
+  | no h ↦ apart k noKind other kind (List·getD-eq-default ks noKind (omega arith))
 ]
 
-pub kind-here : (ks : List ℕ) (at : ℕ) → (getD ks at 255 ≡ 255 → ⊥) → at < length ks
+pub kind-here : (ks : List ℕ) (at : ℕ) → (getD ks at noKind ≡ noKind → ⊥) → at < length ks
 kind-here ks at other = elim (decLt at (length ks)) [
   | yes h ↦ h
-  | no h ↦ absurd (other (List·getD-eq-default ks 255 (omega arith)))
+  | no h ↦ absurd (other (List·getD-eq-default ks noKind (omega arith)))
 ]
 
 -- what is spelled at a place with something behind it begins at a token

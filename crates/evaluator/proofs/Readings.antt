@@ -4,20 +4,29 @@ use native.Mathlib.Omega.{arith}
 use native.Mathlib.Nat.{add-zero}
 use native.Mathlib.Numerals.{add-one}
 use mathlib.Core.Path.{_≡_, refl, sym, ap, _∙_, subst}
-use mathlib.Core.Bool.{Bool, true, false, not, _&&_, _||_, cond}
+use mathlib.Core.Bool.{Bool, true, false, not, _&&_, _||_, cond, true≢false}
 use mathlib.Core.List.{List, [], _∷_, _++_, append-assoc}
 use mathlib.Core.Logic.{_⊎_, inl, inr, ⊎-elim}
 use lib.Dec.{eqb}
 use lib.ListN.{length, getD, drop, replicate, getD-replicate}
 use lib.IntN.{ℤ, pos, negℤ, _-ℤ_, +ℤ-idl}
 use borrow.Author.Tests.{eqb-false}
-use Rattle.syntax.specs.Token.{Lexeme, mark, key, Mark, markNumber, keywordNumber, rparen, and-and, or-or, semicolon, k-true, k-false}
-use Rattle.syntax.specs.Held.Kind.{kindOf}
-use Rattle.syntax.specs.Tree.{Var, plain, negated, Atom, literal, variable, Sign, added, taken, Term, Expr, Comparison, eq, ne, lt, le, gt, ge, only, or, just, and, Simple, negation, bracketed, constant, compare, each, spellInt, spellAtom, signMark, spellTerm, spellExpr, comparisonMark, spellConstant, spellCond, spellConj, spellSimple}
-use Rattle.meaning.specs.Value.{intOf, atomValue, joined, termsValue, exprValue, compares, truth, conjTruth, simpleTruth}
+use Rattle.syntax.specs.Token.{Lexeme, mark, key, Mark, markNumber, keywordNumber, lparen, rparen, semicolon, plus}
+use Rattle.syntax.specs.Token.{bang}
+use Rattle.syntax.specs.Token.{and-and, or-or, k-true, k-false}
+use Rattle.syntax.specs.Token as token
+use Rattle.syntax.specs.Held.Kind.{kindOf, nameKind, numberKind, noKind}
+use Rattle.syntax.specs.Tree.{Var, plain, negated, Atom, literal, variable, Sign, added, taken, Term, Expr, Comparison}
+use Rattle.syntax.specs.Tree.{eq, ne, lt, le, gt, ge, only, or, just, and, Simple, negation, bracketed, constant}
+use Rattle.syntax.specs.Tree.{compare, each, spellInt, spellAtom, signMark, spellTerm, spellExpr, comparisonMark}
+use Rattle.syntax.specs.Tree.{spellConstant, spellCond, spellConj, spellSimple}
+use Rattle.meaning.specs.Value.{intOf, atomValue, joined, termsValue, exprValue, compares, truth, conjTruth}
+use Rattle.meaning.specs.Value.{simpleTruth}
 use Rattle.evaluator.specs.Coding.{Codes, EndsCond, lane}
 use Rattle.meaning.specs.Held.{Biased}
-use Rattle.evaluator.specs.Promises.{Next, frontKind, EndsAtom, EndsExpr, EndsConj, EndsWhole, operand, AtomRead, worth, signOf, Near, Sums, TermRead, ExprRead, testOf, Truths, spellCompared, comparedTruth, CompareRead, SimpleRead, ConjRead, CondRead}
+use Rattle.evaluator.specs.Promises.{Next, frontKind, EndsAtom, EndsExpr, EndsConj, EndsWhole, operand, AtomRead}
+use Rattle.evaluator.specs.Promises.{worth, signOf, Near, Sums, TermRead, ExprRead, testOf, Truths, spellCompared}
+use Rattle.evaluator.specs.Promises.{comparedTruth, CompareRead, SimpleRead, ConjRead, CondRead}
 use Rattle.evaluator.proofs.Numbers.{compares-worth, joined-zero, joined-parts}
 use Rattle.evaluator.proofs.Places.{front-is, behind, number-at, name-at, apart, kind-within}
 use Rattle.evaluator.proofs.Slots.{slot-value, slot-held}
@@ -26,12 +35,12 @@ use Rattle.evaluator.proofs.Slots.{slot-value, slot-held}
 
 -- what an atom begins with
 unfoldable pub atomKind : Atom → ℕ
-atomKind (literal (plain n)) = 29
-atomKind (literal (negated n)) = 15
-atomKind (variable x) = 30
+atomKind (literal (plain n)) = numberKind
+atomKind (literal (negated n)) = kindOf (mark token.minus)
+atomKind (variable x) = nameKind
 
 module _ {ks values : List ℕ} where
-  pub atom-name : {at n slot : ℕ} → getD ks at 255 ≡ 30 → Next ks at n → slot ≡ getD values at 0 → AtomRead ks values at slot 128 128 n
+  pub atom-name : {at n slot : ℕ} → getD ks at noKind ≡ nameKind → Next ks at n → slot ≡ getD values at 0 → AtomRead ks values at slot 128 128 n
   unfolding frontKind spellAtom spellInt kindOf markNumber atomValue
   atom-name {at} {n} {slot} kind next value = record {
     from = next .from;
@@ -42,17 +51,17 @@ module _ {ks values : List ℕ} where
   }
     where
       go : (vs : List Var) (as′ : List ℤ) (vars : List ℕ) (ls us : List Lexeme) (a : Atom) → Codes vs ls ks values → Biased vs as′ vars
-          → drop at ls ≡ spellAtom a ++ us → frontKind (spellAtom a ++ us) ≡ 30
+          → drop at ls ≡ spellAtom a ++ us → frontKind (spellAtom a ++ us) ≡ nameKind
           → (atomValue vs as′ a ≡ pos (operand vars slot 128) -ℤ pos 128) × (drop n ls ≡ us)
-      go vs as′ vars ls us (literal (plain k)) codes biased e f = apart 29 30 refl refl f
-      go vs as′ vars ls us (literal (negated k)) codes biased e f = apart 15 30 refl refl f
+      go vs as′ vars ls us (literal (plain k)) codes biased e f = apart numberKind nameKind refl refl f
+      go vs as′ vars ls us (literal (negated k)) codes biased e f = apart (kindOf (mark token.minus)) nameKind refl refl f
       go vs as′ vars ls us (variable x) codes biased e f = (
         slot-value vs as′ x (biased .each-value)
             ∙ ap (λ (k : ℕ). getD as′ k (pos 0)) (sym (value ∙ name-at codes at x e)) ∙ slot-held biased slot,
         behind codes next e,
       )
 
-  pub atom-minus : {at r n m : ℕ} → getD ks at 255 ≡ 15 → Next ks at r → Next ks r n → m ≤ 65535 → m ≡ getD values r 0
+  pub atom-minus : {at r n m : ℕ} → getD ks at noKind ≡ kindOf (mark token.minus) → Next ks at r → Next ks r n → m ≤ 65535 → m ≡ getD values r 0
       → AtomRead ks values at 6 0 m n
   unfolding frontKind spellAtom spellInt kindOf markNumber atomValue intOf operand
   atom-minus {at} {r} {n} {m} kind one two small value = record {
@@ -64,16 +73,16 @@ module _ {ks values : List ℕ} where
   }
     where
       go : (vs : List Var) (as′ : List ℤ) (ls us : List Lexeme) (a : Atom) → Codes vs ls ks values
-          → drop at ls ≡ spellAtom a ++ us → frontKind (spellAtom a ++ us) ≡ 15
+          → drop at ls ≡ spellAtom a ++ us → frontKind (spellAtom a ++ us) ≡ kindOf (mark token.minus)
           → (atomValue vs as′ a ≡ pos 0 -ℤ pos m) × (drop n ls ≡ us)
-      go vs as′ ls us (literal (plain k)) codes e f = apart 29 15 refl refl f
+      go vs as′ ls us (literal (plain k)) codes e f = apart numberKind (kindOf (mark token.minus)) refl refl f
       go vs as′ ls us (literal (negated k)) codes e f = (
         sym (+ℤ-idl (negℤ (pos k))) ∙ ap (λ (j : ℕ). pos 0 -ℤ pos j) (sym (number-at codes r k (behind codes one e)) ∙ sym value),
         behind codes two (behind codes one e),
       )
-      go vs as′ ls us (variable x) codes e f = apart 30 15 refl refl f
+      go vs as′ ls us (variable x) codes e f = apart nameKind (kindOf (mark token.minus)) refl refl f
 
-  pub atom-number : {at n p : ℕ} → (getD ks at 255 ≡ 30 → ⊥) → (getD ks at 255 ≡ 15 → ⊥) → Next ks at n
+  pub atom-number : {at n p : ℕ} → (getD ks at noKind ≡ nameKind → ⊥) → (getD ks at noKind ≡ kindOf (mark token.minus) → ⊥) → Next ks at n
       → p ≤ 65535 → p ≡ getD values at 0 → AtomRead ks values at 6 p 0 n
   unfolding frontKind spellAtom spellInt kindOf markNumber atomValue intOf operand
   atom-number {at} {n} {p} no-name no-minus next small value = record {
@@ -85,7 +94,7 @@ module _ {ks values : List ℕ} where
   }
     where
       go : (vs : List Var) (as′ : List ℤ) (ls us : List Lexeme) (a : Atom) → Codes vs ls ks values
-          → drop at ls ≡ spellAtom a ++ us → frontKind (spellAtom a ++ us) ≡ getD ks at 255
+          → drop at ls ≡ spellAtom a ++ us → frontKind (spellAtom a ++ us) ≡ getD ks at noKind
           → (atomValue vs as′ a ≡ pos p -ℤ pos 0) × (drop n ls ≡ us)
       go vs as′ ls us (literal (plain k)) codes e f =
           (ap pos (sym (number-at codes at k e) ∙ sym value ∙ sym (add-zero p)), behind codes next e)
@@ -94,23 +103,23 @@ module _ {ks values : List ℕ} where
 
 -- Sums
 
-sign-same : (s t : Sign) → markNumber (signMark s) ≡ markNumber (signMark t) → s ≡ t
-unfolding markNumber signMark
+sign-same : (s t : Sign) → kindOf (mark (signMark s)) ≡ kindOf (mark (signMark t)) → s ≡ t
+unfolding markNumber signMark kindOf keywordNumber
 sign-same added added e = refl
-sign-same added taken e = apart 14 15 refl refl e
-sign-same taken added e = apart 15 14 refl refl e
+sign-same added taken e = apart (kindOf (mark plus)) (kindOf (mark token.minus)) refl refl e
+sign-same taken added e = apart (kindOf (mark token.minus)) (kindOf (mark plus)) refl refl e
 sign-same taken taken e = refl
 
-sign-ends : {A : Type 0} (s : Sign) (k : ℕ) → (k ≡ 14 → ⊥) → (k ≡ 15 → ⊥) → k ≡ markNumber (signMark s) → A
+sign-ends : {A : Type 0} (s : Sign) (k : ℕ) → (k ≡ kindOf (mark plus) → ⊥) → (k ≡ kindOf (mark token.minus) → ⊥) → k ≡ kindOf (mark (signMark s)) → A
 unfolding markNumber signMark
 sign-ends added k f g e = absurd (f e)
 sign-ends taken k f g e = absurd (g e)
 
 -- a sign is a token
-pub past-sign : {ks : List ℕ} {at r : ℕ} (s : Sign) → Next ks at r → getD ks at 255 ≡ markNumber (signMark s) → r ≡ suc at
-unfolding markNumber signMark
-past-sign added next e = kind-within 14 next e refl .1
-past-sign taken next e = kind-within 15 next e refl .1
+pub past-sign : {ks : List ℕ} {at r : ℕ} (s : Sign) → Next ks at r → getD ks at noKind ≡ kindOf (mark (signMark s)) → r ≡ suc at
+unfolding markNumber signMark kindOf keywordNumber
+past-sign added next e = kind-within (kindOf (mark plus)) next e refl .1
+past-sign taken next e = kind-within (kindOf (mark token.minus)) next e refl .1
 
 small : (minus : Bool) (x y : ℕ) → x ≤ 65535 → y ≤ 65535 → cond minus x y ≤ 65535
 small true x y h k = h
@@ -168,14 +177,14 @@ module _ {ks values vars : List ℕ} (minus : Bool) (lanes : List ℕ) {at n : �
       → drop at ls ≡ spellExpr x ++ us
       → (joined (signOf minus) (worth (getD lanes j 0)) (atomValue vs as′ (x .first)) ≡ worth (getD sums j 0))
       × (drop n ls ≡ each spellTerm (x .more) ++ us)
-  unfolding spellExpr EndsAtom
+  unfolding spellExpr EndsAtom kindOf markNumber keywordNumber
   first j l vs as′ ls us x codes biased e =
       term .reads j l vs as′ ls (each spellTerm (x .more) ++ us) (x .first) codes biased
       (e ∙ append-assoc (spellAtom (x .first)) (each spellTerm (x .more)) us) tt
 
   -- no further term
-  rest-end : (getD ks n 255 ≡ 14 → ⊥) → (getD ks n 255 ≡ 15 → ⊥) → RestRead ks values vars minus lanes at sums n
-  unfolding frontKind each spellTerm kindOf termsValue
+  rest-end : (getD ks n noKind ≡ kindOf (mark plus) → ⊥) → (getD ks n noKind ≡ kindOf (mark token.minus) → ⊥) → RestRead ks values vars minus lanes at sums n
+  unfolding frontKind each spellTerm kindOf termsValue markNumber keywordNumber
   rest-end no-plus no-minus = record {
     from = term .from;
     to = term .to;
@@ -186,15 +195,15 @@ module _ {ks values vars : List ℕ} (minus : Bool) (lanes : List ℕ) {at n : �
   }
     where
       go : (vs : List Var) (as′ : List ℤ) (ls us : List Lexeme) (ts : List Term) (z y : ℤ) → z ≡ y
-          → drop n ls ≡ each spellTerm ts ++ us → frontKind (each spellTerm ts ++ us) ≡ getD ks n 255
+          → drop n ls ≡ each spellTerm ts ++ us → frontKind (each spellTerm ts ++ us) ≡ getD ks n noKind
           → (termsValue vs as′ z ts ≡ y) × (drop n ls ≡ us)
       go vs as′ ls us [] z y h e f = (h, e)
-      go vs as′ ls us (t ∷ ts) z y h e f = sign-ends (t .sign) (getD ks n 255) no-plus no-minus (sym f)
+      go vs as′ ls us (t ∷ ts) z y h e f = sign-ends (t .sign) (getD ks n noKind) no-plus no-minus (sym f)
 
   -- a term more
-  rest-more : (minus′ : Bool) {r n′ : ℕ} {sums′ : List ℕ} → getD ks n 255 ≡ markNumber (signMark (signOf minus′)) → Next ks n r
+  rest-more : (minus′ : Bool) {r n′ : ℕ} {sums′ : List ℕ} → getD ks n noKind ≡ kindOf (mark (signMark (signOf minus′))) → Next ks n r
       → RestRead ks values vars minus′ sums r sums′ n′ → RestRead ks values vars minus lanes at sums′ n′
-  unfolding frontKind spellExpr each spellTerm kindOf termsValue EndsExpr
+  unfolding frontKind spellExpr each spellTerm kindOf termsValue EndsExpr markNumber keywordNumber
   rest-more minus′ {r} {n′} {sums′} kind next rest = record {
     from = omega (arith, term .from, next .from, rest .from);
     to = rest .to;
@@ -206,7 +215,7 @@ module _ {ks values vars : List ℕ} (minus : Bool) (lanes : List ℕ) {at n : �
     where
       go : (j : ℕ) → j < 16 → (vs : List Var) (as′ : List ℤ) (ls us : List Lexeme) (ts : List Term) → Codes vs ls ks values
           → Biased vs as′ (lane vars j) → (z : ℤ) → z ≡ worth (getD sums j 0)
-          → drop n ls ≡ each spellTerm ts ++ us → EndsExpr us → frontKind (each spellTerm ts ++ us) ≡ markNumber (signMark (signOf minus′))
+          → drop n ls ≡ each spellTerm ts ++ us → EndsExpr us → frontKind (each spellTerm ts ++ us) ≡ kindOf (mark (signMark (signOf minus′)))
           → (termsValue vs as′ z ts ≡ worth (getD sums′ j 0)) × (drop n′ ls ≡ us)
       go j l vs as′ ls us [] codes biased z h e ends f = sign-ends (signOf minus′) (frontKind us) (ends .0) (ends .1) f
       go j l vs as′ ls us (t ∷ ts) codes biased z h e ends f =
@@ -258,10 +267,10 @@ module _ {ks values vars : List ℕ} {at : ℕ} where
 
   module _ {lanes sums : List ℕ} {minus : Bool} {place n : ℕ} (open′ : Open ks values vars at lanes minus place)
       (term : TermRead ks values vars minus lanes place sums n) where
-    pub open-last : (getD ks n 255 ≡ 14 → ⊥) → (getD ks n 255 ≡ 15 → ⊥) → ExprRead ks values vars at sums n
+    pub open-last : (getD ks n noKind ≡ kindOf (mark plus) → ⊥) → (getD ks n noKind ≡ kindOf (mark token.minus) → ⊥) → ExprRead ks values vars at sums n
     open-last no-plus no-minus = open′ .whole sums n (rest-end minus lanes term no-plus no-minus)
 
-    pub open-more : (minus′ : Bool) {r : ℕ} → getD ks n 255 ≡ markNumber (signMark (signOf minus′)) → Next ks n r
+    pub open-more : (minus′ : Bool) {r : ℕ} → getD ks n noKind ≡ kindOf (mark (signMark (signOf minus′))) → Next ks n r
         → Open ks values vars at sums minus′ r
     open-more minus′ {r} kind next = record {
       to = next .to;
@@ -273,39 +282,46 @@ module _ {ks values vars : List ℕ} {at : ℕ} where
 
 comparison-ends : (o : Comparison) (us : List Lexeme) → EndsExpr (mark (comparisonMark o) ∷ us)
 unfolding EndsExpr frontKind kindOf markNumber comparisonMark
-comparison-ends eq us = (eqb-false 8 14 refl, eqb-false 8 15 refl)
-comparison-ends ne us = (eqb-false 9 14 refl, eqb-false 9 15 refl)
-comparison-ends lt us = (eqb-false 10 14 refl, eqb-false 10 15 refl)
-comparison-ends le us = (eqb-false 11 14 refl, eqb-false 11 15 refl)
-comparison-ends gt us = (eqb-false 12 14 refl, eqb-false 12 15 refl)
-comparison-ends ge us = (eqb-false 13 14 refl, eqb-false 13 15 refl)
+comparison-ends eq us = (eqb-false _ _ refl, eqb-false _ _ refl)
+comparison-ends ne us = (eqb-false _ _ refl, eqb-false _ _ refl)
+comparison-ends lt us = (eqb-false _ _ refl, eqb-false _ _ refl)
+comparison-ends le us = (eqb-false _ _ refl, eqb-false _ _ refl)
+comparison-ends gt us = (eqb-false _ _ refl, eqb-false _ _ refl)
+comparison-ends ge us = (eqb-false _ _ refl, eqb-false _ _ refl)
 
 and-ends : (us : List Lexeme) → EndsExpr (mark and-and ∷ us)
 unfolding EndsExpr frontKind kindOf markNumber
-and-ends us = (eqb-false 17 14 refl, eqb-false 17 15 refl)
+and-ends us = (eqb-false _ _ refl, eqb-false _ _ refl)
 
 or-ends : (us : List Lexeme) → EndsConj (mark or-or ∷ us)
 unfolding EndsConj EndsExpr frontKind kindOf markNumber
-or-ends us = ((eqb-false 18 14 refl, eqb-false 18 15 refl), eqb-false 18 17 refl)
+or-ends us = ((eqb-false _ _ refl, eqb-false _ _ refl), eqb-false _ _ refl)
 
 pub semicolon-ends : (us : List Lexeme) → EndsExpr (mark semicolon ∷ us)
 unfolding EndsExpr frontKind kindOf markNumber
-semicolon-ends us = (eqb-false 4 14 refl, eqb-false 4 15 refl)
+semicolon-ends us = (eqb-false _ _ refl, eqb-false _ _ refl)
 
--- a kind that continues no condition
-whole-ends : (us : List Lexeme) (k : ℕ) → frontKind us ≡ k → eqb k 14 ≡ false → eqb k 15 ≡ false → eqb k 17 ≡ false → eqb k 18 ≡ false
-    → EndsWhole us
-unfolding EndsWhole EndsConj EndsExpr
-whole-ends us k f a b c d = (((λ e. apart k 14 a f e, λ e. apart k 15 b f e), λ e. apart k 17 c f e), λ e. apart k 18 d f e)
+-- a kind that continues a condition
+abbrev continues : ℕ → Bool
+continues k =
+    eqb k (kindOf (mark plus)) || eqb k (kindOf (mark token.minus)) || eqb k (kindOf (mark and-and)) || eqb k (kindOf (mark or-or))
+
+-- any other ends it
+whole-ends : (us : List Lexeme) (k : ℕ) → frontKind us ≡ k → continues k ≡ false → EndsWhole us
+unfolding EndsWhole EndsConj EndsExpr kindOf markNumber
+whole-ends us k f h = (((other refl, other refl), other refl), other refl)
+  where
+    other : {n : ℕ} → continues n ≡ true → frontKind us ≡ n → ⊥
+    other t e = true≢false (sym t ∙ ap continues (sym e ∙ f) ∙ h)
 
 pub rparen-ends : (us : List Lexeme) → EndsWhole (mark rparen ∷ us)
 unfolding frontKind kindOf markNumber
-rparen-ends us = whole-ends (mark rparen ∷ us) 3 refl refl refl refl refl
+rparen-ends us = whole-ends (mark rparen ∷ us) (kindOf (mark rparen)) refl refl
 
 -- Conditions
 
 module _ {ks values vars : List ℕ} where
-  pub compare-reads : {at k r n kind : ℕ} {a b : List ℕ} {holds : List Bool} → ExprRead ks values vars at a k → kind ≡ getD ks k 255 → Next ks k r
+  pub compare-reads : {at k r n kind : ℕ} {a b : List ℕ} {holds : List Bool} → ExprRead ks values vars at a k → kind ≡ getD ks k noKind → Next ks k r
       → ExprRead ks values vars r b n → ((j : ℕ) → j < 16 → getD holds j false ≡ testOf kind (getD a j 0) (getD b j 0))
       → CompareRead ks values vars at holds n
   unfolding spellCompared comparedTruth frontKind kindOf
@@ -327,12 +343,12 @@ module _ {ks values vars : List ℕ} where
 
 -- what a simple condition begins with
 unfoldable pub constantKind : Bool → ℕ
-constantKind true = 27
-constantKind false = 28
+constantKind true = kindOf (key k-true)
+constantKind false = kindOf (key k-false)
 
 unfoldable pub simpleKind : Simple → ℕ
-simpleKind (negation s) = 16
-simpleKind (bracketed c) = 2
+simpleKind (negation s) = kindOf (mark bang)
+simpleKind (bracketed c) = kindOf (mark lparen)
 simpleKind (constant b) = constantKind b
 simpleKind (compare e o f) = atomKind (e .first)
 
@@ -351,33 +367,33 @@ simple-front (constant false) us = refl
 simple-front (compare e o f) us =
     compare-front (e .first) (each spellTerm (e .more)) (mark (comparisonMark o) ∷ spellExpr f) us
 
-not-atom : {A : Type 0} (a : Atom) (k : ℕ) → eqb 29 k ≡ false → eqb 15 k ≡ false → eqb 30 k ≡ false → atomKind a ≡ k → A
+not-atom : {A : Type 0} (a : Atom) (k : ℕ) → eqb numberKind k ≡ false → eqb (kindOf (mark token.minus)) k ≡ false → eqb nameKind k ≡ false → atomKind a ≡ k → A
 unfolding atomKind
-not-atom (literal (plain n)) k d e f h = apart 29 k d refl h
-not-atom (literal (negated n)) k d e f h = apart 15 k e refl h
-not-atom (variable x) k d e f h = apart 30 k f refl h
+not-atom (literal (plain n)) k d e f h = apart numberKind k d refl h
+not-atom (literal (negated n)) k d e f h = apart (kindOf (mark token.minus)) k e refl h
+not-atom (variable x) k d e f h = apart nameKind k f refl h
 
-not-constant : {A : Type 0} (b : Bool) (k : ℕ) → eqb 27 k ≡ false → eqb 28 k ≡ false → constantKind b ≡ k → A
+not-constant : {A : Type 0} (b : Bool) (k : ℕ) → eqb (kindOf (key k-true)) k ≡ false → eqb (kindOf (key k-false)) k ≡ false → constantKind b ≡ k → A
 unfolding constantKind
-not-constant true k d e h = apart 27 k d refl h
-not-constant false k d e h = apart 28 k e refl h
+not-constant true k d e h = apart (kindOf (key k-true)) k d refl h
+not-constant false k d e h = apart (kindOf (key k-false)) k e refl h
 
 constant-same : (a b : Bool) → constantKind a ≡ constantKind b → a ≡ b
-unfolding constantKind
+unfolding constantKind kindOf markNumber keywordNumber
 constant-same true true e = refl
-constant-same true false e = apart 27 28 refl refl e
-constant-same false true e = apart 28 27 refl refl e
+constant-same true false e = apart (kindOf (key k-true)) (kindOf (key k-false)) refl refl e
+constant-same false true e = apart (kindOf (key k-false)) (kindOf (key k-true)) refl refl e
 constant-same false false e = refl
 
-constant-apart : {A : Type 0} (b : Bool) (k : ℕ) → eqb k 27 ≡ false → eqb k 28 ≡ false → k ≡ constantKind b → A
+constant-apart : {A : Type 0} (b : Bool) (k : ℕ) → eqb k (kindOf (key k-true)) ≡ false → eqb k (kindOf (key k-false)) ≡ false → k ≡ constantKind b → A
 unfolding constantKind
-constant-apart true k d e h = apart k 27 d refl h
-constant-apart false k d e h = apart k 28 e refl h
+constant-apart true k d e h = apart k (kindOf (key k-true)) d refl h
+constant-apart false k d e h = apart k (kindOf (key k-false)) e refl h
 
 atom-constant : {A : Type 0} (a : Atom) (b : Bool) → atomKind a ≡ constantKind b → A
-unfolding constantKind
-atom-constant a true h = not-atom a 27 refl refl refl h
-atom-constant a false h = not-atom a 28 refl refl refl h
+unfolding constantKind kindOf markNumber keywordNumber
+atom-constant a true h = not-atom a (kindOf (key k-true)) refl refl refl h
+atom-constant a false h = not-atom a (kindOf (key k-false)) refl refl refl h
 
 constant-spelled : (b : Bool) (us : List Lexeme) → (l : Lexeme) × (spellConstant b ++ us ≡ l ∷ us)
 unfolding spellConstant
@@ -385,9 +401,9 @@ constant-spelled true us = (key k-true, refl)
 constant-spelled false us = (key k-false, refl)
 
 module _ {ks values vars : List ℕ} where
-  pub simple-not : {at r n : ℕ} {holds turned : List Bool} → getD ks at 255 ≡ 16 → Next ks at r → SimpleRead ks values vars r holds n
+  pub simple-not : {at r n : ℕ} {holds turned : List Bool} → getD ks at noKind ≡ kindOf (mark bang) → Next ks at r → SimpleRead ks values vars r holds n
       → ((j : ℕ) → j < 16 → getD turned j false ≡ not (getD holds j false)) → SimpleRead ks values vars at turned n
-  unfolding spellSimple simpleTruth simpleKind
+  unfolding spellSimple simpleTruth simpleKind kindOf markNumber keywordNumber
   simple-not {at} {r} {n} {holds} {turned} kind next simple turns = record {
     from = omega (arith, next .from, simple .from);
     to = simple .to;
@@ -395,18 +411,18 @@ module _ {ks values vars : List ℕ} where
   }
     where
       go : (j : ℕ) → j < 16 → (vs : List Var) (as′ : List ℤ) (ls us : List Lexeme) (x : Simple) → Codes vs ls ks values → Biased vs as′ (lane vars j)
-          → drop at ls ≡ spellSimple x ++ us → EndsExpr us → simpleKind x ≡ 16
+          → drop at ls ≡ spellSimple x ++ us → EndsExpr us → simpleKind x ≡ kindOf (mark bang)
           → (getD turned j false ≡ simpleTruth x vs as′) × (drop n ls ≡ us)
       go j l vs as′ ls us (negation s) codes biased e ends f =
           let t = simple .reads j l vs as′ ls us s codes biased (behind codes next e) ends in
           (turns j l ∙ ap not (t .0), t .1)
-      go j l vs as′ ls us (bracketed c) codes biased e ends f = apart 2 16 refl refl f
-      go j l vs as′ ls us (constant b) codes biased e ends f = not-constant b 16 refl refl f
-      go j l vs as′ ls us (compare a o b) codes biased e ends f = not-atom (a .first) 16 refl refl refl f
+      go j l vs as′ ls us (bracketed c) codes biased e ends f = apart (kindOf (mark lparen)) (kindOf (mark bang)) refl refl f
+      go j l vs as′ ls us (constant b) codes biased e ends f = not-constant b (kindOf (mark bang)) refl refl f
+      go j l vs as′ ls us (compare a o b) codes biased e ends f = not-atom (a .first) (kindOf (mark bang)) refl refl refl f
 
-  pub simple-bracketed : {at r k n : ℕ} {holds : List Bool} → getD ks at 255 ≡ 2 → Next ks at r → CondRead ks values vars r holds k → Next ks k n
+  pub simple-bracketed : {at r k n : ℕ} {holds : List Bool} → getD ks at noKind ≡ kindOf (mark lparen) → Next ks at r → CondRead ks values vars r holds k → Next ks k n
       → SimpleRead ks values vars at holds n
-  unfolding spellSimple simpleTruth simpleKind
+  unfolding spellSimple simpleTruth simpleKind kindOf markNumber keywordNumber
   simple-bracketed {at} {r} {k} {n} {holds} kind next whole last = record {
     from = omega (arith, next .from, whole .from, last .from);
     to = last .to;
@@ -414,17 +430,17 @@ module _ {ks values vars : List ℕ} where
   }
     where
       go : (j : ℕ) → j < 16 → (vs : List Var) (as′ : List ℤ) (ls us : List Lexeme) (x : Simple) → Codes vs ls ks values → Biased vs as′ (lane vars j)
-          → drop at ls ≡ spellSimple x ++ us → simpleKind x ≡ 2 → (getD holds j false ≡ simpleTruth x vs as′) × (drop n ls ≡ us)
-      go j l vs as′ ls us (negation s) codes biased e f = apart 16 2 refl refl f
+          → drop at ls ≡ spellSimple x ++ us → simpleKind x ≡ kindOf (mark lparen) → (getD holds j false ≡ simpleTruth x vs as′) × (drop n ls ≡ us)
+      go j l vs as′ ls us (negation s) codes biased e f = apart (kindOf (mark bang)) (kindOf (mark lparen)) refl refl f
       go j l vs as′ ls us (bracketed c) codes biased e f =
           let t = whole .reads j l vs as′ ls (mark rparen ∷ us) c codes biased
           (behind codes next e ∙ append-assoc (spellCond c) (mark rparen ∷ []) us) (rparen-ends us) in
           (t .0, behind codes last (t .1))
-      go j l vs as′ ls us (constant b) codes biased e f = not-constant b 2 refl refl f
-      go j l vs as′ ls us (compare a o b) codes biased e f = not-atom (a .first) 2 refl refl refl f
+      go j l vs as′ ls us (constant b) codes biased e f = not-constant b (kindOf (mark lparen)) refl refl f
+      go j l vs as′ ls us (compare a o b) codes biased e f = not-atom (a .first) (kindOf (mark lparen)) refl refl refl f
 
-  pub simple-constant : (h : Bool) {at n : ℕ} → getD ks at 255 ≡ constantKind h → Next ks at n → SimpleRead ks values vars at (replicate 16 h) n
-  unfolding spellSimple simpleTruth simpleKind
+  pub simple-constant : (h : Bool) {at n : ℕ} → getD ks at noKind ≡ constantKind h → Next ks at n → SimpleRead ks values vars at (replicate 16 h) n
+  unfolding spellSimple simpleTruth simpleKind kindOf markNumber keywordNumber
   simple-constant h {at} {n} kind next = record {
     from = next .from;
     to = next .to;
@@ -435,14 +451,14 @@ module _ {ks values vars : List ℕ} where
     where
       go : (vs : List Var) (as′ : List ℤ) (ls us : List Lexeme) (x : Simple) → Codes vs ls ks values
           → drop at ls ≡ spellSimple x ++ us → simpleKind x ≡ constantKind h → (h ≡ simpleTruth x vs as′) × (drop n ls ≡ us)
-      go vs as′ ls us (negation s) codes e f = constant-apart h 16 refl refl f
-      go vs as′ ls us (bracketed c) codes e f = constant-apart h 2 refl refl f
+      go vs as′ ls us (negation s) codes e f = constant-apart h (kindOf (mark bang)) refl refl f
+      go vs as′ ls us (bracketed c) codes e f = constant-apart h (kindOf (mark lparen)) refl refl f
       go vs as′ ls us (constant b) codes e f =
           (sym (constant-same b h f), behind codes next (e ∙ constant-spelled b us .1))
       go vs as′ ls us (compare a o b) codes e f = atom-constant (a .first) h f
 
-  pub simple-compare : {at n : ℕ} {holds : List Bool} → (getD ks at 255 ≡ 16 → ⊥) → (getD ks at 255 ≡ 2 → ⊥) → (getD ks at 255 ≡ 27 → ⊥)
-      → (getD ks at 255 ≡ 28 → ⊥) → CompareRead ks values vars at holds n → SimpleRead ks values vars at holds n
+  pub simple-compare : {at n : ℕ} {holds : List Bool} → (getD ks at noKind ≡ kindOf (mark bang) → ⊥) → (getD ks at noKind ≡ kindOf (mark lparen) → ⊥) → (getD ks at noKind ≡ kindOf (key k-true) → ⊥)
+      → (getD ks at noKind ≡ kindOf (key k-false) → ⊥) → CompareRead ks values vars at holds n → SimpleRead ks values vars at holds n
   unfolding spellSimple simpleTruth simpleKind constantKind spellCompared comparedTruth
   simple-compare {at} {n} {holds} no-not no-bracket no-true no-false two = record {
     from = two .from;
@@ -451,7 +467,7 @@ module _ {ks values vars : List ℕ} where
   }
     where
       go : (j : ℕ) → j < 16 → (vs : List Var) (as′ : List ℤ) (ls us : List Lexeme) (x : Simple) → Codes vs ls ks values → Biased vs as′ (lane vars j)
-          → drop at ls ≡ spellSimple x ++ us → EndsExpr us → getD ks at 255 ≡ simpleKind x
+          → drop at ls ≡ spellSimple x ++ us → EndsExpr us → getD ks at noKind ≡ simpleKind x
           → (getD holds j false ≡ simpleTruth x vs as′) × (drop n ls ≡ us)
       go j l vs as′ ls us (negation s) codes biased e ends f = absurd (no-not f)
       go j l vs as′ ls us (bracketed c) codes biased e ends f = absurd (no-bracket f)
@@ -472,7 +488,7 @@ record Chain {X Y : Type 0} (spellX : X → List Lexeme) (EndsX : List Lexeme �
       ⊎ ((x : X) × (z : Y) × (spellY y ≡ spellX x ++ (mark m ∷ spellY z))
       × ((vs : List Var) (as′ : List ℤ) → meansY y vs as′ ≡ op (meansX x vs as′) (meansY z vs as′)))
   item-ends : (us : List Lexeme) → EndsY us → EndsX us
-  no-mark : (us : List Lexeme) → EndsY us → frontKind us ≡ markNumber m → ⊥
+  no-mark : (us : List Lexeme) → EndsY us → frontKind us ≡ kindOf (mark m) → ⊥
   mark-ends : (us : List Lexeme) → EndsX (mark m ∷ us)
 
 conj-chain : Chain spellSimple EndsExpr simpleTruth spellConj EndsConj conjTruth and-and _&&_
@@ -497,7 +513,7 @@ module _ {X Y : Type 0} {spellX : X → List Lexeme} {EndsX : List Lexeme → Ty
     {spellY : Y → List Lexeme} {EndsY : List Lexeme → Type 0} {meansY : Y → List Var → List ℤ → Bool} {m : Mark} {op : Bool → Bool → Bool}
     (chain : Chain spellX EndsX meansX spellY EndsY meansY m op) {ks values vars : List ℕ} where
   -- no mark behind the item
-  chain-one : {at n : ℕ} {holds : List Bool} → Truths spellX EndsX meansX ks values vars at holds n → (getD ks n 255 ≡ markNumber m → ⊥)
+  chain-one : {at n : ℕ} {holds : List Bool} → Truths spellX EndsX meansX ks values vars at holds n → (getD ks n noKind ≡ kindOf (mark m) → ⊥)
       → Truths spellY EndsY meansY ks values vars at holds n
   unfolding frontKind kindOf
   chain-one {at} {n} {holds} item none = record {
@@ -516,7 +532,7 @@ module _ {X Y : Type 0} {spellX : X → List Lexeme} {EndsX : List Lexeme → Ty
 
   -- the mark, and a chain behind it
   chain-more : {at n r n′ : ℕ} {holds holds′ both : List Bool} → Truths spellX EndsX meansX ks values vars at holds n
-      → getD ks n 255 ≡ markNumber m → Next ks n r → Truths spellY EndsY meansY ks values vars r holds′ n′
+      → getD ks n noKind ≡ kindOf (mark m) → Next ks n r → Truths spellY EndsY meansY ks values vars r holds′ n′
       → ((j : ℕ) → j < 16 → getD both j false ≡ op (getD holds j false) (getD holds′ j false))
       → Truths spellY EndsY meansY ks values vars at both n′
   chain-more {at} {n} {r} {n′} {holds} {holds′} item kind next more joins = record {
@@ -537,21 +553,21 @@ module _ {X Y : Type 0} {spellX : X → List Lexeme} {EndsX : List Lexeme → Ty
   }
 
 module _ {ks values vars : List ℕ} where
-  pub conj-one : {at n : ℕ} {holds : List Bool} → SimpleRead ks values vars at holds n → (getD ks n 255 ≡ 17 → ⊥) → ConjRead ks values vars at holds n
+  pub conj-one : {at n : ℕ} {holds : List Bool} → SimpleRead ks values vars at holds n → (getD ks n noKind ≡ kindOf (mark and-and) → ⊥) → ConjRead ks values vars at holds n
   unfolding markNumber
   conj-one item none = chain-one conj-chain item none
 
-  pub conj-more : {at n r n′ : ℕ} {holds holds′ both : List Bool} → SimpleRead ks values vars at holds n → getD ks n 255 ≡ 17 → Next ks n r
+  pub conj-more : {at n r n′ : ℕ} {holds holds′ both : List Bool} → SimpleRead ks values vars at holds n → getD ks n noKind ≡ kindOf (mark and-and) → Next ks n r
       → ConjRead ks values vars r holds′ n′ → ((j : ℕ) → j < 16 → getD both j false ≡ getD holds j false && getD holds′ j false)
       → ConjRead ks values vars at both n′
   unfolding markNumber
   conj-more item kind next more joins = chain-more conj-chain item kind next more joins
 
-  pub cond-one : {at n : ℕ} {holds : List Bool} → ConjRead ks values vars at holds n → (getD ks n 255 ≡ 18 → ⊥) → CondRead ks values vars at holds n
+  pub cond-one : {at n : ℕ} {holds : List Bool} → ConjRead ks values vars at holds n → (getD ks n noKind ≡ kindOf (mark or-or) → ⊥) → CondRead ks values vars at holds n
   unfolding markNumber
   cond-one item none = chain-one cond-chain item none
 
-  pub cond-more : {at n r n′ : ℕ} {holds holds′ both : List Bool} → ConjRead ks values vars at holds n → getD ks n 255 ≡ 18 → Next ks n r
+  pub cond-more : {at n r n′ : ℕ} {holds holds′ both : List Bool} → ConjRead ks values vars at holds n → getD ks n noKind ≡ kindOf (mark or-or) → Next ks n r
       → CondRead ks values vars r holds′ n′ → ((j : ℕ) → j < 16 → getD both j false ≡ getD holds j false || getD holds′ j false)
       → CondRead ks values vars at both n′
   unfolding markNumber
@@ -559,5 +575,7 @@ module _ {ks values vars : List ℕ} where
 
 -- what stands behind a condition in a file ends it
 pub condition-ends : (us : List Lexeme) → EndsCond us → EndsWhole us
-unfolding EndsCond frontKind
-condition-ends us t = ⊎-elim (λ h. whole-ends us 3 (ap frontKind (t .2) ∙ h) refl refl refl refl) (λ h. whole-ends us 4 (ap frontKind (t .2) ∙ h) refl refl refl refl) (t .3)
+unfolding EndsCond frontKind kindOf markNumber keywordNumber
+condition-ends us t =
+    ⊎-elim (λ h. whole-ends us (kindOf (mark rparen)) (ap frontKind (t .2) ∙ h) refl)
+    (λ h. whole-ends us (kindOf (mark semicolon)) (ap frontKind (t .2) ∙ h) refl) (t .3)

@@ -7,22 +7,24 @@ use mathlib.Core.List.{List, [], _∷_, _++_, append-assoc}
 use mathlib.Core.Option.{Option, none, some}
 use lib.ListN.{length, getD, drop, replicate, length-drop, length-append, getD-replicate}
 use lib.IntN.{ℤ}
-use Rattle.syntax.specs.Token.{Lexeme, key, mark, markNumber, keywordNumber, rbrace, rparen, semicolon, k-else}
-use Rattle.syntax.specs.Held.Kind.{kindOf}
-use Rattle.syntax.specs.Tree.{Var, Cond, Block, end, then, Stmt, assign, if-then, if-else, spellExpr, spellBlock, spellStmt}
+use Rattle.syntax.specs.Token.{Lexeme, key, mark, markNumber, keywordNumber, rbrace, rparen, semicolon, k-else, k-if}
+use Rattle.syntax.specs.Held.Kind.{kindOf, nameKind, noKind}
+use Rattle.syntax.specs.Tree.{Var, Cond, Block, end, then, Stmt, assign, if-then, if-else, spellExpr, spellBlock}
+use Rattle.syntax.specs.Tree.{spellStmt}
 use Rattle.meaning.specs.Value.{truth, assigned, andThen, runBlock, runStmt}
 use Rattle.evaluator.specs.Coding.{Codes, RunAs, lane}
 use Rattle.meaning.specs.Held.{Biased, Ranges}
-use Rattle.evaluator.specs.Promises.{Next, Closes, frontKind, ExprRead, CondRead, Stored, BlockRun, StmtRun, BranchRun, RunIn, oneBlock}
+use Rattle.evaluator.specs.Promises.{Next, Closes, frontKind, ExprRead, CondRead, Stored, BlockRun, StmtRun}
+use Rattle.evaluator.specs.Promises.{BranchRun, RunIn, oneBlock}
 use Rattle.evaluator.proofs.Places.{front-is, behind, name-at, apart, same-length}
 use Rattle.evaluator.proofs.Readings.{semicolon-ends, rparen-ends}
 
 -- What statements and blocks begin with
 
 stmtKind : Stmt → ℕ
-stmtKind (assign x e) = 30
-stmtKind (if-then c b) = 25
-stmtKind (if-else c a b) = 25
+stmtKind (assign x e) = nameKind
+stmtKind (if-then c b) = kindOf (key k-if)
+stmtKind (if-else c a b) = kindOf (key k-if)
 
 stmt-front : (s : Stmt) (us : List Lexeme) → frontKind (spellStmt s ++ us) ≡ stmtKind s
 unfolding frontKind spellStmt stmtKind kindOf keywordNumber
@@ -30,7 +32,7 @@ stmt-front (assign x e) us = refl
 stmt-front (if-then c b) us = refl
 stmt-front (if-else c a b) us = refl
 
-not-stmt : {A : Type 0} (s : Stmt) {k : ℕ} → (k ≡ 30 → ⊥) → (k ≡ 25 → ⊥) → k ≡ stmtKind s → A
+not-stmt : {A : Type 0} (s : Stmt) {k : ℕ} → (k ≡ nameKind → ⊥) → (k ≡ kindOf (key k-if) → ⊥) → k ≡ stmtKind s → A
 unfolding stmtKind
 not-stmt (assign x e) f g h = absurd (f h)
 not-stmt (if-then c b) f g h = absurd (g h)
@@ -41,11 +43,11 @@ split : (s : Stmt) (b : Block) (us : List Lexeme) → (spellStmt s ++ spellBlock
 split s b us = append-assoc (spellStmt s) (spellBlock b) us
 
 -- no `else` stands where a block goes on
-no-else : (b : Block) (us : List Lexeme) → frontKind (spellBlock b ++ (mark rbrace ∷ us)) ≡ 26 → ⊥
-unfolding frontKind spellBlock kindOf markNumber
-no-else end us h = apart 1 26 refl refl h
+no-else : (b : Block) (us : List Lexeme) → frontKind (spellBlock b ++ (mark rbrace ∷ us)) ≡ kindOf (key k-else) → ⊥
+unfolding frontKind spellBlock kindOf markNumber keywordNumber
+no-else end us h = apart (kindOf (mark rbrace)) (kindOf (key k-else)) refl refl h
 no-else (then s b) us h =
-    not-stmt s (λ e. apart 26 30 refl refl e) (λ e. apart 26 25 refl refl e)
+    not-stmt s (λ e. apart (kindOf (key k-else)) nameKind refl refl e) (λ e. apart (kindOf (key k-else)) (kindOf (key k-if)) refl refl e)
     (sym h ∙ ap frontKind (split s b (mark rbrace ∷ us)) ∙ stmt-front s (spellBlock b ++ (mark rbrace ∷ us)))
 
 -- Runs one after the other, where a fault stays one
@@ -86,7 +88,7 @@ side false h o p = refl
 
 module _ {ks values lows highs vars : List ℕ} {on : List Bool} where
   -- no statement
-  pub block-end : (at : ℕ) → length vars ≡ 96 → (getD ks at 255 ≡ 30 → ⊥) → (getD ks at 255 ≡ 25 → ⊥)
+  pub block-end : (at : ℕ) → length vars ≡ 96 → (getD ks at noKind ≡ nameKind → ⊥) → (getD ks at noKind ≡ kindOf (key k-if) → ⊥)
       → BlockRun ks values lows highs vars on at (replicate 16 true) vars
   unfolding spellBlock runBlock RunAs
   block-end at long no-name no-if = record {
@@ -104,7 +106,7 @@ module _ {ks values lows highs vars : List ℕ} {on : List Bool} where
 
   -- the statements behind the first go on from its values
   pub block-more : {at n : ℕ} {held held′ : List ℕ} {ok ok′ both : List Bool} → StmtRun ks values lows highs vars on at ok held n
-      → (getD ks at 255 ≡ 1 → ⊥) → BlockRun ks values lows highs held on n ok′ held′
+      → (getD ks at noKind ≡ kindOf (mark rbrace) → ⊥) → BlockRun ks values lows highs held on n ok′ held′
       → ((j : ℕ) → j < 16 → getD both j false ≡ getD ok j false && getD ok′ j false) → BlockRun ks values lows highs vars on at both held′
   unfolding spellBlock runBlock frontKind kindOf markNumber
   block-more {at} {n} {held} {held′} {ok} {ok′} {both} stmt more rest joins = record {
@@ -137,7 +139,7 @@ if-else-runs c a b vs as′ true h = cc
 if-else-runs c a b vs as′ false h = cc
 
 module _ {ks values lows highs vars : List ℕ} {on ok : List Bool} {held : List ℕ} where
-  pub stmt-assign : {at a b k n slot : ℕ} {sums : List ℕ} → (getD ks at 255 ≡ 25 → ⊥) → at < length ks → Next ks at a → Next ks a b
+  pub stmt-assign : {at a b k n slot : ℕ} {sums : List ℕ} → (getD ks at noKind ≡ kindOf (key k-if) → ⊥) → at < length ks → Next ks at a → Next ks a b
       → ExprRead ks values vars b sums k → Next ks k n → slot ≡ getD values at 0 → Stored lows highs vars on slot sums ok held
       → StmtRun ks values lows highs vars on at ok held n
   unfolding spellStmt runStmt frontKind kindOf keywordNumber
@@ -160,7 +162,7 @@ module _ {ks values lows highs vars : List ℕ} {on ok : List Bool} {held : List
       go j l vs as′ ls us (if-then c d) codes biased ranges h = absurd (no-if (sym (front-is codes at refl h)))
       go j l vs as′ ls us (if-else c d d′) codes biased ranges h = absurd (no-if (sym (front-is codes at refl h)))
 
-  pub stmt-if : {at a b k open′ n : ℕ} {holds : List Bool} → getD ks at 255 ≡ 25 → at < length ks → Next ks at a → Next ks a b
+  pub stmt-if : {at a b k open′ n : ℕ} {holds : List Bool} → getD ks at noKind ≡ kindOf (key k-if) → at < length ks → Next ks at a → Next ks a b
       → CondRead ks values vars b holds k → Next ks k open′ → BranchRun ks values lows highs vars on open′ holds ok held n
       → StmtRun ks values lows highs vars on at ok held n
   unfolding spellStmt runStmt frontKind kindOf keywordNumber oneBlock
@@ -172,9 +174,9 @@ module _ {ks values lows highs vars : List ℕ} {on ok : List Bool} {held : List
   }
     where
       go : (j : ℕ) → j < 16 → (vs : List Var) (as′ : List ℤ) (ls us : List Lexeme) (s : Stmt) → Codes vs ls ks values → Biased vs as′ (lane vars j)
-          → Ranges vs lows highs → drop at ls ≡ spellStmt s ++ us → (frontKind us ≡ 26 → ⊥)
+          → Ranges vs lows highs → drop at ls ≡ spellStmt s ++ us → (frontKind us ≡ kindOf (key k-else) → ⊥)
           → RunIn vs on ok held j as′ (runStmt s vs as′) × (drop n ls ≡ us)
-      go j l vs as′ ls us (assign x e) codes biased ranges d f = apart 30 25 refl refl (front-is codes at kind d)
+      go j l vs as′ ls us (assign x e) codes biased ranges d f = apart nameKind (kindOf (key k-if)) refl refl (front-is codes at kind d)
       go j l vs as′ ls us (if-then c b) codes biased ranges d f =
           let t = test .reads j l vs as′ ls (mark rparen ∷ oneBlock b us) c codes biased
           (behind codes two (behind codes one d) ∙ simp append-assoc) (rparen-ends (oneBlock b us)) in
@@ -214,7 +216,7 @@ module _ {ks values lows highs vars : List ℕ} (on holds : List Bool) {on₁ : 
       (run .runs j l vs as′ ls us b codes biased ranges (behind codes enter e))
 
   -- one block
-  pub branch-one : (getD ks next 255 ≡ 26 → ⊥) → BranchRun ks values lows highs vars on open′ holds ok₁ held₁ next
+  pub branch-one : (getD ks next noKind ≡ kindOf (key k-else) → ⊥) → BranchRun ks values lows highs vars on open′ holds ok₁ held₁ next
   unfolding oneBlock frontKind kindOf keywordNumber
   branch-one no-else = record {
     long = run .long;
@@ -230,7 +232,7 @@ module _ {ks values lows highs vars : List ℕ} (on holds : List Bool) {on₁ : 
   }
 
   -- two blocks
-  pub branch-two : {other last final second : ℕ} {on₂ ok₂ both : List Bool} {held₂ : List ℕ} → getD ks next 255 ≡ 26 → Next ks next other
+  pub branch-two : {other last final second : ℕ} {on₂ ok₂ both : List Bool} {held₂ : List ℕ} → getD ks next noKind ≡ kindOf (key k-else) → Next ks next other
       → Closes ks values other last → Next ks last final → Next ks other second
       → ((j : ℕ) → j < 16 → getD on₂ j false ≡ getD on j false && not (getD holds j false))
       → BlockRun ks values lows highs held₁ on₂ second ok₂ held₂

@@ -8,7 +8,7 @@ use mathlib.Core.Option.{Option, none, some}
 use lib.ListN.{length, getD, drop, getElem?}
 use lib.IntN.{ℤ}
 use Rattle.syntax.specs.Bytes.{sameBytes}
-use Rattle.syntax.specs.Token.{Lexeme, name, number, mark, lbrace, rbrace}
+use Rattle.syntax.specs.Token.{Lexeme, name, number, mark, lbrace, rbrace, rparen, semicolon}
 use Rattle.syntax.specs.Held.Kind.{kindOf}
 use Rattle.syntax.specs.Tree.{Var, Block, spellBlock}
 use Rattle.meaning.specs.Held.{Biased}
@@ -34,7 +34,7 @@ pub record Codes (vs : List Var) (ls : List Lexeme) (kinds values : List ℕ) : 
 
 -- what stands behind a condition in a file: a closing bracket or a semicolon
 unfoldable pub EndsCond : List Lexeme → Type 0
-EndsCond us = (rest : List Lexeme) × (l : Lexeme) × (us ≡ l ∷ rest) × ((kindOf l ≡ 3) ⊎ (kindOf l ≡ 4))
+EndsCond us = (rest : List Lexeme) × (l : Lexeme) × (us ≡ l ∷ rest) × ((kindOf l ≡ kindOf (mark rparen)) ⊎ (kindOf l ≡ kindOf (mark semicolon)))
 
 -- the six values of a lane: that of variable v in lane j stands at v * 16 + j
 unfoldable pub lane : List ℕ → ℕ → List ℕ

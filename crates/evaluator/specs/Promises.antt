@@ -7,17 +7,22 @@ use mathlib.Core.Option.{Option, some}
 use lib.Dec.{eqb, ltb}
 use lib.ListN.{length, getD, drop}
 use lib.IntN.{ℤ, pos, _-ℤ_}
+use Rattle.syntax.specs.Limits.{mostBytes, mostVars}
 use Rattle.syntax.specs.Token.{Lexeme, key, mark, lbrace, rbrace, k-else}
-use Rattle.syntax.specs.Held.Kind.{kindOf}
-use Rattle.syntax.specs.Tree.{Var, Atom, Sign, added, taken, Expr, Comparison, Block, Stmt, spellAtom, spellExpr, comparisonMark, spellCond, spellConj, spellSimple, spellBlock, spellStmt}
-use Rattle.meaning.specs.Value.{atomValue, joined, exprValue, compares, truth, conjTruth, simpleTruth, runBlock, runStmt, assigned}
+use Rattle.syntax.specs.Token.{differs, below, at-most, above, at-least, plus, and-and, or-or}
+use Rattle.syntax.specs.Token as token
+use Rattle.syntax.specs.Held.Kind.{kindOf, noKind}
+use Rattle.syntax.specs.Tree.{Var, Atom, Sign, added, taken, Expr, Comparison, Block, Stmt, spellAtom, spellExpr}
+use Rattle.syntax.specs.Tree.{comparisonMark, spellCond, spellConj, spellSimple, spellBlock, spellStmt}
+use Rattle.meaning.specs.Value.{atomValue, joined, exprValue, compares, truth, conjTruth, simpleTruth, runBlock}
+use Rattle.meaning.specs.Value.{runStmt, assigned}
 use Rattle.meaning.specs.Held.{Biased, Ranges}
 use Rattle.evaluator.specs.Coding.{Codes, RunAs, slotOf, lane}
 
 -- a place among few enough tokens
 pub record Placed (ks : List ℕ) (at : ℕ) : Type 0 where
   pub within : at ≤ length ks
-  pub short : length ks ≤ 8192
+  pub short : length ks ≤ mostBytes
 
 -- the next place
 pub record Next (ks : List ℕ) (at r : ℕ) : Type 0 where
@@ -31,9 +36,9 @@ pub record Closes (ks values : List ℕ) (open′ r : ℕ) : Type 0 where
   pub to : r ≤ length ks
   pub held : open′ ≤ getD values open′ 0 → getD values open′ 0 ≤ length ks → r ≡ getD values open′ 0
 
--- the kind at the front, and 255 of nothing
+-- the kind at the front, and `noKind` of nothing
 unfoldable pub frontKind : List Lexeme → ℕ
-frontKind [] = 255
+frontKind [] = noKind
 frontKind (l ∷ ls) = kindOf l
 
 -- what may stand behind an atom, an expression or simple condition, a conjunction, a condition: nothing that would continue it
@@ -41,17 +46,17 @@ unfoldable pub EndsAtom : List Lexeme → Type 0
 EndsAtom us = Unit {0}
 
 unfoldable pub EndsExpr : List Lexeme → Type 0
-EndsExpr us = (frontKind us ≡ 14 → ⊥) × (frontKind us ≡ 15 → ⊥)
+EndsExpr us = (frontKind us ≡ kindOf (mark plus) → ⊥) × (frontKind us ≡ kindOf (mark token.minus) → ⊥)
 
 unfoldable pub EndsConj : List Lexeme → Type 0
-EndsConj us = EndsExpr us × (frontKind us ≡ 17 → ⊥)
+EndsConj us = EndsExpr us × (frontKind us ≡ kindOf (mark and-and) → ⊥)
 
 unfoldable pub EndsWhole : List Lexeme → Type 0
-EndsWhole us = EndsConj us × (frontKind us ≡ 18 → ⊥)
+EndsWhole us = EndsConj us × (frontKind us ≡ kindOf (mark or-or) → ⊥)
 
 -- what an operand adds: the value in its slot, and where that is none of the six a number
 unfoldable pub operand : List ℕ → ℕ → ℕ → ℕ
-operand vars slot p = cond (ltb slot 6) (getD vars slot 0) p
+operand vars slot p = cond (ltb slot mostVars) (getD vars slot 0) p
 
 -- an operand read from a place: what it adds, less m
 pub record AtomRead (ks values : List ℕ) (at slot p m n : ℕ) : Type 0 where
@@ -94,13 +99,14 @@ TermRead ks values vars minus lanes at sums n =
 abbrev pub ExprRead : List ℕ → List ℕ → List ℕ → ℕ → List ℕ → ℕ → Type 0
 ExprRead ks values vars at sums n = Sums spellExpr EndsExpr (λ j. exprValue) ks values vars at sums n
 
--- the test of a comparison mark's number
+-- the test of a comparison mark's kind
 unfoldable pub testOf : ℕ → ℕ → ℕ → Bool
 testOf k a b =
-    cond (eqb k 10) (ltb a b)
-    (cond (eqb k 12) (ltb b a)
-    (cond (eqb k 11) (not (ltb b a))
-    (cond (eqb k 13) (not (ltb a b)) (cond (eqb k 9) (ltb a b || ltb b a) (not (ltb a b || ltb b a))))))
+    cond (eqb k (kindOf (mark below))) (ltb a b)
+    (cond (eqb k (kindOf (mark above))) (ltb b a)
+    (cond (eqb k (kindOf (mark at-most))) (not (ltb b a))
+    (cond (eqb k (kindOf (mark at-least))) (not (ltb a b))
+    (cond (eqb k (kindOf (mark differs))) (ltb a b || ltb b a) (not (ltb a b || ltb b a))))))
 
 -- a truth in each lane, read from a place
 pub record Truths {X : Type 0} (spell : X → List Lexeme) (Ends : List Lexeme → Type 0) (means : X → List Var → List ℤ → Bool)
@@ -160,7 +166,7 @@ pub record StmtRun (ks values lows highs vars : List ℕ) (on : List Bool) (at :
   pub to : n ≤ length ks
   pub runs :
       (j : ℕ) → j < 16 → (vs : List Var) (as′ : List ℤ) (ls us : List Lexeme) (s : Stmt) → Codes vs ls ks values → Biased vs as′ (lane vars j)
-      → Ranges vs lows highs → drop at ls ≡ spellStmt s ++ us → (frontKind us ≡ 26 → ⊥)
+      → Ranges vs lows highs → drop at ls ≡ spellStmt s ++ us → (frontKind us ≡ kindOf (key k-else) → ⊥)
       → RunIn vs on ok held j as′ (runStmt s vs as′) × (drop n ls ≡ us)
 
 -- a block in its braces, with what stands behind it
@@ -175,7 +181,7 @@ pub record BranchRun (ks values lows highs vars : List ℕ) (on : List Bool) (op
   pub to : n ≤ length ks
   pub runs-one :
       (j : ℕ) → j < 16 → (vs : List Var) (as′ : List ℤ) (ls us : List Lexeme) (b : Block) → Codes vs ls ks values → Biased vs as′ (lane vars j)
-      → Ranges vs lows highs → drop open′ ls ≡ oneBlock b us → (frontKind us ≡ 26 → ⊥)
+      → Ranges vs lows highs → drop open′ ls ≡ oneBlock b us → (frontKind us ≡ kindOf (key k-else) → ⊥)
       → RunIn vs on ok held j as′ (cond (getD holds j false) (runBlock b vs as′) (some as′)) × (drop n ls ≡ us)
   pub runs-two :
       (j : ℕ) → j < 16 → (vs : List Var) (as′ : List ℤ) (ls us : List Lexeme) (a b : Block) → Codes vs ls ks values → Biased vs as′ (lane vars j)

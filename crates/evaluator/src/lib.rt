@@ -11,7 +11,9 @@ ghost use lib.ListN.{drop, length, getD, set};
 ghost use lib.Dec.{ltb};
 ghost use lib.IntN.{ℤ};
 ghost use Rattle.sets.specs.Set.{member};
+ghost use Rattle.syntax.specs.Limits.{mostVars};
 ghost use Rattle.syntax.specs.Token.{Lexeme, mark, rbrace};
+ghost use Rattle.syntax.specs.Held.Kind.{noKind};
 ghost use Rattle.syntax.specs.Tree.{Var, Cond, Block, spellCond, spellBlock};
 ghost use Rattle.meaning.specs.Value.{truth, runBlock};
 ghost use Rattle.meaning.specs.Held.{Biased, Ranges};
@@ -20,48 +22,10 @@ ghost use Rattle.evaluator.specs.Promises.{Placed, Next, Closes, operand
 ghost use Rattle.evaluator.specs.Promises.{testOf, CompareRead, CondRead, ConjRead, SimpleRead, Stored, BlockRun};
 ghost use Rattle.evaluator.specs.Promises.{StmtRun, BranchRun};
 
-const RBRACE: u8 = 1;
-
-const LPAREN: u8 = 2;
-
-const DIFFERS: u8 = 9;
-
-const BELOW: u8 = 10;
-
-const AT_MOST: u8 = 11;
-
-const ABOVE: u8 = 12;
-
-const AT_LEAST: u8 = 13;
-
-const PLUS: u8 = 14;
-
-const MINUS: u8 = 15;
-
-const BANG: u8 = 16;
-
-const AND_AND: u8 = 17;
-
-const OR_OR: u8 = 18;
-
-const IF: u8 = 25;
-
-const ELSE: u8 = 26;
-
-const TRUE: u8 = 27;
-
-const FALSE: u8 = 28;
-
-const NAME: u8 = 30;
-
-const END: u8 = 255;
-
-const MOST: usize = 8192;
-
 // What is added to an expression's value.
 const ZERO: u32 = 1073741824;
 
-// An operand: a variable's slot, or 6 and a number, as what is added less what is taken away; and the token behind it.
+// An operand: a variable's slot, or one past all slots and a number, as what is added less what is taken away; and the token behind it.
 struct Atom {
     slot: usize,
     plus: u32,
@@ -94,9 +58,13 @@ pub struct Ran {
 }
 
 fn kind_at(kinds: &[u8], at: usize) -> u8
-    ensures { λ r. ⌜ r ≡ getD (now (kinds .entry)) at 255 ⌝ }
+    ensures { λ r. ⌜ r ≡ getD (now (kinds .entry)) at noKind ⌝ }
 {
-    if at < kinds.len() { kinds[at] } else { END }
+    if at < kinds.len() {
+        kinds[at]
+    } else {
+        syntax::NO_KIND
+    }
 }
 
 fn value_at(values: &[u16], at: usize) -> u16
@@ -125,7 +93,7 @@ fn read_atom(kinds: &[u8], values: &[u16], at: usize) -> Atom
 {
     let kind = kind_at(kinds, at);
     let next = after(kinds, at);
-    if kind == NAME {
+    if kind == syntax::NAME {
         let slot = value_at(values, at) as usize;
         return Atom {
             slot,
@@ -134,10 +102,10 @@ fn read_atom(kinds: &[u8], values: &[u16], at: usize) -> Atom
             next,
         };
     }
-    if kind == MINUS {
+    if kind == syntax::MINUS {
         let minus = value_at(values, next) as u32;
         return Atom {
-            slot: 6,
+            slot: syntax::VARIABLES,
             plus: 0,
             minus,
             next: after(kinds, next),
@@ -145,7 +113,7 @@ fn read_atom(kinds: &[u8], values: &[u16], at: usize) -> Atom
     }
     let plus = value_at(values, at) as u32;
     Atom {
-        slot: 6,
+        slot: syntax::VARIABLES,
         plus,
         minus: 0,
         next,
@@ -158,7 +126,7 @@ fn operands(vars: &[u16; 96], slot: usize, plus: u32) -> [u32; 16]
         × (plus ≤ 65535 → getD r j 0 ≤ 65535)) ⌝ }
 {
     let mut lanes = [plus; 16];
-    if slot < 6 {
+    if slot < syntax::VARIABLES {
         let mut j: usize = 0;
         while j < 16 {
             lanes[j] = wide(vars[slot * 16 + j]);
@@ -222,9 +190,9 @@ fn eval_expr(kinds: &[u8], values: &[u16], vars: &[u16; 96], at: usize) -> Sum
     loop {
         let sum = eval_term(kinds, values, vars, lanes, taken, place);
         let kind = kind_at(kinds, sum.next);
-        if kind == PLUS {
+        if kind == syntax::PLUS {
             taken = false;
-        } else if kind == MINUS {
+        } else if kind == syntax::MINUS {
             taken = true;
         } else {
             return sum;
@@ -295,20 +263,20 @@ fn below(a: [u32; 16], b: [u32; 16]) -> [bool; 16]
 fn compare(kind: u8, a: [u32; 16], b: [u32; 16]) -> [bool; 16]
     ensures { λ r. ⌜ ((j : ℕ) → j < 16 → getD r j false ≡ testOf kind (getD a j 0) (getD b j 0)) ⌝ }
 {
-    if kind == BELOW {
+    if kind == syntax::BELOW {
         return below(a, b);
     }
-    if kind == ABOVE {
+    if kind == syntax::ABOVE {
         return below(b, a);
     }
-    if kind == AT_MOST {
+    if kind == syntax::AT_MOST {
         return other(below(b, a));
     }
-    if kind == AT_LEAST {
+    if kind == syntax::AT_LEAST {
         return other(below(a, b));
     }
     let differ = union(below(a, b), below(b, a));
-    if kind == DIFFERS {
+    if kind == syntax::DIFFERS {
         return differ;
     }
     other(differ)
@@ -337,7 +305,7 @@ fn eval_cond(kinds: &[u8], values: &[u16], vars: &[u16; 96], at: usize) -> Truth
     ensures { λ r. ⌜ CondRead (now (kinds .entry)) (now (values .entry)) (now (vars .entry)) at (r .holds) (r .next) ⌝ }
 {
     let conj = eval_conj(kinds, values, vars, at);
-    if kind_at(kinds, conj.next) == OR_OR {
+    if kind_at(kinds, conj.next) == syntax::OR_OR {
         let next = after(kinds, conj.next);
         let more = eval_cond(kinds, values, vars, next);
         let a = conj.holds;
@@ -355,7 +323,7 @@ fn eval_conj(kinds: &[u8], values: &[u16], vars: &[u16; 96], at: usize) -> Truth
     ensures { λ r. ⌜ ConjRead (now (kinds .entry)) (now (values .entry)) (now (vars .entry)) at (r .holds) (r .next) ⌝ }
 {
     let simple = eval_simple(kinds, values, vars, at);
-    if kind_at(kinds, simple.next) == AND_AND {
+    if kind_at(kinds, simple.next) == syntax::AND_AND {
         let next = after(kinds, simple.next);
         let more = eval_conj(kinds, values, vars, next);
         let a = simple.holds;
@@ -375,7 +343,7 @@ fn eval_simple(kinds: &[u8], values: &[u16], vars: &[u16; 96], at: usize) -> Tru
 {
     let kind = kind_at(kinds, at);
     let next = after(kinds, at);
-    if kind == BANG {
+    if kind == syntax::BANG {
         let simple = eval_simple(kinds, values, vars, next);
         let a = simple.holds;
         return Truth {
@@ -383,19 +351,19 @@ fn eval_simple(kinds: &[u8], values: &[u16], vars: &[u16; 96], at: usize) -> Tru
             next: simple.next,
         };
     }
-    if kind == LPAREN {
+    if kind == syntax::LPAREN {
         let cond = eval_cond(kinds, values, vars, next);
         let past = after(kinds, cond.next);
         let holds = cond.holds;
         return Truth { holds, next: past };
     }
-    if kind == TRUE {
+    if kind == syntax::KEY_TRUE {
         return Truth {
             holds: [true; 16],
             next,
         };
     }
-    if kind == FALSE {
+    if kind == syntax::KEY_FALSE {
         return Truth {
             holds: [false; 16],
             next,
@@ -411,7 +379,7 @@ pub fn holds(kinds: &[u8], values: &[u16], vars: &[u16; 96], at: usize) -> u16
         → drop at ls ≡ spellCond c ++ us → EndsCond us → length ls < 8193
         → member r j ≡ truth c vs as′) ⌝ }
 {
-    if MOST < kinds.len() {
+    if syntax::FILE_BYTES < kinds.len() {
         return 0;
     }
     if kinds.len() < at {
@@ -438,7 +406,7 @@ fn merged(on: [bool; 16], new: [u32; 16], old: [u32; 16]) -> [u32; 16]
 
 // Stores a value in each lane.
 fn put(vars: &mut [u16; 96], slot: usize, lanes: [u32; 16])
-    requires { ⌜ (length (now vars) ≡ 96) × (slot < 6) ⌝ }
+    requires { ⌜ (length (now vars) ≡ 96) × (slot < mostVars) ⌝ }
     ensures { λ _. ⌜ (length (now (vars .exit)) ≡ 96) × ((j : ℕ) → j < 16
         → lane (now (vars .exit)) j ≡ set (lane (now (vars .entry)) j) slot (getD lanes j 0 % 65536)) ⌝ }
 {
@@ -452,8 +420,8 @@ fn put(vars: &mut [u16; 96], slot: usize, lanes: [u32; 16])
 // An assignment in the lanes of a set: it stores the values, and says in which lanes they are in range, or nothing was
 // stored.
 fn store(
-    lows: [u16; 6],
-    highs: [u16; 6],
+    lows: [u16; syntax::VARIABLES],
+    highs: [u16; syntax::VARIABLES],
     vars: &mut [u16; 96],
     on: [bool; 16],
     slot: usize,
@@ -463,7 +431,7 @@ fn store(
     requires { ⌜ Near 8193 sums ⌝ }
     ensures { λ r. ⌜ Stored lows highs (now (vars .entry)) on slot sums r (now (vars .exit)) ⌝ }
 {
-    if slot < 6 {
+    if slot < syntax::VARIABLES {
         let low = [wide(lows[slot]) + (ZERO - 128); 16];
         let high = [wide(highs[slot]) + (ZERO - 128); 16];
         let out = union(below(sums, low), below(high, sums));
@@ -493,8 +461,8 @@ fn close_of(kinds: &[u8], values: &[u16], brace: usize) -> usize
 fn run_block(
     kinds: &[u8],
     values: &[u16],
-    lows: [u16; 6],
-    highs: [u16; 6],
+    lows: [u16; syntax::VARIABLES],
+    highs: [u16; syntax::VARIABLES],
     vars: &mut [u16; 96],
     on: [bool; 16],
     at: usize,
@@ -505,10 +473,10 @@ fn run_block(
         r (now (vars .exit)) ⌝ }
 {
     let kind = kind_at(kinds, at);
-    if kind == RBRACE {
+    if kind == syntax::RBRACE {
         return [true; 16];
     }
-    if kind == END {
+    if kind == syntax::NO_KIND {
         return [true; 16];
     }
     let one = run_stmt(kinds, values, lows, highs, vars, on, at);
@@ -520,8 +488,8 @@ fn run_block(
 fn run_stmt(
     kinds: &[u8],
     values: &[u16],
-    lows: [u16; 6],
-    highs: [u16; 6],
+    lows: [u16; syntax::VARIABLES],
+    highs: [u16; syntax::VARIABLES],
     vars: &mut [u16; 96],
     on: [bool; 16],
     at: usize,
@@ -534,7 +502,7 @@ fn run_stmt(
 {
     let second = after(kinds, at);
     let third = after(kinds, second);
-    if kind_at(kinds, at) == IF {
+    if kind_at(kinds, at) == syntax::KEY_IF {
         let cond = eval_cond(kinds, values, vars, third);
         let open = after(kinds, cond.next);
         let holds = cond.holds;
@@ -553,8 +521,8 @@ fn run_stmt(
 fn run_branch(
     kinds: &[u8],
     values: &[u16],
-    lows: [u16; 6],
-    highs: [u16; 6],
+    lows: [u16; syntax::VARIABLES],
+    highs: [u16; syntax::VARIABLES],
     vars: &mut [u16; 96],
     on: [bool; 16],
     brace: usize,
@@ -569,7 +537,7 @@ fn run_branch(
     let next = after(kinds, close);
     let first = after(kinds, brace);
     let ok = run_block(kinds, values, lows, highs, vars, both(on, holds), first);
-    if kind_at(kinds, next) == ELSE {
+    if kind_at(kinds, next) == syntax::KEY_ELSE {
         let open = after(kinds, next);
         let last = close_of(kinds, values, open);
         let behind = after(kinds, last);
@@ -587,8 +555,8 @@ fn run_branch(
 pub fn run_body(
     kinds: &[u8],
     values: &[u16],
-    lows: [u16; 6],
-    highs: [u16; 6],
+    lows: [u16; syntax::VARIABLES],
+    highs: [u16; syntax::VARIABLES],
     vars: [u16; 96],
     at: usize,
 ) -> Ran
@@ -598,7 +566,7 @@ pub fn run_body(
         → RunAs vs (member (r .ok) j) (lane (r .values) j) (runBlock b vs as′)) ⌝ }
 {
     let mut ended = vars;
-    if MOST < kinds.len() {
+    if syntax::FILE_BYTES < kinds.len() {
         return Ran {
             ok: 0,
             values: ended,

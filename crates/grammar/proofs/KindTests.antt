@@ -1,114 +1,45 @@
 -- The tests of lexemes that the readers go by, as tests of kinds.
-use Prim.Native.Nat.{ℕ, zero, suc, _+_, _≤_, _<_}
+use Prim.Native.Nat.{ℕ, zero, suc, _≤_, _<_}
 use mathlib.Core.Bool.{Bool, true, false, _&&_, _||_, or-false}
-use mathlib.Core.Path.{_≡_, refl, sym, _∙_}
+use mathlib.Core.Path.{_≡_, refl, _∙_}
 use mathlib.Core.List.{List, [], _∷_}
 use native.Mathlib.Omega.{arith}
 use lib.Dec.{leb, eqb, leb·zero, leb·suc-zero, leb·suc-suc, eqb·zero-suc, eqb·suc-zero, eqb·suc-suc, lit<, lit≤}
-use borrow.Author.Tests.{eq-eqb, ne-eqb, eqb-true, eqb-false, le-leb, lt-leb, leb-true, leb-false}
-use Rattle.syntax.specs.Token.{Lexeme, name, key, number, mark, Mark, lbrace, rbrace, lparen, rparen, semicolon, equals, dots, becomes, same, differs, below, at-most, above, at-least, plus, minus, bang, and-and, or-or, Keyword, k-monitor, k-var, k-in, k-keep, k-method, k-waituntil, k-if, k-else, k-true, k-false, markNumber, keywordNumber, isMark, isKey, isName}
-use Rattle.syntax.specs.Held.Kind.{kindOf}
+use borrow.Author.Tests.{le-leb, lt-leb, leb-true, leb-false}
+use Rattle.syntax.specs.Token.{Lexeme, name, key, number, mark, Mark, same, differs, below, at-most, above, at-least}
+use Rattle.syntax.specs.Token.{plus, minus}
+use Rattle.syntax.specs.Token.{Keyword, markNumber, isMark, isKey, isName}
+use Rattle.syntax.specs.Held.Kind.{kindOf, nameKind, numberKind}
+use Rattle.syntax.proofs.ByKind.{isNumber, kind-mark, kind-key, kind-name, kind-number}
 use Rattle.syntax.specs.Tree.{Sign, added, taken, Comparison, eq, ne, lt, le, gt, ge}
-use Rattle.syntax.specs.Decide.Reading.{Got, got, stuck, Reader, onwards, _>>=_, give, begins, rest, choose, expect, readName, readNumber, isSign, readSign, readComparison}
+use Rattle.syntax.specs.Decide.Reading.{Got, got, stuck, Reader, onwards, _>>=_, give, begins, rest, choose, expect}
+use Rattle.syntax.specs.Decide.Reading.{readName, readNumber, isSign, readSign, readComparison}
 use Rattle.grammar.specs.Reads.{Follows, Tells, Expects}
 use Rattle.grammar.specs.declared.Pos.{Pos}
 use Rattle.grammar.proofs.Readers.{shape, shaped}
 
 -- Numbers that are equal, as a test of one from the other to the other
-
-eqb-leb : (a b : ℕ) → eqb a b ≡ (leb a b && leb b a)
+eqb-leb : (a b : ℕ) → eqb a b ≡ (leb b a && leb a b)
 eqb-leb zero zero = refl
-eqb-leb zero (suc b) = rw (eqb·zero-suc b, leb·zero (suc b), leb·suc-zero b)
-eqb-leb (suc a) zero = rw (eqb·suc-zero a, leb·suc-zero a)
+eqb-leb zero (suc b) = rw (eqb·zero-suc b, leb·suc-zero b)
+eqb-leb (suc a) zero = rw (eqb·suc-zero a, leb·zero (suc a), leb·suc-zero a)
 eqb-leb (suc a) (suc b) = rw (eqb·suc-suc a b, leb·suc-suc a b, leb·suc-suc b a) (eqb-leb a b)
 
-apart : (a b : ℕ) → (a ≡ b → ⊥) → false ≡ (leb a b && leb b a)
-apart a b h = sym (ne-eqb a b h) ∙ eqb-leb a b
+-- a test of one kind, as a test from that kind to itself
+by-one : {p : Lexeme → Bool} (n : ℕ) → ((l : Lexeme) → p l ≡ eqb (kindOf l) n) → Tells p n n
+by-one n h = record { tells = λ l. h l ∙ eqb-leb (kindOf l) n }
 
-eqb-shift : (n a b : ℕ) (t : Bool) → eqb a b ≡ t → t ≡ eqb (n + a) (n + b)
-eqb-shift n a b true e = let h : a ≡ b = eqb-true a b e in sym (eq-eqb (n + a) (n + b) (omega arith))
-eqb-shift n a b false e = sym (ne-eqb (n + a) (n + b) (λ i. eqb-false a b e (omega arith)))
+pub by-mark : (m : Mark) → Tells (isMark m) (kindOf (mark m)) (kindOf (mark m))
+by-mark m = by-one (kindOf (mark m)) (kind-mark m)
 
-mark-below : (m : Mark) → markNumber m < 19
-unfolding markNumber
-mark-below lbrace = lit< tt
-mark-below rbrace = lit< tt
-mark-below lparen = lit< tt
-mark-below rparen = lit< tt
-mark-below semicolon = lit< tt
-mark-below equals = lit< tt
-mark-below dots = lit< tt
-mark-below becomes = lit< tt
-mark-below same = lit< tt
-mark-below differs = lit< tt
-mark-below below = lit< tt
-mark-below at-most = lit< tt
-mark-below above = lit< tt
-mark-below at-least = lit< tt
-mark-below plus = lit< tt
-mark-below minus = lit< tt
-mark-below bang = lit< tt
-mark-below and-and = lit< tt
-mark-below or-or = lit< tt
+pub by-key : (k : Keyword) → Tells (isKey k) (kindOf (key k)) (kindOf (key k))
+by-key k = by-one (kindOf (key k)) (kind-key k)
 
-key-below : (k : Keyword) → keywordNumber k < 10
-unfolding keywordNumber
-key-below k-monitor = lit< tt
-key-below k-var = lit< tt
-key-below k-in = lit< tt
-key-below k-keep = lit< tt
-key-below k-method = lit< tt
-key-below k-waituntil = lit< tt
-key-below k-if = lit< tt
-key-below k-else = lit< tt
-key-below k-true = lit< tt
-key-below k-false = lit< tt
+pub by-name : Tells isName nameKind nameKind
+by-name = by-one nameKind kind-name
 
-pub by-mark : (m : Mark) → Tells (isMark m) (markNumber m) (markNumber m)
-unfolding isMark kindOf
-by-mark m = record { tells = go }
-  where
-    go : (l : Lexeme) → isMark m l ≡ (leb (markNumber m) (kindOf l) && leb (kindOf l) (markNumber m))
-    go (name x) = apart (markNumber m) 30 (λ e. omega (arith, mark-below m))
-    go (key k) = apart (markNumber m) (19 + keywordNumber k) (λ e. omega (arith, mark-below m))
-    go (number n) = apart (markNumber m) 29 (λ e. omega (arith, mark-below m))
-    go (mark o) = eqb-leb (markNumber m) (markNumber o)
-
-pub by-key : (k : Keyword) → Tells (isKey k) (19 + keywordNumber k) (19 + keywordNumber k)
-unfolding isKey kindOf
-by-key k = record { tells = go }
-  where
-    go : (l : Lexeme) → isKey k l ≡ (leb (19 + keywordNumber k) (kindOf l) && leb (kindOf l) (19 + keywordNumber k))
-    go (name x) = apart (19 + keywordNumber k) 30 (λ e. omega (arith, key-below k))
-    go (key j) = eqb-shift 19 (keywordNumber k) (keywordNumber j) _ refl ∙ eqb-leb (19 + keywordNumber k) (19 + keywordNumber j)
-    go (number n) = apart (19 + keywordNumber k) 29 (λ e. omega (arith, key-below k))
-    go (mark o) = apart (19 + keywordNumber k) (markNumber o) (λ e. omega (arith, mark-below o))
-
-pub by-name : Tells isName 30 30
-unfolding isName kindOf
-by-name = record { tells = go }
-  where
-    go : (l : Lexeme) → isName l ≡ (leb 30 (kindOf l) && leb (kindOf l) 30)
-    go (name x) = refl
-    go (key k) = apart 30 (19 + keywordNumber k) (λ e. omega (arith, key-below k))
-    go (number n) = refl
-    go (mark o) = apart 30 (markNumber o) (λ e. omega (arith, mark-below o))
-
-isNumber : Lexeme → Bool
-isNumber (name x) = false
-isNumber (key k) = false
-isNumber (number n) = true
-isNumber (mark m) = false
-
-by-number : Tells isNumber 29 29
-unfolding isNumber kindOf
-by-number = record { tells = go }
-  where
-    go : (l : Lexeme) → isNumber l ≡ (leb 29 (kindOf l) && leb (kindOf l) 29)
-    go (name x) = refl
-    go (key k) = apart 29 (19 + keywordNumber k) (λ e. omega (arith, key-below k))
-    go (number n) = refl
-    go (mark o) = apart 29 (markNumber o) (λ e. omega (arith, mark-below o))
+by-number : Tells isNumber numberKind numberKind
+by-number = by-one numberKind kind-number
 
 -- two tests in a row, of kinds that are next to each other
 joined : {p q : Lexeme → Bool} {low mid high : ℕ} → low ≤ mid → mid < high → Tells p low mid → Tells q (suc mid) high
@@ -124,16 +55,16 @@ joined {p} {q} {low} {mid} {high} h g tp tq =
         let n : mid < k = leb-false k mid e in
         rw (e, le-leb (suc mid) k n, le-leb low k (omega arith))
 
-pub by-sign : Tells isSign 14 15
-unfolding isSign markNumber
+pub by-sign : Tells isSign (kindOf (mark plus)) (kindOf (mark minus))
+unfolding isSign kindOf markNumber
 by-sign = joined (lit≤ tt) (lit< tt) (by-mark plus) (by-mark minus)
 
 isComparison : Lexeme → Bool
 isComparison l =
     isMark same l || (isMark differs l || (isMark below l || (isMark at-most l || (isMark above l || isMark at-least l))))
 
-by-comparison : Tells isComparison 8 13
-unfolding isComparison markNumber
+by-comparison : Tells isComparison (kindOf (mark same)) (kindOf (mark at-least))
+unfolding isComparison kindOf markNumber
 by-comparison =
     joined (lit≤ tt) (lit< tt) (by-mark same) (joined (lit≤ tt) (lit< tt) (by-mark differs)
     (joined (lit≤ tt) (lit< tt) (by-mark below) (joined (lit≤ tt) (lit< tt) (by-mark at-most)
@@ -188,21 +119,21 @@ comparison-shape =
     (either (isMark at-most) _ le _ (either (isMark above) _ gt _ (single (isMark at-least) ge)))))
 
 module _ {ks : List ℕ} {from to : Pos} where
-  pub took-mark : (m : Mark) → Expects ks from (markNumber m) (markNumber m) to → Follows (Unit {0}) ks from (expect (isMark m)) to
+  pub took-mark : (m : Mark) → Expects ks from (kindOf (mark m)) (kindOf (mark m)) to → Follows (Unit {0}) ks from (expect (isMark m)) to
   took-mark m h = h .by (isMark m) (by-mark m)
 
-  pub took-key : (k : Keyword) → Expects ks from (19 + keywordNumber k) (19 + keywordNumber k) to
+  pub took-key : (k : Keyword) → Expects ks from (kindOf (key k)) (kindOf (key k)) to
       → Follows (Unit {0}) ks from (expect (isKey k)) to
   took-key k h = h .by (isKey k) (by-key k)
 
-  pub took-name : Expects ks from 30 30 to → Follows (List ℕ) ks from readName to
+  pub took-name : Expects ks from nameKind nameKind to → Follows (List ℕ) ks from readName to
   took-name h = shaped [] name-shape (h .by isName by-name)
 
-  pub took-number : Expects ks from 29 29 to → Follows ℕ ks from readNumber to
+  pub took-number : Expects ks from numberKind numberKind to → Follows ℕ ks from readNumber to
   took-number h = shaped 0 number-shape (h .by isNumber by-number)
 
-  pub took-sign : Expects ks from 14 15 to → Follows Sign ks from readSign to
+  pub took-sign : Expects ks from (kindOf (mark plus)) (kindOf (mark minus)) to → Follows Sign ks from readSign to
   took-sign h = shaped added sign-shape (h .by isSign by-sign)
 
-  pub took-comparison : Expects ks from 8 13 to → Follows Comparison ks from readComparison to
+  pub took-comparison : Expects ks from (kindOf (mark same)) (kindOf (mark at-least)) to → Follows Comparison ks from readComparison to
   took-comparison h = shaped eq comparison-shape (h .by isComparison by-comparison)

@@ -4,6 +4,7 @@ ghost use mathlib.Core.List.{List, map};
 ghost use mathlib.Core.Path.{_≡_};
 ghost use lib.ListN.{length};
 ghost use Prim.Native.Nat.{_≤_};
+ghost use Rattle.syntax.specs.Limits.{mostBytes};
 ghost use Rattle.syntax.specs.Token.{Lexeme, isKey, k-var, k-method, k-waituntil};
 ghost use Rattle.syntax.specs.Tree.{Int, Atom, Term, Expr, Cond, Conj, Simple, Block, Stmt, Region, Method, Var, Monitor};
 ghost use Rattle.syntax.specs.Decide.Reading.{atEnd, isSign, readMany, readInt, readAtom, readTerm, readExpr, readCond, readConj, readSimple, readBlock, readStmt, readRegion, readMethod, readVar, readMonitor};
@@ -17,61 +18,6 @@ pub enum Pos {
     Next(usize),
     Stuck(usize),
 }
-
-// The kinds of tokens.
-const LBRACE: u8 = 0;
-
-const RBRACE: u8 = 1;
-
-const LPAREN: u8 = 2;
-
-const RPAREN: u8 = 3;
-
-const SEMICOLON: u8 = 4;
-
-const EQUALS: u8 = 5;
-
-const DOTS: u8 = 6;
-
-const BECOMES: u8 = 7;
-
-const SAME: u8 = 8;
-
-const AT_LEAST: u8 = 13;
-
-const PLUS: u8 = 14;
-
-const MINUS: u8 = 15;
-
-const BANG: u8 = 16;
-
-const AND_AND: u8 = 17;
-
-const OR_OR: u8 = 18;
-
-const MONITOR: u8 = 19;
-
-const VAR: u8 = 20;
-
-const IN: u8 = 21;
-
-const KEEP: u8 = 22;
-
-const METHOD: u8 = 23;
-
-const WAITUNTIL: u8 = 24;
-
-const IF: u8 = 25;
-
-const ELSE: u8 = 26;
-
-const TRUE: u8 = 27;
-
-const FALSE: u8 = 28;
-
-const NUMBER: u8 = 29;
-
-const NAME: u8 = 30;
 
 // Stops where the reading stands.
 fn stop(from: Pos) -> Pos
@@ -149,18 +95,18 @@ fn at_end(kinds: &[u8], from: Pos) -> Pos
 fn read_int(kinds: &[u8], from: Pos) -> Pos
     ensures { λ r. ⌜ Follows Int (now (kinds .entry)) from readInt r ⌝ }
 {
-    if sees(kinds, from, MINUS) {
-        let minus = expect(kinds, from, MINUS);
-        return expect(kinds, minus, NUMBER);
+    if sees(kinds, from, syntax::MINUS) {
+        let minus = expect(kinds, from, syntax::MINUS);
+        return expect(kinds, minus, syntax::NUMBER);
     }
-    expect(kinds, from, NUMBER)
+    expect(kinds, from, syntax::NUMBER)
 }
 
 fn read_atom(kinds: &[u8], from: Pos) -> Pos
     ensures { λ r. ⌜ Follows Atom (now (kinds .entry)) from readAtom r ⌝ }
 {
-    if sees(kinds, from, NAME) {
-        return expect(kinds, from, NAME);
+    if sees(kinds, from, syntax::NAME) {
+        return expect(kinds, from, syntax::NAME);
     }
     read_int(kinds, from)
 }
@@ -172,8 +118,8 @@ fn read_terms(kinds: &[u8], from: Pos, left: usize) -> Pos
     if left == 0 {
         return stop(from);
     }
-    if sees_among(kinds, from, PLUS, MINUS) {
-        let sign = expect_among(kinds, from, PLUS, MINUS);
+    if sees_among(kinds, from, syntax::PLUS, syntax::MINUS) {
+        let sign = expect_among(kinds, from, syntax::PLUS, syntax::MINUS);
         let atom = read_atom(kinds, sign);
         return read_terms(kinds, atom, left - 1);
     }
@@ -195,8 +141,8 @@ fn read_cond(kinds: &[u8], from: Pos, left: usize) -> Pos
     }
     let less = left - 1;
     let conj = read_conj(kinds, from, less);
-    if sees(kinds, conj, OR_OR) {
-        let or = expect(kinds, conj, OR_OR);
+    if sees(kinds, conj, syntax::OR_OR) {
+        let or = expect(kinds, conj, syntax::OR_OR);
         return read_cond(kinds, or, less);
     }
     conj
@@ -210,8 +156,8 @@ fn read_conj(kinds: &[u8], from: Pos, left: usize) -> Pos
     }
     let less = left - 1;
     let simple = read_simple(kinds, from, less);
-    if sees(kinds, simple, AND_AND) {
-        let and = expect(kinds, simple, AND_AND);
+    if sees(kinds, simple, syntax::AND_AND) {
+        let and = expect(kinds, simple, syntax::AND_AND);
         return read_conj(kinds, and, less);
     }
     simple
@@ -224,23 +170,23 @@ fn read_simple(kinds: &[u8], from: Pos, left: usize) -> Pos
         return stop(from);
     }
     let less = left - 1;
-    if sees(kinds, from, BANG) {
-        let bang = expect(kinds, from, BANG);
+    if sees(kinds, from, syntax::BANG) {
+        let bang = expect(kinds, from, syntax::BANG);
         return read_simple(kinds, bang, less);
     }
-    if sees(kinds, from, LPAREN) {
-        let open = expect(kinds, from, LPAREN);
+    if sees(kinds, from, syntax::LPAREN) {
+        let open = expect(kinds, from, syntax::LPAREN);
         let cond = read_cond(kinds, open, less);
-        return expect(kinds, cond, RPAREN);
+        return expect(kinds, cond, syntax::RPAREN);
     }
-    if sees(kinds, from, TRUE) {
-        return expect(kinds, from, TRUE);
+    if sees(kinds, from, syntax::KEY_TRUE) {
+        return expect(kinds, from, syntax::KEY_TRUE);
     }
-    if sees(kinds, from, FALSE) {
-        return expect(kinds, from, FALSE);
+    if sees(kinds, from, syntax::KEY_FALSE) {
+        return expect(kinds, from, syntax::KEY_FALSE);
     }
     let one = read_expr(kinds, from, less);
-    let comparison = expect_among(kinds, one, SAME, AT_LEAST);
+    let comparison = expect_among(kinds, one, syntax::SAME, syntax::AT_LEAST);
     read_expr(kinds, comparison, less)
 }
 
@@ -252,7 +198,7 @@ fn read_block(kinds: &[u8], from: Pos, left: usize) -> Pos
         return stop(from);
     }
     let less = left - 1;
-    if sees(kinds, from, RBRACE) {
+    if sees(kinds, from, syntax::RBRACE) {
         return from;
     }
     let stmt = read_stmt(kinds, from, less);
@@ -269,38 +215,38 @@ fn read_stmt(kinds: &[u8], from: Pos, left: usize) -> Pos
         return stop(from);
     }
     let less = left - 1;
-    if sees(kinds, from, IF) {
-        let word = expect(kinds, from, IF);
-        let open = expect(kinds, word, LPAREN);
+    if sees(kinds, from, syntax::KEY_IF) {
+        let word = expect(kinds, from, syntax::KEY_IF);
+        let open = expect(kinds, word, syntax::LPAREN);
         let cond = read_cond(kinds, open, less);
-        let close = expect(kinds, cond, RPAREN);
-        let begin = expect(kinds, close, LBRACE);
+        let close = expect(kinds, cond, syntax::RPAREN);
+        let begin = expect(kinds, close, syntax::LBRACE);
         let block = read_block(kinds, begin, less);
-        let end = expect(kinds, block, RBRACE);
-        if sees(kinds, end, ELSE) {
-            let other = expect(kinds, end, ELSE);
-            let begin2 = expect(kinds, other, LBRACE);
+        let end = expect(kinds, block, syntax::RBRACE);
+        if sees(kinds, end, syntax::KEY_ELSE) {
+            let other = expect(kinds, end, syntax::KEY_ELSE);
+            let begin2 = expect(kinds, other, syntax::LBRACE);
             let block2 = read_block(kinds, begin2, less);
-            return expect(kinds, block2, RBRACE);
+            return expect(kinds, block2, syntax::RBRACE);
         }
         return end;
     }
-    let name = expect(kinds, from, NAME);
-    let becomes = expect(kinds, name, BECOMES);
+    let name = expect(kinds, from, syntax::NAME);
+    let becomes = expect(kinds, name, syntax::BECOMES);
     let value = read_expr(kinds, becomes, less);
-    expect(kinds, value, SEMICOLON)
+    expect(kinds, value, syntax::SEMICOLON)
 }
 
 fn read_region(kinds: &[u8], from: Pos, left: usize) -> Pos
     ensures { λ r. ⌜ Follows Region (now (kinds .entry)) from (readRegion left) r ⌝ }
 {
-    let word = expect(kinds, from, WAITUNTIL);
-    let open = expect(kinds, word, LPAREN);
+    let word = expect(kinds, from, syntax::KEY_WAITUNTIL);
+    let open = expect(kinds, word, syntax::LPAREN);
     let guard = read_cond(kinds, open, left);
-    let shut = expect(kinds, guard, RPAREN);
-    let begin = expect(kinds, shut, LBRACE);
+    let shut = expect(kinds, guard, syntax::RPAREN);
+    let begin = expect(kinds, shut, syntax::LBRACE);
     let block = read_block(kinds, begin, left);
-    expect(kinds, block, RBRACE)
+    expect(kinds, block, syntax::RBRACE)
 }
 
 // As many regions as there are, each with `left` of its own.
@@ -310,7 +256,7 @@ fn read_regions(kinds: &[u8], from: Pos, left: usize, rounds: usize) -> Pos
     if rounds == 0 {
         return stop(from);
     }
-    if sees(kinds, from, WAITUNTIL) {
+    if sees(kinds, from, syntax::KEY_WAITUNTIL) {
         let region = read_region(kinds, from, left);
         return read_regions(kinds, region, left, rounds - 1);
     }
@@ -320,12 +266,12 @@ fn read_regions(kinds: &[u8], from: Pos, left: usize, rounds: usize) -> Pos
 fn read_method(kinds: &[u8], from: Pos, left: usize) -> Pos
     ensures { λ r. ⌜ Follows Method (now (kinds .entry)) from (readMethod left) r ⌝ }
 {
-    let word = expect(kinds, from, METHOD);
-    let name = expect(kinds, word, NAME);
-    let begin = expect(kinds, name, LBRACE);
+    let word = expect(kinds, from, syntax::KEY_METHOD);
+    let name = expect(kinds, word, syntax::NAME);
+    let begin = expect(kinds, name, syntax::LBRACE);
     let region = read_region(kinds, begin, left);
     let regions = read_regions(kinds, region, left, left);
-    expect(kinds, regions, RBRACE)
+    expect(kinds, regions, syntax::RBRACE)
 }
 
 fn read_methods(kinds: &[u8], from: Pos, left: usize, rounds: usize) -> Pos
@@ -334,7 +280,7 @@ fn read_methods(kinds: &[u8], from: Pos, left: usize, rounds: usize) -> Pos
     if rounds == 0 {
         return stop(from);
     }
-    if sees(kinds, from, METHOD) {
+    if sees(kinds, from, syntax::KEY_METHOD) {
         let method = read_method(kinds, from, left);
         return read_methods(kinds, method, left, rounds - 1);
     }
@@ -344,15 +290,15 @@ fn read_methods(kinds: &[u8], from: Pos, left: usize, rounds: usize) -> Pos
 fn read_var(kinds: &[u8], from: Pos) -> Pos
     ensures { λ r. ⌜ Follows Var (now (kinds .entry)) from readVar r ⌝ }
 {
-    let word = expect(kinds, from, VAR);
-    let name = expect(kinds, word, NAME);
-    let equals = expect(kinds, name, EQUALS);
+    let word = expect(kinds, from, syntax::KEY_VAR);
+    let name = expect(kinds, word, syntax::NAME);
+    let equals = expect(kinds, name, syntax::EQUALS);
     let start = read_int(kinds, equals);
-    let within = expect(kinds, start, IN);
+    let within = expect(kinds, start, syntax::KEY_IN);
     let low = read_int(kinds, within);
-    let dots = expect(kinds, low, DOTS);
+    let dots = expect(kinds, low, syntax::DOTS);
     let high = read_int(kinds, dots);
-    expect(kinds, high, SEMICOLON)
+    expect(kinds, high, syntax::SEMICOLON)
 }
 
 fn read_vars(kinds: &[u8], from: Pos, rounds: usize) -> Pos
@@ -361,7 +307,7 @@ fn read_vars(kinds: &[u8], from: Pos, rounds: usize) -> Pos
     if rounds == 0 {
         return stop(from);
     }
-    if sees(kinds, from, VAR) {
+    if sees(kinds, from, syntax::KEY_VAR) {
         let var = read_var(kinds, from);
         return read_vars(kinds, var, rounds - 1);
     }
@@ -371,25 +317,25 @@ fn read_vars(kinds: &[u8], from: Pos, rounds: usize) -> Pos
 fn read_monitor(kinds: &[u8], from: Pos, left: usize) -> Pos
     ensures { λ r. ⌜ Follows Monitor (now (kinds .entry)) from (readMonitor left) r ⌝ }
 {
-    let word = expect(kinds, from, MONITOR);
-    let name = expect(kinds, word, NAME);
-    let begin = expect(kinds, name, LBRACE);
+    let word = expect(kinds, from, syntax::KEY_MONITOR);
+    let name = expect(kinds, word, syntax::NAME);
+    let begin = expect(kinds, name, syntax::LBRACE);
     let var = read_var(kinds, begin);
     let vars = read_vars(kinds, var, left);
-    let keep = expect(kinds, vars, KEEP);
+    let keep = expect(kinds, vars, syntax::KEY_KEEP);
     let cond = read_cond(kinds, keep, left);
-    let kept = expect(kinds, cond, SEMICOLON);
+    let kept = expect(kinds, cond, syntax::SEMICOLON);
     let method = read_method(kinds, kept, left);
     let methods = read_methods(kinds, method, left, left);
-    let end = expect(kinds, methods, RBRACE);
+    let end = expect(kinds, methods, syntax::RBRACE);
     at_end(kinds, end)
 }
 
 // Where a file's tokens are no file of the grammar (4), or their count.
 pub fn read(kinds: &[u8]) -> Pos
-    ensures { λ r. ⌜ ((ls : List Lexeme) → map kindOf ls ≡ now (kinds .entry) → length ls ≤ 8192 → Reads r ls (reading.read ls)) ⌝ }
+    ensures { λ r. ⌜ ((ls : List Lexeme) → map kindOf ls ≡ now (kinds .entry) → length ls ≤ mostBytes → Reads r ls (reading.read ls)) ⌝ }
 {
-    if 8192 < kinds.len() {
+    if syntax::FILE_BYTES < kinds.len() {
         return Pos::Stuck(0);
     }
     read_monitor(kinds, Pos::Next(0), 4 * (kinds.len() + 1))

@@ -9,10 +9,36 @@ use native.Mathlib.Numerals.{add-one}
 use lib.Seq.{drop-drop, drop-cons, drop-append-seam}
 use lib.Dec.{eqb}
 use borrow.Author.Tests.{eqb-true, eqb-false, eq-eqb, ne-eqb}
-use Rattle.syntax.specs.Token.{Lexeme}
-use Rattle.syntax.specs.Held.Kind.{kindOf}
+use Rattle.syntax.specs.Token.{Lexeme, mark, lbrace, rbrace, lparen, rparen, semicolon}
+use Rattle.syntax.specs.Held.Kind.{kindOf, noKind}
 use Rattle.logic.proofs.Bools.{split}
 use Rattle.layout.specs.Closing.{closeFrom}
+
+-- The kinds that open and close, and what stands before the one that closes
+
+abbrev pub openBracket : ℕ
+openBracket = kindOf (mark lparen)
+
+abbrev pub shutBracket : ℕ
+shutBracket = kindOf (mark rparen)
+
+abbrev pub openBrace : ℕ
+openBrace = kindOf (mark lbrace)
+
+abbrev pub shutBrace : ℕ
+shutBrace = kindOf (mark rbrace)
+
+abbrev pub semicolonKind : ℕ
+semicolonKind = kindOf (mark semicolon)
+
+abbrev pub bracketEnd : List ℕ → ℕ
+bracketEnd = closeFrom openBracket shutBracket 0
+
+abbrev pub braceEnd : List ℕ → ℕ
+braceEnd = closeFrom openBrace shutBrace 0
+
+abbrev pub semicolonEnd : List ℕ → ℕ
+semicolonEnd = closeFrom noKind semicolonKind 0
 
 module _ (o c : ℕ) where
   pub close-opens : (d k : ℕ) (ks : List ℕ) → k ≡ o → closeFrom o c d (k ∷ ks) ≡ suc (closeFrom o c (suc d) ks)

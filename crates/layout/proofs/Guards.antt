@@ -12,20 +12,20 @@ use Rattle.syntax.specs.Tree.{Cond, spellCond}
 use Rattle.meaning.specs.Model.{sameLexemes, sameGuard}
 use Rattle.logic.proofs.Bools.{is-false}
 use Rattle.meaning.proofs.SameGuards.{decides-lexemes}
-use Rattle.layout.specs.Closing.{closeFrom}
 use Rattle.layout.specs.Promises.{GuardAt}
 use Rattle.layout.proofs.Closes.{close-length, stands-below}
+use Rattle.layout.proofs.Closes.{openBracket, shutBracket, bracketEnd}
 use Rattle.layout.proofs.Same.{kinds-are, kinds-length}
 use Rattle.layout.proofs.Trees.{brackets-balanced}
 
 module _ {file : List ℕ} {ts : List Token} {kinds values places : List ℕ}
     (words : Words file ts kinds values places) where
   module _ (at : ℕ) (c : Cond) (g : GuardAt (lexemes ts) at c) where
-    pub guard-long : closeFrom 2 3 0 (drop at kinds) ≡ length (spellCond c)
+    pub guard-long : bracketEnd (drop at kinds) ≡ length (spellCond c)
     unfolding kindOf markNumber
     guard-long =
         rw (kinds-are words)
-        (close-length 2 3 at (lexemes ts) (spellCond c) (g .0) (mark rparen) (brackets-balanced c)
+        (close-length openBracket shutBracket at (lexemes ts) (spellCond c) (g .0) (mark rparen) (brackets-balanced c)
         (λ e. omega arith) refl (g .1))
 
     pub guard-run : take (length (spellCond c)) (drop at (lexemes ts)) ≡ spellCond c
@@ -38,20 +38,18 @@ module _ {file : List ℕ} {ts : List Token} {kinds values places : List ℕ}
         omega arith
 
   module _ (a b : ℕ) (c d : Cond) (g : GuardAt (lexemes ts) a c) (h : GuardAt (lexemes ts) b d) where
-    pub lengths-differ : (closeFrom 2 3 0 (drop a kinds) ≡ closeFrom 2 3 0 (drop b kinds) → ⊥) → false ≡ sameGuard c d
+    pub lengths-differ : (bracketEnd (drop a kinds) ≡ bracketEnd (drop b kinds) → ⊥) → false ≡ sameGuard c d
     unfolding sameGuard
     lengths-differ n =
         sym (is-false (λ e. n
         (guard-long a c g ∙ ap length (decides-lexemes (spellCond c) (spellCond d) .0 e) ∙ sym (guard-long b d h))))
 
-    pub guards-agree : closeFrom 2 3 0 (drop a kinds) ≡ closeFrom 2 3 0 (drop b kinds)
-        → sameLexemes (take (closeFrom 2 3 0 (drop b kinds)) (drop a (lexemes ts)))
-        (take (closeFrom 2 3 0 (drop b kinds)) (drop b (lexemes ts)))
+    pub guards-agree : bracketEnd (drop a kinds) ≡ bracketEnd (drop b kinds)
+        → sameLexemes (take (bracketEnd (drop b kinds)) (drop a (lexemes ts))) (take (bracketEnd (drop b kinds)) (drop b (lexemes ts)))
         ≡ sameGuard c d
     unfolding sameGuard
     guards-agree e =
-        let p : take (closeFrom 2 3 0 (drop b kinds)) (drop a (lexemes ts)) ≡ spellCond c =
+        let p : take (bracketEnd (drop b kinds)) (drop a (lexemes ts)) ≡ spellCond c =
         rw (sym e ∙ guard-long a c g) (guard-run a c g) in
-        let q : take (closeFrom 2 3 0 (drop b kinds)) (drop b (lexemes ts)) ≡ spellCond d =
-        rw (guard-long b d h) (guard-run b d h) in
+        let q : take (bracketEnd (drop b kinds)) (drop b (lexemes ts)) ≡ spellCond d = rw (guard-long b d h) (guard-run b d h) in
         rw (p, q)

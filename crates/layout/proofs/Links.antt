@@ -14,27 +14,28 @@ use Rattle.syntax.specs.Held.Kind.{kindOf}
 use Rattle.syntax.specs.Tree.{Block, spellBlock}
 use Rattle.logic.proofs.Bools.{split}
 use Rattle.layout.specs.Places.{past}
-use Rattle.layout.specs.Closing.{closeFrom}
 use Rattle.layout.specs.Laid.{Kinds, Linked}
 use Rattle.layout.proofs.Closes.{close-stands, stands-below}
-use Rattle.layout.proofs.Same.{is-lbrace, getD-map}
+use Rattle.layout.proofs.Closes.{openBrace, shutBrace, braceEnd}
+use Rattle.syntax.proofs.ByKind.{is-mark}
+use Rattle.layout.proofs.Same.{getD-map}
 use Rattle.layout.proofs.Trees.{braces-balanced}
 
 -- the token of the brace that closes what is opened at k
 abbrev pub linkOf : List ℕ → ℕ → ℕ
-linkOf kinds k = (k + past + closeFrom 0 1 0 (drop (k + past) kinds)) % 65536
+linkOf kinds k = (k + past + braceEnd (drop (k + past) kinds)) % 65536
 
 -- the braces below i are linked, and all else is as before
 pub record Links (kinds before after : List ℕ) (i : ℕ) : Type 0 where
   pub as-long : length after ≡ length before
-  pub done : (k : ℕ) → k < i → getD kinds k 0 ≡ 0 → getD after k 0 ≡ linkOf kinds k
-  pub kept : (k : ℕ) → (k < i → getD kinds k 0 ≡ 0 → ⊥) → getD after k 0 ≡ getD before k 0
+  pub done : (k : ℕ) → k < i → getD kinds k 0 ≡ openBrace → getD after k 0 ≡ linkOf kinds k
+  pub kept : (k : ℕ) → (k < i → getD kinds k 0 ≡ openBrace → ⊥) → getD after k 0 ≡ getD before k 0
 
 pub links-none : (kinds before : List ℕ) → Links kinds before before 0
 links-none kinds before = record { as-long = refl; done = λ k h z. absurd (omega arith); kept = λ k n. refl }
 
 module _ (kinds before after : List ℕ) (i : ℕ) (links : Links kinds before after i) where
-  pub links-pass : (getD kinds i 0 ≡ 0 → ⊥) → Links kinds before after (i + 1)
+  pub links-pass : (getD kinds i 0 ≡ openBrace → ⊥) → Links kinds before after (i + 1)
   links-pass other =
       record {
         as-long = links .as-long;
@@ -46,7 +47,7 @@ module _ (kinds before after : List ℕ) (i : ℕ) (links : Links kinds before a
       below : (k : ℕ) → k < i + 1 → (k ≡ i → ⊥) → k < i
       below k h n = omega arith
 
-  pub links-store : i < length before → getD kinds i 0 ≡ 0 → Links kinds before (set after i (linkOf kinds i)) (i + 1)
+  pub links-store : i < length before → getD kinds i 0 ≡ openBrace → Links kinds before (set after i (linkOf kinds i)) (i + 1)
   links-store low brace =
       record {
         as-long = length-set after i (linkOf kinds i) ∙ links .as-long;
@@ -83,8 +84,7 @@ module _ (ls : List Lexeme) (kinds before after : List ℕ) (are : Kinds ls kind
   others : (i : ℕ) → (getElem? ls i ≡ some (mark lbrace) → ⊥) → getD after i 0 ≡ getD before i 0
   others i n =
       links .kept i (λ h z. let l = long in
-      n (element ls i (mark rbrace) (omega arith)
-      ∙ ap some (is-lbrace (getD ls i (mark rbrace)) (sym (kind-at i h) ∙ z))))
+      n (element ls i (mark rbrace) (omega arith) ∙ ap some (is-mark lbrace (getD ls i (mark rbrace)) (sym (kind-at i h) ∙ z))))
 
   linked : (i : ℕ) (b : Block) (us : List Lexeme) → drop i ls ≡ mark lbrace ∷ (spellBlock b ++ (mark rbrace ∷ us))
       → drop (getD after i 0) ls ≡ mark rbrace ∷ us
@@ -97,11 +97,10 @@ module _ (ls : List Lexeme) (kinds before after : List ℕ) (are : Kinds ls kind
       let low = stands-below i ls [] (spellBlock b ++ (mark rbrace ∷ us)) (mark lbrace) stands in
       let l = long in
       let in-kinds : i < length kinds = omega arith in
-      let closes : drop (i + 1 + closeFrom 0 1 0 (drop (i + 1) kinds)) ls ≡ mark rbrace ∷ us =
-      rw (sym are) (close-stands 0 1 (i + 1) ls (spellBlock b) us (mark rbrace) (braces-balanced b)
-      (λ e. omega arith) refl inside) in
-      let end = stands-below (i + 1 + closeFrom 0 1 0 (drop (i + 1) kinds)) ls [] us (mark rbrace) closes in
-      let whole : linkOf kinds i ≡ i + 1 + closeFrom 0 1 0 (drop (i + 1) kinds) = omega arith in
+      let closes : drop (i + 1 + braceEnd (drop (i + 1) kinds)) ls ≡ mark rbrace ∷ us =
+      rw (sym are) (close-stands openBrace shutBrace (i + 1) ls (spellBlock b) us (mark rbrace) (braces-balanced b) (λ e. omega arith) refl inside) in
+      let end = stands-below (i + 1 + braceEnd (drop (i + 1) kinds)) ls [] us (mark rbrace) closes in
+      let whole : linkOf kinds i ≡ i + 1 + braceEnd (drop (i + 1) kinds) = omega arith in
       rw (links .done i in-kinds (kind-at i in-kinds ∙ ap kindOf first), whole) closes
 
   pub links-linked : Linked ls before after

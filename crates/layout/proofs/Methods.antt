@@ -5,9 +5,11 @@ use native.Mathlib.Omega.{arith}
 use mathlib.Core.Path.{_≡_, refl, sym, ap, _∙_}
 use mathlib.Core.List.{List, [], _∷_, _++_, map, append-assoc, append-nil}
 use lib.ListN.{length, drop, getD, length-append}
-use Rattle.syntax.specs.Token.{Token, lexemes, Lexeme, mark, rbrace, markNumber, keywordNumber}
-use Rattle.syntax.specs.Held.Kind.{kindOf, Words}
+use Rattle.syntax.specs.Token.{Token, lexemes, Lexeme, key, mark, rbrace, k-method, k-waituntil, markNumber}
+use Rattle.syntax.specs.Token.{keywordNumber}
+use Rattle.syntax.specs.Held.Kind.{kindOf, noKind, Words}
 use Rattle.syntax.specs.Tree.{Region, Method, all, each, spellRegion, spellMethod}
+use Rattle.syntax.proofs.ByKind.{kind-below}
 use Rattle.logic.specs.Tests.{bit}
 use Rattle.layout.specs.Places.{toRegions, past}
 use Rattle.layout.specs.Promises.{Flagged, more, flagRegions, flagged, flagAt, Holds, Reached, AddsRegion}
@@ -16,11 +18,11 @@ use Rattle.layout.specs.declared.Layout.{Layout}
 use Rattle.layout.specs.declared.Spot.{Spot}
 use Rattle.layout.proofs.Spelled.{later, kind-behind}
 
--- a kind that is not the one past the end is in the list
-pub kind-within : (ks : List ℕ) (i k : ℕ) → getD ks i 255 ≡ k → k < 255 → i < length ks
-kind-within [] i k h low = absurd (omega arith)
-kind-within (x ∷ ks) zero k h low = omega arith
-kind-within (x ∷ ks) (suc i) k h low = let r = kind-within ks i k h low in omega arith
+-- a lexeme's kind stands in the list, and not past its end
+pub kind-within : (ks : List ℕ) (i : ℕ) (l : Lexeme) → getD ks i noKind ≡ kindOf l → i < length ks
+kind-within [] i l h = absurd (omega (arith, kind-below l))
+kind-within (x ∷ ks) zero l h = omega arith
+kind-within (x ∷ ks) (suc i) l h = let r = kind-within ks i l h in omega arith
 
 -- what is ahead in a method
 abbrev pub regionsAhead : List Region → List Lexeme → List Lexeme
@@ -44,12 +46,11 @@ region-first : (q : Region) (qs : List Region) (us : List Lexeme)
 unfolding each
 region-first q qs us = append-assoc (spellRegion q) (each spellRegion qs) (mark rbrace ∷ us)
 
-kind-of-region : (q : Region) (qs : List Region) (us : List Lexeme)
-    → getD (map kindOf (regionsAhead (q ∷ qs) us)) 0 255 ≡ 24
+kind-of-region : (q : Region) (qs : List Region) (us : List Lexeme) → getD (map kindOf (regionsAhead (q ∷ qs) us)) 0 noKind ≡ kindOf (key k-waituntil)
 unfolding each spellRegion kindOf keywordNumber
 kind-of-region q qs us = refl
 
-kind-of-end : (us : List Lexeme) → getD (map kindOf (regionsAhead [] us)) 0 255 ≡ 1
+kind-of-end : (us : List Lexeme) → getD (map kindOf (regionsAhead [] us)) 0 noKind ≡ kindOf (mark rbrace)
 unfolding each kindOf markNumber
 kind-of-end us = refl
 
@@ -62,18 +63,16 @@ module _ {file : List ℕ} {ts : List Token} {kinds values places : List ℕ}
     (words : Words file ts kinds values places) where
   module _ (before : List Flagged) (all-qs : List Region) (us : List Lexeme) where
     -- at `waituntil` there is a region ahead
-    no-region : {C : Type 0} (i : ℕ) → drop i (lexemes ts) ≡ regionsAhead [] us → getD kinds i 255 ≡ 24 → C
+    no-region : {C : Type 0} (i : ℕ) → drop i (lexemes ts) ≡ regionsAhead [] us → getD kinds i noKind ≡ kindOf (key k-waituntil) → C
+    unfolding kindOf markNumber keywordNumber
     no-region i stands kind =
         let e = kind-behind words i _ stands in
         let f = kind-of-end us in
         absurd (omega arith)
 
-    turn : (l : Layout) (i b : ℕ) (s : Spot) (done : List Flagged) (qs : List Region) → Holds (lexemes ts) done l
-        → length done + length qs ≤ 16
-        → drop i (lexemes ts) ≡ regionsAhead qs us → done ++ flagRegions b qs ≡ before ++ flagRegions 1 all-qs
-        → length ts ≤ 1024
-        → getD kinds i 255 ≡ 24 → AddsRegion file kinds values places l i b s
-        → Ahead (lexemes ts) before all-qs us (s .layout) (s .at) 0
+    turn : (l : Layout) (i b : ℕ) (s : Spot) (done : List Flagged) (qs : List Region) → Holds (lexemes ts) done l → length done + length qs ≤ 16
+        → drop i (lexemes ts) ≡ regionsAhead qs us → done ++ flagRegions b qs ≡ before ++ flagRegions 1 all-qs → length ts ≤ 1024
+        → getD kinds i noKind ≡ kindOf (key k-waituntil) → AddsRegion file kinds values places l i b s → Ahead (lexemes ts) before all-qs us (s .layout) (s .at) 0
     unfolding flagRegions
     turn l i b s done [] h f stands whole small kind adds = no-region i stands kind
     turn l i b s done (q ∷ qs) h f stands whole small kind adds =
@@ -92,31 +91,27 @@ module _ {file : List ℕ} {ts : List Token} {kinds values places : List ℕ}
         }
 
     pub ahead-turn : (l : Layout) (i b : ℕ) (s : Spot) → Ahead (lexemes ts) before all-qs us l i b → length ts ≤ 1024
-        → getD kinds i 255 ≡ 24 → AddsRegion file kinds values places l i b s
-        → Ahead (lexemes ts) before all-qs us (s .layout) (s .at) 0
+        → getD kinds i noKind ≡ kindOf (key k-waituntil) → AddsRegion file kinds values places l i b s → Ahead (lexemes ts) before all-qs us (s .layout) (s .at) 0
     ahead-turn l i b s a = turn l i b s (a .done) (a .qs) (a .holds) (a .few) (a .stands) (a .whole)
 
-    full : {C : Type 0} (l : Layout) (i : ℕ) (done : List Flagged) (qs : List Region) → Holds (lexemes ts) done l
-        → length done + length qs ≤ 16
-        → drop i (lexemes ts) ≡ regionsAhead qs us → getD kinds i 255 ≡ 24 → 16 ≤ l .regions → C
+    full : {C : Type 0} (l : Layout) (i : ℕ) (done : List Flagged) (qs : List Region) → Holds (lexemes ts) done l → length done + length qs ≤ 16
+        → drop i (lexemes ts) ≡ regionsAhead qs us → getD kinds i noKind ≡ kindOf (key k-waituntil) → 16 ≤ l .regions → C
     full l i done [] h f stands kind many = no-region i stands kind
     full l i done (q ∷ qs) h f stands kind many = absurd (omega (arith, h .count))
 
     -- a layout that is full has no region ahead
-    pub ahead-full : {C : Type 0} (l : Layout) (i b : ℕ) → Ahead (lexemes ts) before all-qs us l i b
-        → getD kinds i 255 ≡ 24 → 16 ≤ l .regions → C
+    pub ahead-full : {C : Type 0} (l : Layout) (i b : ℕ) → Ahead (lexemes ts) before all-qs us l i b → getD kinds i noKind ≡ kindOf (key k-waituntil) → 16 ≤ l .regions → C
     ahead-full l i b a = full l i (a .done) (a .qs) (a .holds) (a .few) (a .stands)
 
     over : (l : Layout) (i b : ℕ) (done : List Flagged) (qs : List Region) → Holds (lexemes ts) done l
         → drop i (lexemes ts) ≡ regionsAhead qs us → done ++ flagRegions b qs ≡ before ++ flagRegions 1 all-qs
-        → (getD kinds i 255 ≡ 24 → ⊥)
-        → Reached (lexemes ts) (before ++ flagRegions 1 all-qs) (mark rbrace ∷ us) record { layout = l; at = i }
+        → (getD kinds i noKind ≡ kindOf (key k-waituntil) → ⊥) → Reached (lexemes ts) (before ++ flagRegions 1 all-qs) (mark rbrace ∷ us) record { layout = l; at = i }
     unfolding flagRegions each
     over l i b done [] h stands whole n = rw (sym whole, append-nil done) (record { holds = h; behind = stands })
     over l i b done (q ∷ qs) h stands whole n =
         absurd (n (kind-behind words i _ stands ∙ kind-of-region q qs us))
 
-    pub ahead-over : (l : Layout) (i b : ℕ) → Ahead (lexemes ts) before all-qs us l i b → (getD kinds i 255 ≡ 24 → ⊥)
+    pub ahead-over : (l : Layout) (i b : ℕ) → Ahead (lexemes ts) before all-qs us l i b → (getD kinds i noKind ≡ kindOf (key k-waituntil) → ⊥)
         → Reached (lexemes ts) (before ++ flagRegions 1 all-qs) (mark rbrace ∷ us) record { layout = l; at = i }
     ahead-over l i b a = over l i b (a .done) (a .qs) (a .holds) (a .stands) (a .whole)
 
@@ -143,11 +138,11 @@ method-first x ms ls i h =
     later toRegions i ls _ h ∙ append-assoc (qs ++ (mark rbrace ∷ [])) (each spellMethod ms) (mark rbrace ∷ [])
     ∙ append-assoc qs (mark rbrace ∷ []) (methodsAhead ms)
 
-kind-of-method : (x : Method) (ms : List Method) → getD (map kindOf (methodsAhead (x ∷ ms))) 0 255 ≡ 23
+kind-of-method : (x : Method) (ms : List Method) → getD (map kindOf (methodsAhead (x ∷ ms))) 0 noKind ≡ kindOf (key k-method)
 unfolding each spellMethod kindOf keywordNumber
 kind-of-method x ms = refl
 
-kind-of-last : getD (map kindOf (methodsAhead [])) 0 255 ≡ 1
+kind-of-last : getD (map kindOf (methodsAhead [])) 0 noKind ≡ kindOf (mark rbrace)
 unfolding each kindOf markNumber
 kind-of-last = refl
 
@@ -160,10 +155,10 @@ module _ {file : List ℕ} {ts : List Token} {kinds values places : List ℕ} (w
     (small : length ts ≤ 1024)
     (all-ms : List Method) (few : length (flagged all-ms) ≤ 16) where
   turn-all : (l : Layout) (i : ℕ) (s : Spot) (done : List Flagged) (ms : List Method) → Holds (lexemes ts) done l
-      → drop i (lexemes ts) ≡ methodsAhead ms → done ++ flagged ms ≡ flagged all-ms → getD kinds i 255 ≡ 23
+      → drop i (lexemes ts) ≡ methodsAhead ms → done ++ flagged ms ≡ flagged all-ms → getD kinds i noKind ≡ kindOf (key k-method)
       → AddsMethod file kinds values places l (i + toRegions) s
       → AheadAll (lexemes ts) all-ms (s .layout) (s .at + past)
-  unfolding flagged
+  unfolding flagged kindOf markNumber keywordNumber
   turn-all l i s done [] h stands whole kind adds =
       let e = kind-behind words i _ stands in
       let f = kind-of-last in
@@ -183,19 +178,18 @@ module _ {file : List ℕ} {ts : List Token} {kinds values places : List ℕ} (w
         whole = append-assoc done (flagRegions 1 qs) (flagged ms) ∙ whole;
       }
 
-  pub all-turn : (l : Layout) (i : ℕ) (s : Spot) → AheadAll (lexemes ts) all-ms l i → getD kinds i 255 ≡ 23
+  pub all-turn : (l : Layout) (i : ℕ) (s : Spot) → AheadAll (lexemes ts) all-ms l i → getD kinds i noKind ≡ kindOf (key k-method)
       → AddsMethod file kinds values places l (i + toRegions) s
       → AheadAll (lexemes ts) all-ms (s .layout) (s .at + past)
   all-turn l i s a = turn-all l i s (a .done) (a .ms) (a .holds) (a .stands) (a .whole)
 
   over-all : (l : Layout) (i : ℕ) (done : List Flagged) (ms : List Method) → Holds (lexemes ts) done l
-      → drop i (lexemes ts) ≡ methodsAhead ms → done ++ flagged ms ≡ flagged all-ms → (getD kinds i 255 ≡ 23 → ⊥)
+      → drop i (lexemes ts) ≡ methodsAhead ms → done ++ flagged ms ≡ flagged all-ms → (getD kinds i noKind ≡ kindOf (key k-method) → ⊥)
       → Holds (lexemes ts) (flagged all-ms) l
   unfolding flagged
   over-all l i done [] h stands whole n = rw (sym whole, append-nil done) h
   over-all l i done (x ∷ ms) h stands whole n =
       absurd (n (kind-behind words i _ stands ∙ kind-of-method x ms))
 
-  pub all-over : (l : Layout) (i : ℕ) → AheadAll (lexemes ts) all-ms l i → (getD kinds i 255 ≡ 23 → ⊥)
-      → Holds (lexemes ts) (flagged all-ms) l
+  pub all-over : (l : Layout) (i : ℕ) → AheadAll (lexemes ts) all-ms l i → (getD kinds i noKind ≡ kindOf (key k-method) → ⊥) → Holds (lexemes ts) (flagged all-ms) l
   all-over l i a = over-all l i (a .done) (a .ms) (a .holds) (a .stands) (a .whole)

@@ -7,20 +7,17 @@ use mathlib.Core.Bool.{Bool, true, false, _&&_}
 use mathlib.Core.List.{List, [], _∷_, map, List·Memᴰ, List·Memᴰ·head, List·Memᴰ·tail}
 use lib.ListN.{length, drop, take, getD, length-drop, length-map}
 use lib.Seq.{drop-cons, length-take-le}
-use lib.Dec.{eqb, lit<}
+use lib.Dec.{eqb}
 use borrow.Author.Tests.{eq-eqb, ne-eqb}
 use Rattle.syntax.specs.Bytes.{sameBytes}
-use Rattle.syntax.specs.Token.{Token, lexemes, Lexeme, name, key, number, mark, Mark, lbrace, rbrace, lparen, rparen}
-use Rattle.syntax.specs.Token.{semicolon, equals, dots, becomes, same, differs, below, at-most, above, at-least, plus}
-use Rattle.syntax.specs.Token.{minus, bang, and-and, or-or, Keyword, k-monitor, k-var, k-in, k-keep, k-method}
-use Rattle.syntax.specs.Token.{k-waituntil, k-if, k-else, k-true, k-false, markNumber, keywordNumber, isMark, isKey}
-use Rattle.syntax.specs.Held.Kind.{kindOf, valueOf, Words}
+use Rattle.syntax.specs.Token.{Token, lexemes, Lexeme, name, mark, rbrace}
+use Rattle.syntax.specs.Held.Kind.{kindOf, valueOf, nameKind, Words}
 use Rattle.syntax.specs.Spelling.{Spells}
 use Rattle.syntax.proofs.Scanning.{token-stands}
 use Rattle.meaning.specs.Model.{sameLexeme, sameLexemes}
 use Rattle.logic.proofs.Bools.{is-false}
 use Rattle.logic.proofs.Bools.{different}
-use Rattle.syntax.proofs.Lexemes.{decides-key, decides-mark}
+use Rattle.syntax.proofs.ByKind.{is-name, same-lexeme}
 use Rattle.meaning.proofs.SameGuards.{decides-lexeme}
 use Rattle.layout.specs.Promises.{noToken, lexemeAt}
 
@@ -106,73 +103,6 @@ module _ (ls : List Lexeme) (a b n : ℕ) where
 
 -- Lexemes by kind and value
 
-mark-below : (m : Mark) → markNumber m < 19
-unfolding markNumber
-mark-below lbrace = lit< tt
-mark-below rbrace = lit< tt
-mark-below lparen = lit< tt
-mark-below rparen = lit< tt
-mark-below semicolon = lit< tt
-mark-below equals = lit< tt
-mark-below dots = lit< tt
-mark-below becomes = lit< tt
-mark-below same = lit< tt
-mark-below differs = lit< tt
-mark-below below = lit< tt
-mark-below at-most = lit< tt
-mark-below above = lit< tt
-mark-below at-least = lit< tt
-mark-below plus = lit< tt
-mark-below minus = lit< tt
-mark-below bang = lit< tt
-mark-below and-and = lit< tt
-mark-below or-or = lit< tt
-
-key-below : (k : Keyword) → keywordNumber k < 10
-unfolding keywordNumber
-key-below k-monitor = lit< tt
-key-below k-var = lit< tt
-key-below k-in = lit< tt
-key-below k-keep = lit< tt
-key-below k-method = lit< tt
-key-below k-waituntil = lit< tt
-key-below k-if = lit< tt
-key-below k-else = lit< tt
-key-below k-true = lit< tt
-key-below k-false = lit< tt
-
--- kinds and values tell lexemes apart, but for names
-same-lexeme : (k l : Lexeme) → kindOf k ≡ kindOf l → valueOf k ≡ valueOf l → (kindOf k ≡ 30 → ⊥) → k ≡ l
-unfolding kindOf valueOf isKey isMark
-same-lexeme (name x) l e v n = absurd (n refl)
-same-lexeme (key k) (name x) e v n = absurd (n e)
-same-lexeme (key k) (key j) e v n =
-    sym (decides-key k (key j) .0 (eq-eqb (keywordNumber k) (keywordNumber j) (omega arith)))
-same-lexeme (key k) (number i) e v n = absurd (omega (arith, key-below k))
-same-lexeme (key k) (mark m) e v n = absurd (omega (arith, mark-below m))
-same-lexeme (number i) (name x) e v n = absurd (n e)
-same-lexeme (number i) (key k) e v n = absurd (omega (arith, key-below k))
-same-lexeme (number i) (number j) e v n = ap number v
-same-lexeme (number i) (mark m) e v n = absurd (omega (arith, mark-below m))
-same-lexeme (mark m) (name x) e v n = absurd (n e)
-same-lexeme (mark m) (key k) e v n = absurd (omega (arith, mark-below m))
-same-lexeme (mark m) (number j) e v n = absurd (omega (arith, mark-below m))
-same-lexeme (mark m) (mark o) e v n = sym (decides-mark m (mark o) .0 (eq-eqb (markNumber m) (markNumber o) e))
-
-pub is-name : (l : Lexeme) → kindOf l ≡ 30 → (x : List ℕ) × (l ≡ name x)
-unfolding kindOf
-is-name (name x) e = (x, refl)
-is-name (key k) e = absurd (omega (arith, key-below k))
-is-name (number n) e = absurd (omega arith)
-is-name (mark m) e = absurd (omega (arith, mark-below m))
-
-pub is-lbrace : (l : Lexeme) → kindOf l ≡ 0 → l ≡ mark lbrace
-unfolding kindOf isMark markNumber
-is-lbrace (name x) e = absurd (omega arith)
-is-lbrace (key k) e = absurd (omega arith)
-is-lbrace (number n) e = absurd (omega arith)
-is-lbrace (mark m) e = decides-mark lbrace (mark m) .0 (eq-eqb 0 (markNumber m) (sym e))
-
 module _ (k l : Lexeme) where
   pub other-kind : (kindOf k ≡ kindOf l → ⊥) → sameLexeme k l ≡ false
   other-kind n = is-false (λ h. n (ap kindOf (decides-lexeme k l .0 h)))
@@ -180,7 +110,7 @@ module _ (k l : Lexeme) where
   pub other-value : (valueOf k ≡ valueOf l → ⊥) → sameLexeme k l ≡ false
   other-value n = is-false (λ h. n (ap valueOf (decides-lexeme k l .0 h)))
 
-  pub one-lexeme : kindOf k ≡ kindOf l → valueOf k ≡ valueOf l → (kindOf k ≡ 30 → ⊥) → sameLexeme k l ≡ true
+  pub one-lexeme : kindOf k ≡ kindOf l → valueOf k ≡ valueOf l → (kindOf k ≡ nameKind → ⊥) → sameLexeme k l ≡ true
   one-lexeme e v n = decides-lexeme k l .1 (same-lexeme k l e v n)
 
 -- The tokens of a file as numbers
@@ -267,17 +197,17 @@ module _ {file : List ℕ} {ts : List Token} {kinds values places : List ℕ}
         sym (other-value (lexemeAt ts a) (lexemeAt ts b) (λ e. n (value-is a ha ∙ e ∙ sym (value-is b hb))))
 
     module _ (kind : getD kinds a 0 ≡ getD kinds b 0) (value : getD values a 0 ≡ getD values b 0) where
-      pub no-names : (getD kinds a 0 ≡ 30 → ⊥) → true ≡ sameLexeme (lexemeAt ts a) (lexemeAt ts b)
+      pub no-names : (getD kinds a 0 ≡ nameKind → ⊥) → true ≡ sameLexeme (lexemeAt ts a) (lexemeAt ts b)
       no-names n =
           sym (one-lexeme (lexemeAt ts a) (lexemeAt ts b) (sym (kind-is a ha) ∙ kind ∙ kind-is b hb)
           (sym (value-is a ha) ∙ value ∙ value-is b hb) (λ e. n (kind-is a ha ∙ e)))
 
-      module _ (thirty : getD kinds a 0 ≡ 30) where
+      module _ (named : getD kinds a 0 ≡ nameKind) where
         first-name : (x : List ℕ) × (lexemeAt ts a ≡ name x)
-        first-name = is-name (lexemeAt ts a) (sym (kind-is a ha) ∙ thirty)
+        first-name = is-name (lexemeAt ts a) (sym (kind-is a ha) ∙ named)
 
         second-name : (y : List ℕ) × (lexemeAt ts b ≡ name y)
-        second-name = is-name (lexemeAt ts b) (sym (kind-is b hb) ∙ sym kind ∙ thirty)
+        second-name = is-name (lexemeAt ts b) (sym (kind-is b hb) ∙ sym kind ∙ named)
 
         first-long : getD values a 0 ≡ length (first-name .0)
         unfolding valueOf

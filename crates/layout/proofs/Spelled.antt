@@ -8,15 +8,15 @@ use mathlib.Core.List.{List, [], _∷_, _++_, map, append-assoc}
 use lib.ListN.{length, drop, getD}
 use lib.Seq.{drop-drop, getD-drop}
 use lib.Dec.{eqb}
-use Rattle.syntax.specs.Token.{Token, lexemes, Lexeme, mark, lbrace, rbrace, rparen, markNumber}
-use Rattle.syntax.specs.Held.Kind.{kindOf, Words}
+use Rattle.syntax.specs.Token.{Token, lexemes, Lexeme, key, mark, lbrace, rbrace, rparen, k-waituntil, markNumber}
+use Rattle.syntax.specs.Held.Kind.{kindOf, noKind, Words}
 use Rattle.syntax.specs.Tree.{Region, spellCond, spellBlock, spellRegion}
 use Rattle.logic.specs.Tests.{bit}
 use Rattle.layout.specs.Places.{toGuard, toBody, past}
-use Rattle.layout.specs.Closing.{closeFrom}
 use Rattle.layout.specs.Laid.{RegionAt}
 use Rattle.layout.specs.Promises.{flagAt}
 use Rattle.layout.proofs.Closes.{kinds-from, close-stands, stands-below}
+use Rattle.layout.proofs.Closes.{openBracket, shutBracket, openBrace, shutBrace, bracketEnd, braceEnd}
 use Rattle.layout.proofs.Same.{kinds-are}
 use Rattle.layout.proofs.Trees.{brackets-balanced, braces-balanced}
 
@@ -26,10 +26,10 @@ later n at ls us h = sym (drop-drop n at ls) ∙ ap (drop n) h
 
 -- where the body of a region at a token begins, and where what is behind the region does
 abbrev pub bodyOf : List ℕ → ℕ → ℕ
-bodyOf kinds at = at + toGuard + closeFrom 2 3 0 (drop (at + toGuard) kinds) + toBody
+bodyOf kinds at = at + toGuard + bracketEnd (drop (at + toGuard) kinds) + toBody
 
 abbrev pub nextOf : List ℕ → ℕ → ℕ
-nextOf kinds at = bodyOf kinds at + closeFrom 0 1 0 (drop (bodyOf kinds at) kinds) + past
+nextOf kinds at = bodyOf kinds at + braceEnd (drop (bodyOf kinds at) kinds) + past
 
 pub record Spelled (ls : List Lexeme) (kinds : List ℕ) (at : ℕ) (q : Region) (us : List Lexeme) : Type 0 where
   pub stands : RegionAt ls q (at + toGuard) (bodyOf kinds at)
@@ -49,15 +49,15 @@ spelled-kinds ls at q us h =
     (mark rparen ∷ mark lbrace ∷ (spellBlock (q .body) ++ (mark rbrace ∷ []))) us
     ∙ ap (λ (x : List Lexeme). spellCond (q .guard) ++ (mark rparen ∷ mark lbrace ∷ x))
     (append-assoc (spellBlock (q .body)) (mark rbrace ∷ []) us) in
-    let bracket = close-stands 2 3 (at + toGuard) ls (spellCond (q .guard)) behind-guard (mark rparen)
+    let bracket = close-stands openBracket shutBracket (at + toGuard) ls (spellCond (q .guard)) behind-guard (mark rparen)
     (brackets-balanced (q .guard)) (λ e. omega arith) refl guard in
     let body : drop (bodyOf kinds at) ls ≡ spellBlock (q .body) ++ behind-body =
-    later toBody (at + toGuard + closeFrom 2 3 0 (drop (at + toGuard) kinds)) ls _ bracket in
-    let brace = close-stands 0 1 (bodyOf kinds at) ls (spellBlock (q .body)) us (mark rbrace)
+    later toBody (at + toGuard + bracketEnd (drop (at + toGuard) kinds)) ls _ bracket in
+    let brace = close-stands openBrace shutBrace (bodyOf kinds at) ls (spellBlock (q .body)) us (mark rbrace)
     (braces-balanced (q .body)) (λ e. omega arith) refl body in
     record {
       stands = record { behind-guard = behind-guard; behind-body = us; guard-stands = guard; body-stands = body };
-      behind = later past (bodyOf kinds at + closeFrom 0 1 0 (drop (bodyOf kinds at) kinds)) ls _ brace;
+      behind = later past (bodyOf kinds at + braceEnd (drop (bodyOf kinds at) kinds)) ls _ brace;
       guard-low =
           let e = stands-below (at + toGuard) ls (spellCond (q .guard)) behind-guard (mark rparen) guard in omega arith;
       body-low = let e = stands-below (bodyOf kinds at) ls (spellBlock (q .body)) us (mark rbrace) body in omega arith;
@@ -70,14 +70,13 @@ module _ {file : List ℕ} {ts : List Token} {kinds values places : List ℕ}
   spelled at q us h = rw (kinds-are words) (spelled-kinds (lexemes ts) at q us h)
 
   -- the kind at a token is that of what stands there
-  pub kind-behind : (at : ℕ) (us : List Lexeme) → drop at (lexemes ts) ≡ us
-      → getD kinds at 255 ≡ getD (map kindOf us) 0 255
+  pub kind-behind : (at : ℕ) (us : List Lexeme) → drop at (lexemes ts) ≡ us → getD kinds at noKind ≡ getD (map kindOf us) 0 noKind
   kind-behind at us h =
       rw (kinds-are words)
-      (ap (λ (k : ℕ). getD (map kindOf (lexemes ts)) k 255) (sym (add-zero at))
-      ∙ sym (getD-drop at (map kindOf (lexemes ts)) 0 255)
-      ∙ ap (λ (ks : List ℕ). getD ks 0 255) (kinds-from at (lexemes ts) ∙ ap (map kindOf) h))
+      (ap (λ (k : ℕ). getD (map kindOf (lexemes ts)) k noKind) (sym (add-zero at))
+      ∙ sym (getD-drop at (map kindOf (lexemes ts)) 0 noKind)
+      ∙ ap (λ (ks : List ℕ). getD ks 0 noKind) (kinds-from at (lexemes ts) ∙ ap (map kindOf) h))
 
   pub flag-behind : (at : ℕ) (us : List Lexeme) → drop at (lexemes ts) ≡ us → flagAt kinds at ≡ flagAt (map kindOf us) 0
   unfolding flagAt
-  flag-behind at us h = ap (λ (k : ℕ). bit (eqb k 24)) (kind-behind at us h)
+  flag-behind at us h = ap (λ (k : ℕ). bit (eqb k (kindOf (key k-waituntil)))) (kind-behind at us h)

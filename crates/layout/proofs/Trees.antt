@@ -1,37 +1,50 @@
 -- What is closed under joining, brackets and braces holds of all that trees spell: by recursion over the trees. So braces,
 -- brackets and semicolons are balanced where the code looks for a closing one, and `keep` stands once in a file.
-use Prim.Native.Nat.{ℕ, _≤_}
+use Prim.Native.Nat.{ℕ}
 use native.Mathlib.Omega.{arith}
 use mathlib.Core.Path.{_≡_, refl, sym, ap, _∙_}
 use mathlib.Core.Bool.{Bool, true, false, not, _&&_, true≢false}
 use mathlib.Core.List.{List, [], _∷_, _++_, append-assoc, head-eq-of-cons-eq, tail-eq-of-cons-eq}
-use lib.Dec.{leb, eqb}
-use borrow.Author.Tests.{leb-true}
+use lib.Dec.{eqb}
 use lib.ListN.{length, drop, take, take-append-drop}
 use lib.Seq.{drop-append-seam}
-use Rattle.syntax.specs.Token.{Lexeme, name, key, number, mark, lbrace, rbrace, lparen, rparen, semicolon, equals, dots, becomes, minus, bang, and-and, or-or, k-monitor, k-var, k-in, k-keep, k-method, k-waituntil, k-if, k-else, k-true, k-false, markNumber, keywordNumber}
-use Rattle.syntax.specs.Held.Kind.{kindOf}
-use Rattle.syntax.specs.Tree.{Int, plain, negated, Atom, literal, variable, Sign, added, taken, Term, Expr, Comparison, eq, ne, lt, le, gt, ge, Cond, only, or, Conj, just, and, Simple, negation, bracketed, constant, compare, Block, end, then, Stmt, assign, if-then, if-else, Region, Method, Var, Monitor, all, each, spell, spellInt, spellAtom, signMark, spellTerm, spellExpr, comparisonMark, spellConstant, spellCond, spellConj, spellSimple, spellBlock, spellStmt, spellRegion, spellMethod, spellVar}
-use Rattle.logic.proofs.Bools.{both, not-true}
+use Rattle.syntax.specs.Token.{Lexeme, name, key, number, mark, lbrace, rbrace, lparen, rparen, semicolon, equals, dots}
+use Rattle.syntax.specs.Token.{becomes, minus, bang, and-and, or-or, k-monitor, k-var, k-in, k-keep, k-method}
+use Rattle.syntax.specs.Token.{k-waituntil, k-if, k-else, k-true, k-false, markNumber, keywordNumber}
+use Rattle.syntax.specs.Held.Kind.{kindOf, noKind}
+use Rattle.syntax.proofs.ByKind.{kind-below}
+use Rattle.syntax.specs.Tree.{Int, plain, negated, Atom, literal, variable, Sign, added, taken, Term, Expr, Comparison}
+use Rattle.syntax.specs.Tree.{eq, ne, lt, le, gt, ge, Cond, only, or, Conj, just, and, Simple, negation, bracketed}
+use Rattle.syntax.specs.Tree.{constant, compare, Block, end, then, Stmt, assign, if-then, if-else, Region, Method, Var}
+use Rattle.syntax.specs.Tree.{Monitor, all, each, spell, spellInt, spellAtom, signMark, spellTerm, spellExpr}
+use Rattle.syntax.specs.Tree.{comparisonMark, spellConstant, spellCond, spellConj, spellSimple, spellBlock, spellStmt}
+use Rattle.syntax.specs.Tree.{spellRegion, spellMethod, spellVar}
 use Rattle.layout.proofs.Closes.{Balanced, balanced-nil, balanced-join, balanced-one, balanced-wrap}
+use Rattle.layout.proofs.Closes.{openBracket, shutBracket, openBrace, shutBrace, semicolonKind}
 
--- a token's kind but `keep`, from a lowest on: 8 for a condition's tokens but brackets, 4 for a file's but brackets and braces
-abbrev inside : ℕ → ℕ → Bool
-inside low k = leb low k && (leb k 30 && not (eqb k 22))
+abbrev other : Lexeme → ℕ → Bool
+other l k = not (eqb k (kindOf l))
 
-inside-says : (low k : ℕ) → inside low k ≡ true → (low ≤ k) × (k ≤ 30) × (eqb k 22 ≡ false)
-inside-says low k h =
-    let p = both (leb low k) (leb k 30 && not (eqb k 22)) h in
-    let q = both (leb k 30) (not (eqb k 22)) (p .1) in
-    (leb-true low k (p .0), leb-true k 30 (q .0), not-true (q .1))
+-- a kind of a file's tokens but brackets, braces and `keep`
+abbrev quiet : ℕ → Bool
+quiet k =
+    other (mark lbrace) k && other (mark rbrace) k && other (mark lparen) k && other (mark rparen) k && other (key k-keep) k
 
-sign-kind : (s : Sign) → inside 8 (kindOf (mark (signMark s))) ≡ true
-unfolding signMark kindOf markNumber
+-- nor a semicolon: a kind of a condition's tokens but brackets
+abbrev calm : ℕ → Bool
+calm k = other (mark semicolon) k && quiet k
+
+-- a kind that passes a test is none that fails it
+apart-by : (test : ℕ → Bool) {k o : ℕ} → test k ≡ true → test o ≡ false → k ≡ o → ⊥
+apart-by test h f e = true≢false (sym h ∙ ap test e ∙ f)
+
+sign-kind : (s : Sign) → calm (kindOf (mark (signMark s))) ≡ true
+unfolding signMark kindOf markNumber keywordNumber
 sign-kind added = refl
 sign-kind taken = refl
 
-comparison-kind : (o : Comparison) → inside 8 (kindOf (mark (comparisonMark o))) ≡ true
-unfolding comparisonMark kindOf markNumber
+comparison-kind : (o : Comparison) → calm (kindOf (mark (comparisonMark o))) ≡ true
+unfolding comparisonMark kindOf markNumber keywordNumber
 comparison-kind eq = refl
 comparison-kind ne = refl
 comparison-kind lt = refl
@@ -40,53 +53,53 @@ comparison-kind gt = refl
 comparison-kind ge = refl
 
 module _ (P : List Lexeme → Type 0) (nil : P []) (joins : (v w : List Lexeme) → P v → P w → P (v ++ w))
-    (calm : (l : Lexeme) → inside 8 (kindOf l) ≡ true → P (l ∷ []))
+    (calmly : (l : Lexeme) → calm (kindOf l) ≡ true → P (l ∷ []))
     (wraps : (w : List Lexeme) → P w → P (mark lparen ∷ (w ++ (mark rparen ∷ [])))) where
   join : {v w : List Lexeme} → P v → P w → P (v ++ w)
   join {v} {w} p q = joins v w p q
 
   of-int : (i : Int) → P (spellInt i)
-  unfolding spellInt kindOf markNumber
-  of-int (plain n) = calm (number n) refl
-  of-int (negated n) = join (calm (mark minus) refl) (calm (number n) refl)
+  unfolding spellInt kindOf markNumber keywordNumber
+  of-int (plain n) = calmly (number n) refl
+  of-int (negated n) = join (calmly (mark minus) refl) (calmly (number n) refl)
 
   of-atom : (a : Atom) → P (spellAtom a)
-  unfolding spellAtom kindOf
+  unfolding spellAtom kindOf markNumber keywordNumber
   of-atom (literal i) = of-int i
-  of-atom (variable x) = calm (name x) refl
+  of-atom (variable x) = calmly (name x) refl
 
   of-terms : (ts : List Term) → P (each spellTerm ts)
   unfolding each spellTerm
   of-terms [] = nil
-  of-terms (t ∷ ts) = join (join (calm (mark (signMark (t .sign))) (sign-kind (t .sign))) (of-atom (t .atom))) (of-terms ts)
+  of-terms (t ∷ ts) = join (join (calmly (mark (signMark (t .sign))) (sign-kind (t .sign))) (of-atom (t .atom))) (of-terms ts)
 
   of-expr : (e : Expr) → P (spellExpr e)
   unfolding spellExpr
   of-expr e = join (of-atom (e .first)) (of-terms (e .more))
 
   of-constant : (b : Bool) → P (spellConstant b)
-  unfolding spellConstant kindOf keywordNumber
-  of-constant true = calm (key k-true) refl
-  of-constant false = calm (key k-false) refl
+  unfolding spellConstant kindOf markNumber keywordNumber
+  of-constant true = calmly (key k-true) refl
+  of-constant false = calmly (key k-false) refl
 
   mutual
-    unfolding spellCond kindOf markNumber
+    unfolding spellCond kindOf markNumber keywordNumber
 
     pub of-cond : (c : Cond) → P (spellCond c)
     of-cond (only c) = of-conj c
-    of-cond (or c d) = join (of-conj c) (join (calm (mark or-or) refl) (of-cond d))
+    of-cond (or c d) = join (of-conj c) (join (calmly (mark or-or) refl) (of-cond d))
 
     of-conj : (c : Conj) → P (spellConj c)
     of-conj (just s) = of-simple s
-    of-conj (and s c) = join (of-simple s) (join (calm (mark and-and) refl) (of-conj c))
+    of-conj (and s c) = join (of-simple s) (join (calmly (mark and-and) refl) (of-conj c))
 
     of-simple : (s : Simple) → P (spellSimple s)
-    of-simple (negation s) = join (calm (mark bang) refl) (of-simple s)
+    of-simple (negation s) = join (calmly (mark bang) refl) (of-simple s)
     of-simple (bracketed c) = wraps _ (of-cond c)
     of-simple (constant b) = of-constant b
-    of-simple (compare e o f) = join (of-expr e) (join (calm (mark (comparisonMark o)) (comparison-kind o)) (of-expr f))
+    of-simple (compare e o f) = join (of-expr e) (join (calmly (mark (comparisonMark o)) (comparison-kind o)) (of-expr f))
 
-  module _ (plainly : (l : Lexeme) → inside 4 (kindOf l) ≡ true → P (l ∷ []))
+  module _ (plainly : (l : Lexeme) → quiet (kindOf l) ≡ true → P (l ∷ []))
       (blocks : (w : List Lexeme) → P w → P (mark lbrace ∷ (w ++ (mark rbrace ∷ [])))) where
     bracketed-then : {w v : List Lexeme} → P w → P v → P (mark lparen ∷ (w ++ (mark rparen ∷ v)))
     bracketed-then p q = rw append-assoc at (join (wraps _ p) q)
@@ -110,13 +123,13 @@ module _ (P : List Lexeme → Type 0) (nil : P []) (joins : (v w : List Lexeme) 
           (join (plainly (key k-else) refl) (blocks _ (of-block b)))))
 
     of-regions : (qs : List Region) → P (each spellRegion qs)
-    unfolding each spellRegion kindOf keywordNumber
+    unfolding each spellRegion kindOf markNumber keywordNumber
     of-regions [] = nil
     of-regions (q ∷ qs) =
         join (join (plainly (key k-waituntil) refl) (bracketed-then (of-cond (q .guard)) (blocks _ (of-block (q .body))))) (of-regions qs)
 
     pub of-methods : (ms : List Method) → P (each spellMethod ms)
-    unfolding each spellMethod kindOf keywordNumber
+    unfolding each spellMethod kindOf markNumber keywordNumber
     of-methods [] = nil
     of-methods (x ∷ ms) =
         join (join (plainly (key k-method) refl) (join (plainly (name (x .title)) refl) (blocks _ (of-regions (all (x .regions))))))
@@ -133,76 +146,72 @@ module _ (P : List Lexeme → Type 0) (nil : P []) (joins : (v w : List Lexeme) 
 -- Braces over blocks, brackets and semicolons over conditions
 
 module _ (o c : ℕ) where
-  calm-apart : (low : ℕ) → ((k : ℕ) → low ≤ k → k ≤ 30 → (k ≡ o → ⊥) × (k ≡ c → ⊥)) → (l : Lexeme) → inside low (kindOf l) ≡ true
-      → Balanced o c (l ∷ [])
-  calm-apart low apart l h =
-      let p = inside-says low (kindOf l) h in
-      let q = apart (kindOf l) (p .0) (p .1) in
-      balanced-one o c l (q .0) (q .1)
+  balanced-by : (test : ℕ → Bool) → test o ≡ false → test c ≡ false → (l : Lexeme) → test (kindOf l) ≡ true → Balanced o c (l ∷ [])
+  balanced-by test p q l h = balanced-one o c l (apart-by test h p) (apart-by test h q)
 
   around : (l r : Lexeme) → Balanced o c (l ∷ []) → Balanced o c (r ∷ []) → (w : List Lexeme) → Balanced o c w
       → Balanced o c (l ∷ (w ++ (r ∷ [])))
   around l r p q w h = balanced-join o c p (balanced-join o c h q)
 
-pub brackets-balanced : (c : Cond) → Balanced 2 3 (spellCond c)
-unfolding kindOf markNumber
+pub brackets-balanced : (c : Cond) → Balanced openBracket shutBracket (spellCond c)
+unfolding kindOf markNumber keywordNumber
 brackets-balanced =
-    of-cond (Balanced 2 3) (balanced-nil 2 3) (λ v w p q. balanced-join 2 3 p q)
-    (calm-apart 2 3 8 (λ k a b. (λ e. omega arith, λ e. omega arith)))
-    (λ w p. balanced-wrap 2 3 (mark lparen) (mark rparen) refl (λ e. omega arith) refl p)
+    of-cond (Balanced openBracket shutBracket) (balanced-nil openBracket shutBracket) (λ v w p q. balanced-join openBracket shutBracket p q)
+    (balanced-by openBracket shutBracket calm refl refl)
+    (λ w p. balanced-wrap openBracket shutBracket (mark lparen) (mark rparen) refl (λ e. omega arith) refl p)
 
-pub semicolons-balanced : (c : Cond) → Balanced 255 4 (spellCond c)
-unfolding kindOf markNumber
+pub semicolons-balanced : (c : Cond) → Balanced noKind semicolonKind (spellCond c)
+unfolding kindOf markNumber keywordNumber
 semicolons-balanced =
-    of-cond (Balanced 255 4) (balanced-nil 255 4) (λ v w p q. balanced-join 255 4 p q)
-    (calm-apart 255 4 8 (λ k a b. (λ e. omega arith, λ e. omega arith)))
-    (around 255 4 (mark lparen) (mark rparen) (balanced-one 255 4 (mark lparen) (λ e. omega arith) (λ e. omega arith))
-    (balanced-one 255 4 (mark rparen) (λ e. omega arith) (λ e. omega arith)))
+    of-cond (Balanced noKind semicolonKind) (balanced-nil noKind semicolonKind) (λ v w p q. balanced-join noKind semicolonKind p q) calmly
+    (around noKind semicolonKind (mark lparen) (mark rparen) (balanced-one noKind semicolonKind (mark lparen) (λ e. omega arith) (λ e. omega arith))
+    (balanced-one noKind semicolonKind (mark rparen) (λ e. omega arith) (λ e. omega arith)))
+  where
+    calmly : (l : Lexeme) → calm (kindOf l) ≡ true → Balanced noKind semicolonKind (l ∷ [])
+    calmly l h = balanced-one noKind semicolonKind l (λ e. omega (arith, kind-below l)) (apart-by calm h refl)
 
-pub braces-balanced : (b : Block) → Balanced 0 1 (spellBlock b)
-unfolding kindOf markNumber
+pub braces-balanced : (b : Block) → Balanced openBrace shutBrace (spellBlock b)
+unfolding kindOf markNumber keywordNumber
 braces-balanced =
-    of-block (Balanced 0 1) (balanced-nil 0 1) (λ v w p q. balanced-join 0 1 p q)
-    (calm-apart 0 1 8 (λ k a b. (λ e. omega arith, λ e. omega arith)))
-    (around 0 1 (mark lparen) (mark rparen) (balanced-one 0 1 (mark lparen) (λ e. omega arith) (λ e. omega arith))
-    (balanced-one 0 1 (mark rparen) (λ e. omega arith) (λ e. omega arith)))
-    (calm-apart 0 1 4 (λ k a b. (λ e. omega arith, λ e. omega arith)))
-    (λ w p. balanced-wrap 0 1 (mark lbrace) (mark rbrace) refl (λ e. omega arith) refl p)
+    of-block (Balanced openBrace shutBrace) (balanced-nil openBrace shutBrace) (λ v w p q. balanced-join openBrace shutBrace p q)
+    (balanced-by openBrace shutBrace calm refl refl)
+    (around openBrace shutBrace (mark lparen) (mark rparen) (balanced-one openBrace shutBrace (mark lparen) (λ e. omega arith) (λ e. omega arith))
+    (balanced-one openBrace shutBrace (mark rparen) (λ e. omega arith) (λ e. omega arith)))
+    (balanced-by openBrace shutBrace quiet refl refl)
+    (λ w p. balanced-wrap openBrace shutBrace (mark lbrace) (mark rbrace) refl (λ e. omega arith) refl p)
 
 -- `keep` stands once
 
 data Free : List Lexeme → Type 0 where
   none : Free []
-  next : {l : Lexeme} {w : List Lexeme} → eqb (kindOf l) 22 ≡ false → Free w → Free (l ∷ w)
+  next : {l : Lexeme} {w : List Lexeme} → (kindOf l ≡ kindOf (key k-keep) → ⊥) → Free w → Free (l ∷ w)
 
 free-join : (v w : List Lexeme) → Free v → Free w → Free (v ++ w)
 free-join [] w p q = q
 free-join (l ∷ v) w (next h p) q = next h (free-join v w p q)
 
-free-around : (l r : Lexeme) → eqb (kindOf l) 22 ≡ false → eqb (kindOf r) 22 ≡ false → (w : List Lexeme) → Free w → Free (l ∷ (w ++ (r ∷ [])))
+free-around : (l r : Lexeme) → (kindOf l ≡ kindOf (key k-keep) → ⊥) → (kindOf r ≡ kindOf (key k-keep) → ⊥) → (w : List Lexeme) → Free w → Free (l ∷ (w ++ (r ∷ [])))
 free-around l r p q w h = next p (free-join w (r ∷ []) h (next q none))
 
-free-one : (low : ℕ) (l : Lexeme) → inside low (kindOf l) ≡ true → Free (l ∷ [])
-free-one low l h = next (inside-says low (kindOf l) h .2) none
+free-one : (test : ℕ → Bool) → test (kindOf (key k-keep)) ≡ false → (l : Lexeme) → test (kindOf l) ≡ true → Free (l ∷ [])
+free-one test f l h = next (apart-by test h f) none
 
 free-brackets : (w : List Lexeme) → Free w → Free (mark lparen ∷ (w ++ (mark rparen ∷ [])))
-unfolding kindOf markNumber
-free-brackets = free-around (mark lparen) (mark rparen) refl refl
+unfolding kindOf markNumber keywordNumber
+free-brackets = free-around (mark lparen) (mark rparen) (λ e. omega arith) (λ e. omega arith)
 
 free-braces : (w : List Lexeme) → Free w → Free (mark lbrace ∷ (w ++ (mark rbrace ∷ [])))
-unfolding kindOf markNumber
-free-braces = free-around (mark lbrace) (mark rbrace) refl refl
+unfolding kindOf markNumber keywordNumber
+free-braces = free-around (mark lbrace) (mark rbrace) (λ e. omega arith) (λ e. omega arith)
 
 no-keep : (a b : List Lexeme) → Free (a ++ (key k-keep ∷ b)) → ⊥
-unfolding kindOf keywordNumber
-no-keep [] b (next h p) = true≢false h
+no-keep [] b (next h p) = h refl
 no-keep (l ∷ a) b (next h p) = no-keep a b p
 
 keep-splits : (a b v w : List Lexeme) → Free a → Free b → a ++ (key k-keep ∷ b) ≡ v ++ (key k-keep ∷ w) → w ≡ b
-unfolding kindOf keywordNumber
 keep-splits [] b [] w p q e = sym (tail-eq-of-cons-eq e)
 keep-splits [] b (l ∷ v) w p q e = absurd (no-keep v w (rw (tail-eq-of-cons-eq e) at q))
-keep-splits (l ∷ a) b [] w (next h p) q e = absurd (no-keep [] a (next (rw (head-eq-of-cons-eq e) at h) p))
+keep-splits (l ∷ a) b [] w (next h p) q e = absurd (h (ap kindOf (head-eq-of-cons-eq e)))
 keep-splits (l ∷ a) b (k ∷ v) w (next h p) q e = keep-splits a b v w p q (tail-eq-of-cons-eq e)
 
 -- what stands behind the kept condition's semicolon are the methods
@@ -211,7 +220,7 @@ pub keep-once : (m : Monitor) (ls us : List Lexeme) (k : ℕ) → spell m ≡ ls
     → us ≡ each spellMethod (all (m .methods)) ++ (mark rbrace ∷ [])
 unfolding spell kindOf markNumber keywordNumber
 keep-once m ls us k e h =
-    let front = next {l = key k-monitor} refl (next {l = name (m .title)} refl (next {l = mark lbrace} refl free-vars)) in
+    let front = next {l = key k-monitor} (λ e. omega arith) (next {l = name (m .title)} (λ e. omega arith) (next {l = mark lbrace} (λ e. omega arith) free-vars)) in
     let same = keep-splits (key k-monitor ∷ name (m .title) ∷ mark lbrace ∷ each spellVar (all (m .vars)))
     (spellCond (m .keep) ++ (mark semicolon ∷ methods)) (take k ls) (spellCond (m .keep) ++ (mark semicolon ∷ us)) front free-rest
     (e ∙ sym (take-append-drop k ls) ∙ ap (λ (x : List Lexeme). take k ls ++ x) h) in
@@ -224,10 +233,10 @@ keep-once m ls us k e h =
     methods = each spellMethod (all (m .methods)) ++ (mark rbrace ∷ [])
 
     free-vars : Free (each spellVar (all (m .vars)))
-    free-vars = of-vars Free none free-join (free-one 8) free-brackets (free-one 4) free-braces (all (m .vars))
+    free-vars = of-vars Free none free-join (free-one calm refl) free-brackets (free-one quiet refl) free-braces (all (m .vars))
 
     free-rest : Free (spellCond (m .keep) ++ (mark semicolon ∷ methods))
     free-rest =
-        free-join (spellCond (m .keep)) (mark semicolon ∷ methods) (of-cond Free none free-join (free-one 8) free-brackets (m .keep))
-        (next refl (free-join (each spellMethod (all (m .methods))) (mark rbrace ∷ [])
-        (of-methods Free none free-join (free-one 8) free-brackets (free-one 4) free-braces (all (m .methods))) (next refl none)))
+        free-join (spellCond (m .keep)) (mark semicolon ∷ methods) (of-cond Free none free-join (free-one calm refl) free-brackets (m .keep))
+        (next (λ e. omega arith) (free-join (each spellMethod (all (m .methods))) (mark rbrace ∷ [])
+        (of-methods Free none free-join (free-one calm refl) free-brackets (free-one quiet refl) free-braces (all (m .methods))) (next (λ e. omega arith) none)))

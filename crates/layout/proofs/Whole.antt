@@ -10,7 +10,7 @@ use lib.Seq.{getD-append-add}
 use lib.Dec.{eqb, ltb}
 use borrow.Author.Tests.{ltb-true, ltb-false, lt-ltb, le-ltb, ne-eqb}
 use Rattle.syntax.specs.Token.{Token, lexemes, Lexeme, key, mark, semicolon, k-keep, markNumber}
-use Rattle.syntax.specs.Held.Kind.{kindOf, valueOf, Words}
+use Rattle.syntax.specs.Held.Kind.{kindOf, noKind, valueOf, Words}
 use Rattle.syntax.specs.Tree.{Region, Method, Monitor, all, spell, spellCond}
 use Rattle.logic.specs.Tests.{bit}
 use Rattle.machine.specs.Held.{followsBy}
@@ -21,11 +21,11 @@ use Rattle.meaning.proofs.MethodLaws.{InMethod, in-method, begins-in-method, go
 use Rattle.logic.proofs.Bools.{split}
 use Rattle.layout.specs.Places.{toKept, past}
 use Rattle.layout.specs.Laid.{IsKeep, Laid}
-use Rattle.layout.specs.Closing.{closeFrom}
 use Rattle.layout.specs.Promises.{Flagged, noFlagged, more, flagRegions, flagged, parts, found, Holds}
 use Rattle.layout.specs.declared.Layout.{Layout}
 use Rattle.layout.proofs.Methods.{flag-count, methodsAhead}
 use Rattle.layout.proofs.Closes.{close-stands, stands-below}
+use Rattle.layout.proofs.Closes.{semicolonKind, semicolonEnd}
 use Rattle.layout.proofs.Same.{kinds-are, kinds-length}
 use Rattle.layout.proofs.Spelled.{later}
 use Rattle.layout.proofs.Trees.{semicolons-balanced, keep-once}
@@ -188,15 +188,15 @@ module _ (m : Monitor) {file : List ℕ} {ts : List Token} {kinds values places 
   unfolding IsKeep
   keep-at = (keep .0, later toKept k (lexemes ts) _ (keep .1))
 
-  pub methods-at : drop (k + toKept + closeFrom 255 4 0 (drop (k + toKept) kinds) + past) (lexemes ts)
+  pub methods-at : drop (k + toKept + semicolonEnd (drop (k + toKept) kinds) + past) (lexemes ts)
       ≡ methodsAhead (all (m .methods))
   unfolding IsKeep kindOf markNumber
   methods-at =
-      let semi = close-stands 255 4 (k + toKept) (lexemes ts) (spellCond (m .keep)) (keep .0) (mark semicolon)
+      let semi = close-stands noKind semicolonKind (k + toKept) (lexemes ts) (spellCond (m .keep)) (keep .0) (mark semicolon)
       (semicolons-balanced (m .keep))
       (λ e. omega arith) refl (later toKept k (lexemes ts) _ (keep .1)) in
       rw (kinds-are words)
-      (later past (k + toKept + closeFrom 255 4 0 (drop (k + toKept) (map kindOf (lexemes ts)))) (lexemes ts) _ semi
+      (later past (k + toKept + semicolonEnd (drop (k + toKept) (map kindOf (lexemes ts)))) (lexemes ts) _ semi
       ∙ keep-once m (lexemes ts) (keep .0) k spells (keep .1))
 
 pub words-sized : {file : List ℕ} {ts : List Token} {kinds values places : List ℕ} → Words file ts kinds values places

@@ -6,8 +6,10 @@ use mathlib.Core.Bool.{Bool}
 use mathlib.Core.List.{List, [], _∷_, _++_, map}
 use lib.ListN.{length, getD, drop, take, set}
 use lib.Dec.{eqb}
-use Rattle.syntax.specs.Token.{Lexeme, mark, rbrace, rparen, Token, lexemes}
-use Rattle.syntax.specs.Held.Kind.{kindOf, Words}
+use Rattle.syntax.specs.Limits.{mostTokens}
+use Rattle.machine.specs.Limits.{mostRegions}
+use Rattle.syntax.specs.Token.{Lexeme, key, mark, rbrace, rparen, k-waituntil, Token, lexemes}
+use Rattle.syntax.specs.Held.Kind.{kindOf, noKind, Words}
 use Rattle.syntax.specs.Tree.{Cond, Region, Method, all, each, spellCond, spellRegion}
 use Rattle.logic.specs.Tests.{bit}
 use Rattle.meaning.specs.Model.{sameLexeme, sameLexemes, sameGuard, placeIn, guardsOf, noRegion}
@@ -78,20 +80,20 @@ found done = guardsOf [] (parts done)
 
 -- does a region begin at a token
 unfoldable pub flagAt : List ℕ → ℕ → ℕ
-flagAt kinds at = bit (eqb (getD kinds at 255) 24)
+flagAt kinds at = bit (eqb (getD kinds at noKind) (kindOf (key k-waituntil)))
 
 -- The layout's arrays are whole
 pub record Arrays (l : Layout) : Type 0 where
-  pub guards-whole : length (l .«guards_at») ≡ 16
-  pub bodies-whole : length (l .«bodies_at») ≡ 16
-  pub numbers-whole : length (l .«guard_of») ≡ 16
-  pub begins-whole : length (l .begins) ≡ 16
-  pub goes-on-whole : length (l .«goes_on») ≡ 16
-  pub firsts-whole : length (l .firsts) ≡ 16
+  pub guards-whole : length (l .«guards_at») ≡ mostRegions
+  pub bodies-whole : length (l .«bodies_at») ≡ mostRegions
+  pub numbers-whole : length (l .«guard_of») ≡ mostRegions
+  pub begins-whole : length (l .begins) ≡ mostRegions
+  pub goes-on-whole : length (l .«goes_on») ≡ mostRegions
+  pub firsts-whole : length (l .firsts) ≡ mostRegions
 
 -- and it has at most sixteen regions, and no more guards
 pub record Room (l : Layout) : Type 0 where
-  pub few-regions : l .regions ≤ 16
+  pub few-regions : l .regions ≤ mostRegions
   pub few-guards : l .guards ≤ l .regions
   pub arrays : Arrays l
 
@@ -161,8 +163,7 @@ module _ (file kinds values places : List ℕ) where
 
   abbrev pub AddsRegion : Layout → ℕ → ℕ → Spot → Type 0
   AddsRegion l at begins s =
-      (ts : List Token) (done : List Flagged) (q : Region) (us : List Lexeme) → Words file ts kinds values places
-      → length ts ≤ 1024
+      (ts : List Token) (done : List Flagged) (q : Region) (us : List Lexeme) → Words file ts kinds values places → length ts ≤ mostTokens
       → Holds (lexemes ts) done l → drop at (lexemes ts) ≡ spellRegion q ++ us
       → Reached (lexemes ts)
       (done ++ (record { region = q; begins = begins; goesOn = flagAt (map kindOf us) 0 } ∷ [])) us s
@@ -170,6 +171,6 @@ module _ (file kinds values places : List ℕ) where
   abbrev pub AddsMethod : Layout → ℕ → Spot → Type 0
   AddsMethod l at s =
       (ts : List Token) (done : List Flagged) (qs : List Region) (us : List Lexeme) → Words file ts kinds values places
-      → length ts ≤ 1024 → Holds (lexemes ts) done l → length done + length qs ≤ 16
+      → length ts ≤ mostTokens → Holds (lexemes ts) done l → length done + length qs ≤ mostRegions
       → drop at (lexemes ts) ≡ each spellRegion qs ++ (mark rbrace ∷ us)
       → Reached (lexemes ts) (done ++ flagRegions 1 qs) (mark rbrace ∷ us) s

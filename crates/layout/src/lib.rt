@@ -5,12 +5,14 @@ ghost use mathlib.Core.Path.{_≡_};
 ghost use mathlib.Core.List.{List};
 ghost use Prim.Native.Nat.{_+_, _%_, _<_, _≤_};
 ghost use lib.ListN.{drop, take, getD, length};
+ghost use Rattle.syntax.specs.Limits.{mostTokens};
+ghost use Rattle.machine.specs.Limits.{mostRegions};
 ghost use Rattle.syntax.specs.Bytes.{sameBytes};
 ghost use Rattle.syntax.specs.Token.{Lexeme, Token, lexemes};
 ghost use Rattle.syntax.specs.Tree.{Monitor, spell};
 ghost use Rattle.meaning.specs.Model.{regions};
 ghost use Rattle.layout.specs.Laid.{Kinds, IsKeep, Laid, Linked};
-ghost use Rattle.syntax.specs.Held.Kind.{Words};
+ghost use Rattle.syntax.specs.Held.Kind.{noKind, Words};
 ghost use Rattle.layout.specs.Closing.{closeFrom};
 ghost use Rattle.layout.specs.Places.{overrun};
 ghost use Rattle.layout.specs.Promises.{Sized, SameToken, SameTokens, SameGuard, flagAt, withGuard, withRegion};
@@ -22,15 +24,15 @@ pub struct Layout {
     pub keep: usize,
     pub regions: usize,
     pub guards: usize,
-    // of each region: the tokens at which its guard and its body begin, its guard's number, whether it begins a method
-    // (1), and whether another region follows it in its method (1)
-    pub guards_at: [u16; 16],
-    pub bodies_at: [u16; 16],
-    pub guard_of: [u8; 16],
-    pub begins: [u8; 16],
-    pub goes_on: [u8; 16],
+    // of each region: the tokens at which its guard and its body begin, its guard's number, whether it begins a method (1),
+    // and whether another region follows it in its method (1)
+    pub guards_at: [u16; machine::REGIONS],
+    pub bodies_at: [u16; machine::REGIONS],
+    pub guard_of: [u8; machine::REGIONS],
+    pub begins: [u8; machine::REGIONS],
+    pub goes_on: [u8; machine::REGIONS],
     // of each guard: the first region that has it
-    pub firsts: [u8; 16],
+    pub firsts: [u8; machine::REGIONS],
 }
 
 // A layout so far, and the token at which to go on.
@@ -38,24 +40,6 @@ struct Spot {
     layout: Layout,
     at: usize,
 }
-
-const LBRACE: u8 = 0;
-
-const RBRACE: u8 = 1;
-
-const LPAREN: u8 = 2;
-
-const RPAREN: u8 = 3;
-
-const SEMICOLON: u8 = 4;
-
-const METHOD: u8 = 23;
-
-const WAITUNTIL: u8 = 24;
-
-const NAME: u8 = 30;
-
-const END: u8 = 255;
 
 // How many tokens on a part begins: the kept condition from `keep`, a method's regions from `method` (`method NAME {`),
 // a guard from `waituntil` (`waituntil (`), a body from the bracket that closes the guard (`) {`), and what stands
@@ -71,9 +55,13 @@ const TO_BODY: usize = 2;
 const PAST: usize = 1;
 
 fn kind_at(kinds: &[u8], at: usize) -> u8
-    ensures { λ r. ⌜ r ≡ getD (now (kinds .entry)) at 255 ⌝ }
+    ensures { λ r. ⌜ r ≡ getD (now (kinds .entry)) at noKind ⌝ }
 {
-    if at < kinds.len() { kinds[at] } else { END }
+    if at < kinds.len() {
+        kinds[at]
+    } else {
+        syntax::NO_KIND
+    }
 }
 
 // The token that closes what was opened before a token: brackets or braces, by their kinds.
@@ -137,7 +125,7 @@ fn same_token(file: &[u8], kinds: &[u8], values: &[u16], places: &[u16], a: usiz
     if values[a] != values[b] {
         return false;
     }
-    if kinds[a] != NAME {
+    if kinds[a] != syntax::NAME {
         return true;
     }
     let n = wide(values[a]);
@@ -189,8 +177,8 @@ fn same_guard(file: &[u8], kinds: &[u8], values: &[u16], places: &[u16], a: usiz
     if kinds.len() < b {
         return false;
     }
-    let m = closing(kinds, a, LPAREN, RPAREN) - a;
-    let n = closing(kinds, b, LPAREN, RPAREN) - b;
+    let m = closing(kinds, a, syntax::LPAREN, syntax::RPAREN) - a;
+    let n = closing(kinds, b, syntax::LPAREN, syntax::RPAREN) - b;
     if m != n {
         return false;
     }
@@ -205,12 +193,12 @@ pub fn empty(keep: usize) -> Layout
         keep: keep,
         regions: 0,
         guards: 0,
-        guards_at: [0u16; 16],
-        bodies_at: [0u16; 16],
-        guard_of: [0u8; 16],
-        begins: [0u8; 16],
-        goes_on: [0u8; 16],
-        firsts: [0u8; 16],
+        guards_at: [0u16; machine::REGIONS],
+        bodies_at: [0u16; machine::REGIONS],
+        guard_of: [0u8; machine::REGIONS],
+        begins: [0u8; machine::REGIONS],
+        goes_on: [0u8; machine::REGIONS],
+        firsts: [0u8; machine::REGIONS],
     }
 }
 
@@ -229,7 +217,7 @@ fn guard_number(
 {
     let mut g = 0;
     while g < layout.guards {
-        let first = small(layout.firsts[g]) % 16;
+        let first = small(layout.firsts[g]) % machine::REGIONS;
         let other = wide(layout.guards_at[first]);
         if same_guard(file, kinds, values, places, at, other) {
             return g;
@@ -241,7 +229,7 @@ fn guard_number(
 
 // The next region has a guard of its own.
 fn with_guard(layout: Layout) -> Layout
-    requires { ⌜ (layout .regions < 16) × (layout .guards < 16) ⌝ }
+    requires { ⌜ (layout .regions < mostRegions) × (layout .guards < mostRegions) ⌝ }
     ensures { λ r. ⌜ r ≡ withGuard layout ⌝ }
 {
     let mut next = layout;
@@ -260,7 +248,7 @@ fn with_region(
     begins: u8,
     goes_on: u8,
 ) -> Layout
-    requires { ⌜ layout .regions < 16 ⌝ }
+    requires { ⌜ layout .regions < mostRegions ⌝ }
     ensures { λ r. ⌜ r ≡ withRegion layout «guard_at» «body_at» number begins «goes_on» ⌝ }
 {
     let mut next = layout;
@@ -285,7 +273,7 @@ fn held(at: usize) -> u16
 fn flag(kinds: &[u8], at: usize) -> u8
     ensures { λ r. ⌜ r ≡ flagAt (now (kinds .entry)) at ⌝ }
 {
-    if kind_at(kinds, at) == WAITUNTIL {
+    if kind_at(kinds, at) == syntax::KEY_WAITUNTIL {
         1
     } else {
         0
@@ -302,15 +290,14 @@ fn add_region(
     at: usize,
     begins: u8,
 ) -> Spot
-    requires { ⌜ Sized (now kinds) (now values) (now places) × (at < length (now kinds)) × Room layout
-        × (layout .regions < 16) ⌝ }
+    requires { ⌜ Sized (now kinds) (now values) (now places) × (at < length (now kinds)) × Room layout × (layout .regions < mostRegions) ⌝ }
     ensures { λ r. ⌜ Grown (now (kinds .entry)) layout at r × (at < r .at) × (r .layout .regions ≡ layout .regions + 1)
         × AddsRegion (now (file .entry)) (now (kinds .entry)) (now (values .entry)) (now (places .entry))
         layout at begins r ⌝ }
 {
     let guard_at = at + TO_GUARD;
-    let body_at = closing(kinds, guard_at, LPAREN, RPAREN) + TO_BODY;
-    let next = closing(kinds, body_at, LBRACE, RBRACE) + PAST;
+    let body_at = closing(kinds, guard_at, syntax::LPAREN, syntax::RPAREN) + TO_BODY;
+    let next = closing(kinds, body_at, syntax::LBRACE, syntax::RBRACE) + PAST;
     let number = guard_number(file, kinds, values, places, layout, guard_at);
     let mut numbered = layout;
     if number == layout.guards {
@@ -346,8 +333,8 @@ fn add_method(
     let mut so_far = layout;
     let mut i = at;
     let mut begins: u8 = 1;
-    while kind_at(kinds, i) == WAITUNTIL {
-        if 16 <= so_far.regions {
+    while kind_at(kinds, i) == syntax::KEY_WAITUNTIL {
+        if machine::REGIONS <= so_far.regions {
             return Spot {
                 layout: so_far,
                 at: i,
@@ -367,10 +354,8 @@ fn add_method(
 
 // The layout of a file of the grammar, whose `keep` stands at a token.
 pub fn lay_out(file: &[u8], kinds: &[u8], values: &[u16], places: &[u16], keep: usize) -> Layout
-    ensures { λ r. ⌜ ((m : Monitor) (ts : List Token)
-        → Words (now (file .entry)) ts (now (kinds .entry)) (now (values .entry)) (now (places .entry))
-        → spell m ≡ lexemes ts → length (regions m) ≤ 16 → length ts ≤ 1024 → IsKeep m ts keep
-        → Laid m (lexemes ts) r) ⌝ }
+    ensures { λ r. ⌜ ((m : Monitor) (ts : List Token) → Words (now (file .entry)) ts (now (kinds .entry)) (now (values .entry)) (now (places .entry))
+        → spell m ≡ lexemes ts → length (regions m) ≤ mostRegions → length ts ≤ mostTokens → IsKeep m ts keep → Laid m (lexemes ts) r) ⌝ }
 {
     if kinds.len() <= keep {
         return empty(0);
@@ -382,8 +367,8 @@ pub fn lay_out(file: &[u8], kinds: &[u8], values: &[u16], places: &[u16], keep: 
         return empty(0);
     }
     let mut layout = empty(keep + TO_KEPT);
-    let mut i = closing(kinds, keep + TO_KEPT, END, SEMICOLON) + PAST;
-    while kind_at(kinds, i) == METHOD {
+    let mut i = closing(kinds, keep + TO_KEPT, syntax::NO_KIND, syntax::SEMICOLON) + PAST;
+    while kind_at(kinds, i) == syntax::KEY_METHOD {
         let spot = add_method(file, kinds, values, places, layout, i + TO_REGIONS);
         let next = spot.layout;
         layout = next;
@@ -395,7 +380,7 @@ pub fn lay_out(file: &[u8], kinds: &[u8], values: &[u16], places: &[u16], keep: 
 // At each opening brace the operand becomes the token of the closing one; the others stay.
 pub fn link_braces(kinds: &[u8], operands: &mut [u16])
     ensures { λ _. ⌜ ((ls : List Lexeme) → Kinds ls (now (kinds .entry)) → length (now (operands .entry)) ≡ length ls
-        → length ls ≤ 1024
+        → length ls ≤ mostTokens
         → Linked ls (now (operands .entry)) (now (operands .exit))) ⌝ }
 {
     if operands.len() != kinds.len() {
@@ -403,8 +388,8 @@ pub fn link_braces(kinds: &[u8], operands: &mut [u16])
     }
     let mut i = 0;
     while i < kinds.len() {
-        if kinds[i] == LBRACE {
-            operands[i] = held(closing(kinds, i + PAST, LBRACE, RBRACE));
+        if kinds[i] == syntax::LBRACE {
+            operands[i] = held(closing(kinds, i + PAST, syntax::LBRACE, syntax::RBRACE));
         }
         i += 1;
     }

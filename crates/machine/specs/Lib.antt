@@ -1,3 +1,4 @@
+pub mod Limits
 pub mod Monitor
 pub mod Rules
 pub mod Algorithm1

@@ -1,1 +1,20 @@
-// Definitions and theorems only: see specs/.
+// Constants of the definitions in specs/, for all crates: the limits on a machine, as `Limits` and `Monitor` have them
+// (crates/machine/specs).
+pub const THREADS: usize = 16;
+
+pub const REGIONS: usize = 16;
+
+pub const STATES: usize = 4096;
+
+// The same, in the types in which the numbers of threads, regions and states are held. The last is also answered where there is no state.
+pub const THREAD_END: u8 = 16;
+
+pub const REGION_END: u8 = 16;
+
+pub const STATE_END: u16 = 4096;
+
+// The states after bodies, of all regions at all states.
+pub const AFTER: usize = 65536;
+
+// The entries of all regions and guards.
+pub const ENTRIES: usize = 256;

@@ -8,8 +8,12 @@ use mathlib.Core.List.{List, [], _∷_, _++_}
 use mathlib.Core.Option.{some}
 use lib.ListN.{length, getElem?}
 use lib.IntN.{ℤ, pos, negℤ}
-use Rattle.syntax.specs.Token.{Lexeme, name, key, Keyword, k-monitor, k-var, k-method, k-waituntil, Token, isKey, lbrace, rbrace, lparen, rparen, lexemes, isMark}
-use Rattle.syntax.specs.Tree.{Expr, Cond, Block, end, then, Stmt, assign, if-then, if-else, Region, Var, Monitor, all, Method, spell}
+use Rattle.syntax.specs.Limits.{mostBytes, mostTokens, mostOpen, mostVars, mostMethods}
+use Rattle.machine.specs.Limits.{mostRegions, mostStates}
+use Rattle.syntax.specs.Token.{Lexeme, name, key, Keyword, k-monitor, k-var, k-method, k-waituntil, Token, isKey}
+use Rattle.syntax.specs.Token.{lbrace, rbrace, lparen, rparen, lexemes, isMark}
+use Rattle.syntax.specs.Tree.{Expr, Cond, Block, end, then, Stmt, assign, if-then, if-else, Region, Var, Monitor, all}
+use Rattle.syntax.specs.Tree.{Method, spell}
 use Rattle.meaning.specs.Value.{intOf, less, inRange, truth, exprValue}
 use Rattle.meaning.specs.State.{count, starts}
 use Rattle.meaning.specs.Kept.{keptAt}
@@ -41,14 +45,14 @@ closes l = isMark rbrace l || isMark rparen l
 
 unfoldable pub Crowded : List Token → Token → Type 0
 Crowded before t =
-    (1024 ≤ length before) ⊎ ((opens (t .lexeme) ≡ true) × (howMany closes before + 12 < howMany opens before + 1))
+    (mostTokens ≤ length before) ⊎ ((opens (t .lexeme) ≡ true) × (howMany closes before + mostOpen < howMany opens before + 1))
 
 -- 5
 unfoldable pub PastLimit : List Token → Token → Type 0
 PastLimit before t =
-    ((t .lexeme ≡ key k-var) × (6 ≤ howMany (isKey k-var) before))
-    ⊎ ((t .lexeme ≡ key k-method) × (8 ≤ howMany (isKey k-method) before))
-    ⊎ ((t .lexeme ≡ key k-waituntil) × (16 ≤ howMany (isKey k-waituntil) before))
+    ((t .lexeme ≡ key k-var) × (mostVars ≤ howMany (isKey k-var) before))
+    ⊎ ((t .lexeme ≡ key k-method) × (mostMethods ≤ howMany (isKey k-method) before))
+    ⊎ ((t .lexeme ≡ key k-waituntil) × (mostRegions ≤ howMany (isKey k-waituntil) before))
 
 -- 6: a keyword stands last, and a keyword with a name behind it stands among some tokens
 unfoldable pub Behind : Keyword → List Token → Type 0
@@ -133,7 +137,7 @@ IsRegion m k r = getElem? (regionsOf (all (m .methods))) k ≡ some r
 -- 7 to 9 do not arise
 pub record Sound (m : Monitor) : Type 0 where
   pub ranges : GoodRanges (all (m .vars))
-  pub few : count (all (m .vars)) ≤ 4096
+  pub few : count (all (m .vars)) ≤ mostStates
   pub start : keptAt m (starts (all (m .vars))) ≡ true
   pub keeps : (k : ℕ) (r : Region) (as′ : List ℤ) → IsRegion m k r → Meets m r as′ → Keeps m r as′
 
@@ -141,7 +145,7 @@ pub record Sound (m : Monitor) : Type 0 where
 pub record Accepted (file : List ℕ) (m : Monitor) : Type 0 where
   pub ts : List Token
   -- not 1, 2, 3
-  pub short : length file ≤ 8192
+  pub short : length file ≤ mostBytes
   pub cut : Cover 0 file ts
   pub limits : NoneOffends Crowded ts
   -- not 4, 5, 6

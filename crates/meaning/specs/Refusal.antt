@@ -6,12 +6,15 @@ use mathlib.Core.Logic.{_⊎_}
 use mathlib.Core.List.{List, _∷_, _++_, []}
 use lib.ListN.{length}
 use lib.IntN.{ℤ}
+use Rattle.syntax.specs.Limits.{mostBytes}
+use Rattle.machine.specs.Limits.{mostStates}
 use Rattle.syntax.specs.Token.{k-var, k-keep, Token, Lexeme, Keyword, lexemes, name, key, mark, lbrace, k-monitor}
 use Rattle.syntax.specs.Tree.{Region, Var, Monitor, all, spell, InGrammar, Viable, each, spellVar}
 use Rattle.meaning.specs.State.{size, count, stateAt, numberOf, starts}
 use Rattle.meaning.specs.Kept.{keptAt}
 use Rattle.meaning.specs.Answer.{answer, Answer, Verdict, accepted, refused}
-use Rattle.meaning.specs.Accepted.{Accepted, GoodRange, GoodRanges, Keeps, Meets, IsRegion, NoneOffends, FirstOffends, Crowded, PastLimit, Misnamed}
+use Rattle.meaning.specs.Accepted.{Accepted, GoodRange, GoodRanges, Keeps, Meets, IsRegion, NoneOffends}
+use Rattle.meaning.specs.Accepted.{FirstOffends, Crowded, PastLimit, Misnamed}
 use Rattle.syntax.specs.Spelling.{Cover, Stops}
 
 -- 4: "after which no file of the grammar can follow"
@@ -42,8 +45,8 @@ pub record FirstIllRanged (vs : List Var) (i : ℕ) : Type 0 where
   pub parts : vs ≡ before ++ (var ∷ after)
   pub place : length before ≡ i
   pub good : GoodRanges before
-  pub few : count before ≤ 4096
-  pub bad : (GoodRange var → ⊥) ⊎ (4096 < count before * size var)
+  pub few : count before ≤ mostStates
+  pub bad : (GoodRange var → ⊥) ⊎ (mostStates < count before * size var)
 
 -- 9: "lowest region, then lowest state, meeting kept condition and guard", from which the body does not keep
 pub record FirstBroken (m : Monitor) (k n : ℕ) : Type 0 where
@@ -58,7 +61,7 @@ pub record FirstBroken (m : Monitor) (k n : ℕ) : Type 0 where
 -- "Checks run in number order over the whole input": the checks up to a number pass
 
 pub record Past2 (file : List ℕ) (ts : List Token) : Type 0 where
-  pub short : length file ≤ 8192
+  pub short : length file ≤ mostBytes
   pub cut : Cover 0 file ts
 
 pub record Past3 (file : List ℕ) (ts : List Token) : Type 0 where
@@ -80,14 +83,14 @@ pub record Past6 (file : List ℕ) (ts : List Token) (m : Monitor) : Type 0 wher
 pub record Past7 (file : List ℕ) (ts : List Token) (m : Monitor) : Type 0 where
   pub past : Past6 file ts m
   pub ranges : GoodRanges (all (m .vars))
-  pub few : count (all (m .vars)) ≤ 4096
+  pub few : count (all (m .vars)) ≤ mostStates
 
 -- The refusals of a file, a constructor for each line of the table
 pub data Refusal (file : List ℕ) : Answer → Type 0 where
   -- "file over 8,192 bytes"
-  too-long : 8192 < length file → Refusal file (answer 1 0 0)
+  too-long : mostBytes < length file → Refusal file (answer 1 0 0)
   -- "first byte that begins no token, or begins a word or number that is too long"
-  no-token : {k : ℕ} → length file ≤ 8192 → Stops k 0 file → Refusal file (answer 2 k 0)
+  no-token : {k : ℕ} → length file ≤ mostBytes → Stops k 0 file → Refusal file (answer 2 k 0)
   -- "first token that is past the 1,024th, or is a ( or { that makes opened less closed (both kinds together) exceed 12"
   too-many : {ts : List Token} {k : ℕ} → Past2 file ts → FirstOffends Crowded ts k → Refusal file (answer 3 k 0)
   -- "first token after which no file of the grammar can follow; the length if the file ends early"

@@ -81,7 +81,7 @@ fn show(file: &[u8], bytes: &[u8]) {
 
 // A file that is not cut into tokens (1, 2).
 fn show_uncut(file: &[u8], answer: Answer) {
-    let kinds = [0u8; 1];
+    let kinds = [syntax::NO_KIND; 1];
     let values = [0u16; 1];
     let places = [0u16; 1];
     let mut operands = [0u16; 1];

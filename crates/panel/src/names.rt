@@ -5,10 +5,6 @@ use layout::Layout;
 use passes::Names;
 use variables::Bounds;
 
-const METHOD: u8 = 23;
-
-const WAITUNTIL: u8 = 24;
-
 // The columns of a long guard that stand in a sentence.
 const SHORT: usize = 32;
 
@@ -125,10 +121,10 @@ fn with_token(
     if 8192 <= i {
         return regions;
     }
-    if kind == METHOD {
+    if kind == syntax::KEY_METHOD {
         return with_method(regions, number_at(places, i + 1), number_at(values, i + 1));
     }
-    if kind == WAITUNTIL {
+    if kind == syntax::KEY_WAITUNTIL {
         let end = closing(bodies, regions.count);
         return with_region(regions, number_at(places, i + 2), number_at(places, end));
     }

@@ -8,10 +8,6 @@ use crate::words::Args;
 use answers::Answer;
 use evaluator::Ran;
 
-const VAR: u8 = 20;
-
-const METHOD: u8 = 23;
-
 // Bytes of a line that are shown, and how many of them stand before the byte that is meant where the line is long.
 const SHOWN: usize = 100;
 
@@ -69,12 +65,12 @@ fn token_at(places: &[u16], place: usize) -> usize {
 // The kind of the token before one.
 fn kind_before(kinds: &[u8], token: usize) -> u8 {
     if token == 0 {
-        return 255;
+        return syntax::NO_KIND;
     }
     if token <= kinds.len() {
         return kinds[token - 1];
     }
-    255
+    syntax::NO_KIND
 }
 
 fn is_letter(byte: u8) -> bool {
@@ -111,10 +107,10 @@ fn naming_form(number: u8, byte: u8, before: u8) -> usize {
         return if byte == b'm' { 10 } else { 11 };
     }
     if number == 6 {
-        if before == VAR {
+        if before == syntax::KEY_VAR {
             return 12;
         }
-        return if before == METHOD { 13 } else { 14 };
+        return if before == syntax::KEY_METHOD { 13 } else { 14 };
     }
     if number == 7 { 15 } else { 16 }
 }

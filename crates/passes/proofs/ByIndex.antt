@@ -8,10 +8,14 @@ use mathlib.Core.List.{List, [], _∷_, _++_, List·Memᴰ, List·Memᴰ·head, 
 use mathlib.Core.Option.{Option, none, some}
 use lib.ListN.{length, take, drop, getD, length-map, List·getD-map, drop-of-length-le}
 use lib.Seq.{take-suc, drop-cons}
-use lib.Dec.{leb}
+use lib.Dec.{leb, eqb}
 use borrow.Author.Tests.{leb-false}
-use Rattle.syntax.specs.Token.{Lexeme, number, mark, lbrace, Token, k-var, k-method, k-waituntil, markNumber, isKey}
+use Rattle.syntax.specs.Token.{Lexeme, name, number, mark, lbrace, rbrace, lparen, rparen, Token, k-var, k-method}
+use Rattle.syntax.specs.Token.{k-waituntil, isKey}
+use Rattle.syntax.specs.Limits.{mostTokens, mostOpen, mostVars, mostMethods}
+use Rattle.machine.specs.Limits.{mostRegions}
 use Rattle.syntax.specs.Held.Kind.{kindOf, valueOf, Words}
+use Rattle.syntax.proofs.ByKind.{kind-mark}
 use Rattle.meaning.specs.Accepted.{opens, closes}
 use Rattle.meaning.specs.Decide.Check.{tally, crowded, pastLimit}
 use Rattle.logic.proofs.Bools.{is-false, no-some, clash}
@@ -30,14 +34,14 @@ at-member (a ∷ l) (suc i) d h = List·Memᴰ·tail (at-member l i d (omega ari
 -- Tokens by index
 
 none-there : Token
-none-there = record { at = 0; lexeme = mark lbrace }
+none-there = record { at = 0; lexeme = name [] }
 
 pub tokenAt : List Token → ℕ → Token
 tokenAt ts i = getD ts i none-there
 
 module _ {file : List ℕ} {ts : List Token} {kinds values places : List ℕ} (h : Words file ts kinds values places) where
   pub kind-at : (i : ℕ) → getD kinds i 0 ≡ kindOf (tokenAt ts i .lexeme)
-  unfolding tokenAt none-there kindOf markNumber
+  unfolding tokenAt none-there kindOf
   kind-at i = rw (h .by-kind) (List·getD-map (λ (t : Token). kindOf (t .lexeme)) ts i none-there)
 
   pub value-at : (i : ℕ) → getD values i 0 ≡ valueOf (tokenAt ts i .lexeme)
@@ -71,6 +75,16 @@ module _ {file : List ℕ} {ts : List Token} {kinds values places : List ℕ} (h
 
   pub at-end : (i : ℕ) → length kinds ≤ i → drop i ts ≡ []
   at-end i l = drop-of-length-le ts {i = i} (omega (arith, kinds-long))
+
+-- Brackets and braces by kind
+
+pub kind-opens : (l : Lexeme) → opens l ≡ (eqb (kindOf l) (kindOf (mark lbrace)) || eqb (kindOf l) (kindOf (mark lparen)))
+unfolding opens
+kind-opens l = rw (kind-mark lbrace l, kind-mark lparen l)
+
+pub kind-closes : (l : Lexeme) → closes l ≡ (eqb (kindOf l) (kindOf (mark rbrace)) || eqb (kindOf l) (kindOf (mark rparen)))
+unfolding closes
+kind-closes l = rw (kind-mark rbrace l, kind-mark rparen l)
 
 -- A count grows by at most one
 
@@ -140,7 +154,7 @@ crowded-nothing p o c = refl
 
 pub crowded-token : (p o c : ℕ) (t : Token) (ts : List Token)
     → crowded p o c (t ∷ ts)
-    ≡ elim (leb 1024 p || (opens (t .lexeme) && leb (c + 12) o)) as (λ b. Option ℕ)
+    ≡ elim (leb mostTokens p || (opens (t .lexeme) && leb (c + mostOpen) o)) as (λ b. Option ℕ)
     [ true ↦ some (t .at) | false ↦ crowded (p + 1) (tally (opens (t .lexeme)) o) (tally (closes (t .lexeme)) c) ts ]
 unfolding crowded
 crowded-token p o c t ts = refl
@@ -149,7 +163,7 @@ abbrev pub crowding : Pass (ℕ × ℕ × ℕ)
 crowding =
     record {
       find = λ s ts. crowded (s .0) (s .1) (s .2) ts;
-      test = λ s l. leb 1024 (s .0) || (opens l && leb (s .2 + 12) (s .1));
+      test = λ s l. leb mostTokens (s .0) || (opens l && leb (s .2 + mostOpen) (s .1));
       next = λ s l. (s .0 + 1, tally (opens l) (s .1), tally (closes l) (s .2));
       nothing = λ s. crowded-nothing (s .0) (s .1) (s .2);
       token = λ s t ts. crowded-token (s .0) (s .1) (s .2) t ts;
@@ -161,7 +175,7 @@ past-nothing v m w = refl
 
 pub past-token : (v m w : ℕ) (t : Token) (ts : List Token)
     → pastLimit v m w (t ∷ ts)
-    ≡ elim ((isKey k-var (t .lexeme) && leb 6 v) || (isKey k-method (t .lexeme) && leb 8 m) || (isKey k-waituntil (t .lexeme) && leb 16 w)) as (λ b. Option ℕ) [
+    ≡ elim ((isKey k-var (t .lexeme) && leb mostVars v) || (isKey k-method (t .lexeme) && leb mostMethods m) || (isKey k-waituntil (t .lexeme) && leb mostRegions w)) as (λ b. Option ℕ) [
       | true ↦ some (t .at)
       | false ↦ pastLimit (tally (isKey k-var (t .lexeme)) v) (tally (isKey k-method (t .lexeme)) m) (tally (isKey k-waituntil (t .lexeme)) w) ts
     ]
@@ -172,7 +186,7 @@ abbrev pub limiting : Pass (ℕ × ℕ × ℕ)
 limiting =
     record {
       find = λ s ts. pastLimit (s .0) (s .1) (s .2) ts;
-      test = λ s l. (isKey k-var l && leb 6 (s .0)) || (isKey k-method l && leb 8 (s .1)) || (isKey k-waituntil l && leb 16 (s .2));
+      test = λ s l. (isKey k-var l && leb mostVars (s .0)) || (isKey k-method l && leb mostMethods (s .1)) || (isKey k-waituntil l && leb mostRegions (s .2));
       next = λ s l. (tally (isKey k-var l) (s .0), tally (isKey k-method l) (s .1), tally (isKey k-waituntil l) (s .2));
       nothing = λ s. past-nothing (s .0) (s .1) (s .2);
       token = λ s t ts. past-token (s .0) (s .1) (s .2) t ts;
@@ -185,8 +199,8 @@ pub record Few (ts : List Token) (i : ℕ) (last : Lexeme) (vs ms : ℕ) : Type 
   pub so-far : pastLimit 0 0 0 ts ≡ pastLimit (counts .0) (counts .1) (counts .2) (drop i ts)
   pub vars : tally (isKey k-var last) vs ≤ counts .0
   pub methods : tally (isKey k-method last) ms ≤ counts .1
-  pub few-vars : counts .0 ≤ 6
-  pub few-methods : counts .1 ≤ 8
+  pub few-vars : counts .0 ≤ mostVars
+  pub few-methods : counts .1 ≤ mostMethods
 
 pub few-first : (ts : List Token) → Few ts 0 (number 0) 0 0
 unfolding isKey tally
@@ -199,18 +213,18 @@ few-next {ts = ts} h n {i = i} vs′ ms′ f l v m =
     let s = f .counts in
     let t = tokenAt ts i .lexeme in
     let e = passed limiting h (0, 0, 0) s i (f .so-far) l n in
-    let k = neither (isKey k-var t && leb 6 (s .0)) (isKey k-method t && leb 8 (s .1)) (isKey k-waituntil t && leb 16 (s .2)) e in
+    let k = neither (isKey k-var t && leb mostVars (s .0)) (isKey k-method t && leb mostMethods (s .1)) (isKey k-waituntil t && leb mostRegions (s .2)) e in
     record {
       counts = limiting .next s t;
       so-far = goes-on limiting h (0, 0, 0) s i (f .so-far) l e;
       vars = tally-mono (isKey k-var t) vs′ (s .0) (omega (arith, f .vars));
       methods = tally-mono (isKey k-method t) ms′ (s .1) (omega (arith, f .methods));
-      few-vars = tally-kept (isKey k-var t) 6 (s .0) (k .0) (f .few-vars);
-      few-methods = tally-kept (isKey k-method t) 8 (s .1) (k .1) (f .few-methods);
+      few-vars = tally-kept (isKey k-var t) mostVars (s .0) (k .0) (f .few-vars);
+      few-methods = tally-kept (isKey k-method t) mostMethods (s .1) (k .1) (f .few-methods);
     }
 
 -- a keyword stands before, so there is room for one name more
-pub room : (b : Bool) (n v limit : ℕ) → tally b n ≤ v → v ≤ limit → limit ≤ 8 → b ≡ true → n < 8
+pub room : (b : Bool) (n v limit : ℕ) → tally b n ≤ v → v ≤ limit → limit ≤ mostMethods → b ≡ true → n < mostMethods
 unfolding tally
 room true n v limit h k l e = omega arith
 room false n v limit h k l e = clash e refl

@@ -7,9 +7,10 @@ use mathlib.Core.List.{List, [], _∷_, _++_, append-nil, reverse, reverse-cons}
 use mathlib.Core.Option.{Option, none, some}
 use lib.ListN.{length, drop, getD, length-append, length-reverse}
 use lib.Dec.{eqb}
+use Rattle.syntax.specs.Limits.{mostVars, mostMethods}
 use Rattle.syntax.specs.Bytes.{sameBytes}
-use Rattle.syntax.specs.Token.{Lexeme, name, key, number, mark, Token, k-var, k-method, keywordNumber, isKey}
-use Rattle.syntax.specs.Held.Kind.{kindOf, Words}
+use Rattle.syntax.specs.Token.{Lexeme, name, key, number, mark, Token, k-var, k-method, isKey}
+use Rattle.syntax.specs.Held.Kind.{kindOf, nameKind, numberKind, Words}
 use Rattle.syntax.proofs.Lexemes.{decides-key}
 use Rattle.logic.proofs.Bools.{different}
 use Rattle.meaning.specs.Decide.Check.{pastLimit, member, misnamed}
@@ -109,7 +110,7 @@ pub record Naming (file : List ℕ) (ts : List Token) (vars methods : Names) (be
   pub methods-held : Titles file (reverse ms) methods
   pub few : Few ts i last (length vs) (length ms)
 
-pub naming-first : (file : List ℕ) (ts : List Token) (vars methods : Names) → Titles file [] vars → Titles file [] methods → Naming file ts vars methods 29 0
+pub naming-first : (file : List ℕ) (ts : List Token) (vars methods : Names) → Titles file [] vars → Titles file [] methods → Naming file ts vars methods numberKind 0
 unfolding kindOf
 naming-first file ts vars methods t u =
     record { last = number 0; known = refl; vs = []; ms = []; so-far = refl; vars-held = t; methods-held = u; few = few-first ts }
@@ -135,10 +136,9 @@ module _ {file : List ℕ} {ts : List Token} {kinds values places : List ℕ} (h
   pub naming-next : pastLimit 0 0 0 ts ≡ none → i < length kinds → (r : Bool)
       → Judges file vars methods (getD kinds i 0) before (getD places i 0) (getD values i 0) r → r ≡ false
       → {vars′ methods′ : Names} (a b : Bool)
-      → a ≡ (eqb (getD kinds i 0) 30 && eqb before 20) → Grows vars a (getD places i 0) (getD values i 0) vars′
-      → b ≡ (eqb (getD kinds i 0) 30 && eqb before 23) → Grows methods b (getD places i 0) (getD values i 0) methods′
+      → a ≡ (eqb (getD kinds i 0) nameKind && eqb before (kindOf (key k-var))) → Grows vars a (getD places i 0) (getD values i 0) vars′
+      → b ≡ (eqb (getD kinds i 0) nameKind && eqb before (kindOf (key k-method))) → Grows methods b (getD places i 0) (getD values i 0) methods′
       → Naming file ts vars′ methods′ (getD kinds i 0) (i + 1)
-  unfolding keywordNumber
   naming-next n l r d e a b f p g q =
       let t = tokenAt ts i in
       let v = isKey k-var (s .last) in
@@ -150,8 +150,8 @@ module _ {file : List ℕ} {ts : List Token} {kinds values places : List ℕ} (h
         ms = added m (t .lexeme) ++ s .ms;
         so-far = goes-on naming h (number 0, [], []) summary i (s .so-far) l (judged l r d ∙ e);
         vars-held = rw (reverse-added v (t .lexeme) (s .vs)) (grown-at h i l k-var (s .last) a (s .known) f p (s .vars-held)
-            (rw length-reverse (room v _ _ 6 (s .few .vars) (s .few .few-vars) (omega arith))));
+            (rw length-reverse (room v _ _ mostVars (s .few .vars) (s .few .few-vars) (omega arith))));
         methods-held = rw (reverse-added m (t .lexeme) (s .ms)) (grown-at h i l k-method (s .last) b (s .known) g q (s .methods-held)
-            (rw length-reverse (room m _ _ 8 (s .few .methods) (s .few .few-methods) (omega arith))));
+            (rw length-reverse (room m _ _ mostMethods (s .few .methods) (s .few .few-methods) (omega arith))));
         few = few-next h n _ _ (s .few) l (rw length-append (added-few v (t .lexeme) (length (s .vs)))) (rw length-append (added-few m (t .lexeme) (length (s .ms))));
       }

@@ -7,10 +7,11 @@ use mathlib.Core.List.{List, [], _∷_, _++_}
 use lib.ListN.{length, take, drop, getD, set, length-append, length-drop, List·getD-append, drop-of-length-le}
 use lib.Seq.{length-take-le, getD-at, getD-set-same, getD-set-other}
 use lib.Dec.{ltb, eqb, leb·suc-suc}
-use borrow.Author.Tests.{lt-ltb, ltb-true, ltb-false, eq-eqb}
+use borrow.Author.Tests.{lt-ltb, ltb-true, ltb-false}
+use Rattle.syntax.specs.Limits.{mostMethods}
 use Rattle.syntax.specs.Bytes.{sameBytes}
-use Rattle.syntax.specs.Token.{Lexeme, name, key, number, mark, Token, k-var, k-method, k-monitor, Mark, Keyword, keywordNumber, isName}
-use Rattle.syntax.specs.Held.Kind.{kindOf, valueOf, Words}
+use Rattle.syntax.specs.Token.{Lexeme, name, key, number, mark, Token, k-var, k-method, k-monitor, Mark, Keyword}
+use Rattle.syntax.specs.Held.Kind.{kindOf, valueOf, nameKind, Words}
 use Rattle.syntax.specs.Spelling.{Spells, reserved, named, valued, marked}
 use Rattle.syntax.proofs.Scanning.{token-stands}
 use Rattle.logic.proofs.Bools.{split, is-false, clash}
@@ -19,7 +20,7 @@ use Rattle.logic.proofs.Bools.{different}
 use Rattle.meaning.specs.Decide.Check.{member}
 use Rattle.passes.specs.declared.Names.{Names}
 use Rattle.passes.specs.Tokens.{slotIn, slotOrValue, Stands, Titles, wrongBy, wrongly}
-use Rattle.passes.specs.Kinds.{kind-name, kind-key}
+use Rattle.syntax.proofs.ByKind.{kind-key}
 use Rattle.passes.proofs.ByIndex.{rest-at, tokenAt, token-member, value-at, place-at, room}
 
 -- Equal bytes
@@ -63,8 +64,8 @@ slot-member (y ∷ ys) x = split (sameBytes y x)
 
 -- One name more
 
-pub one-more : {file : List ℕ} {titles : List (List ℕ)} {names : Names} (x : List ℕ) (start len : ℕ) → Titles file titles names → length titles < 8
-    → length (names .starts) ≡ 8 → length (names .lens) ≡ 8 → Stands file x start len
+pub one-more : {file : List ℕ} {titles : List (List ℕ)} {names : Names} (x : List ℕ) (start len : ℕ) → Titles file titles names → length titles < mostMethods
+    → length (names .starts) ≡ mostMethods → length (names .lens) ≡ mostMethods → Stands file x start len
     → Titles file (titles ++ (x ∷ []))
     (record { starts = set (names .starts) (names .count) start; lens = set (names .lens) (names .count) len; count = names .count + 1 })
 one-more {file} {titles} {names} x start len t room a b s =
@@ -116,35 +117,25 @@ name-stands {file} {ts} {values = values} {places = places} h i l x e =
 
 -- Names by kind
 
--- a lexeme of a name's kind is a name
-pub a-name : (l : Lexeme) → kindOf l ≡ 30 → (x : List ℕ) × (l ≡ name x)
-unfolding isName
-a-name l e = go l (kind-name l ∙ eq-eqb (kindOf l) 30 e)
-  where
-    go : (l : Lexeme) → isName l ≡ true → (x : List ℕ) × (l ≡ name x)
-    go (name x) h = (x, refl)
-    go (key k) h = clash h refl
-    go (number n) h = clash h refl
-    go (mark m) h = clash h refl
-
 -- one of another kind is a keyword, a number or a mark
 other-kind : (C : Lexeme → Type 0) → ((k : Keyword) → C (key k)) → ((n : ℕ) → C (number n)) → ((m : Mark) → C (mark m))
-    → (l : Lexeme) → (kindOf l ≡ 30 → ⊥) → C l
+    → (l : Lexeme) → (kindOf l ≡ nameKind → ⊥) → C l
 unfolding kindOf
 other-kind C f g h (name x) e = absurd (e refl)
 other-kind C f g h (key k) e = f k
 other-kind C f g h (number n) e = g n
 other-kind C f g h (mark m) e = h m
 
-pub wrong-other : (last l : Lexeme) (vs ms : List (List ℕ)) → (kindOf l ≡ 30 → ⊥) → wrongly last vs ms l ≡ false
+pub wrong-other : (last l : Lexeme) (vs ms : List (List ℕ)) → (kindOf l ≡ nameKind → ⊥) → wrongly last vs ms l ≡ false
 unfolding wrongly
 wrong-other last l vs ms = other-kind (λ l. wrongly last vs ms l ≡ false) (λ k. refl) (λ n. refl) (λ m. refl) l
 
-pub value-other : (titles : List (List ℕ)) (l : Lexeme) → (kindOf l ≡ 30 → ⊥) → slotOrValue titles l ≡ valueOf l
+pub value-other : (titles : List (List ℕ)) (l : Lexeme) → (kindOf l ≡ nameKind → ⊥) → slotOrValue titles l ≡ valueOf l
 unfolding slotOrValue valueOf
 value-other titles = other-kind (λ l. slotOrValue titles l ≡ valueOf l) (λ k. refl) (λ n. refl) (λ m. refl)
 
 pub wrong-name : (last : Lexeme) (vs ms : List (List ℕ)) (x : List ℕ)
-    → wrongly last vs ms (name x) ≡ wrongBy (eqb (kindOf last) 20) (eqb (kindOf last) 23) (eqb (kindOf last) 19) (member x vs) (member x ms)
-unfolding wrongly keywordNumber
+    → wrongly last vs ms (name x) ≡ wrongBy (eqb (kindOf last) (kindOf (key k-var))) (eqb (kindOf last) (kindOf (key k-method)))
+    (eqb (kindOf last) (kindOf (key k-monitor))) (member x vs) (member x ms)
+unfolding wrongly
 wrong-name last vs ms x = rw (kind-key k-var last, kind-key k-method last, kind-key k-monitor last)

@@ -6,6 +6,7 @@ use mathlib.Core.List.{List, [], _∷_, _++_, map}
 use mathlib.Core.Option.{Option, none, some}
 use lib.ListN.{length, take, drop, getD}
 use Rattle.syntax.specs.Bytes.{sameBytes}
+use Rattle.syntax.specs.Limits.{mostMethods}
 use Rattle.syntax.specs.Token.{Lexeme, name, key, number, mark, k-monitor, k-var, k-method, Token, isKey}
 use Rattle.syntax.specs.Held.Kind.{kindOf}
 use Rattle.meaning.specs.Decide.Check.{member}
@@ -52,10 +53,10 @@ pub record Stands (file x : List ℕ) (start len : ℕ) : Type 0 where
   pub inside : start + len ≤ length file
   pub bytes : take len (drop start file) ≡ x
 
--- at most eight names, each by where it stands in the file
+-- names, no more than methods may be, each by where it stands in the file
 pub record Titles (file : List ℕ) (titles : List (List ℕ)) (names : Names) : Type 0 where
   pub counted : names .count ≡ length titles
-  pub room : length titles ≤ 8
+  pub room : length titles ≤ mostMethods
   pub held : (k : ℕ) → k < length titles → Stands file (getD titles k []) (getD (names .starts) k 0) (getD (names .lens) k 0)
 
 -- the names as they were, or with a name that stands at a start behind them
@@ -63,7 +64,7 @@ abbrev pub Grows : Names → Bool → ℕ → ℕ → Names → Type 0
 Grows names adds start len after =
     (file : List ℕ) (titles : List (List ℕ)) → Titles file titles names
     → (adds ≡ false → Titles file titles after)
-    × ((x : List ℕ) → adds ≡ true → length titles < 8 → Stands file x start len → Titles file (titles ++ (x ∷ [])) after)
+    × ((x : List ℕ) → adds ≡ true → length titles < mostMethods → Stands file x start len → Titles file (titles ++ (x ∷ [])) after)
 
 -- is a name wrong: does it follow `var`, `method` or `monitor`, and is it declared as a variable and as a method
 unfoldable pub wrongBy : Bool → Bool → Bool → Bool → Bool → Bool

@@ -8,8 +8,10 @@ ghost use mathlib.Core.Option.{none};
 ghost use lib.ListN.{length};
 ghost use lib.Dec.{leb, eqb};
 ghost use Rattle.syntax.specs.Bytes.{sameBytes};
+ghost use Rattle.syntax.specs.Limits.{mostTokens, mostOpen, mostVars, mostMethods};
+ghost use Rattle.machine.specs.Limits.{mostRegions};
 ghost use Rattle.syntax.specs.Token.{Token, Lexeme, name, number, k-var, k-method, k-waituntil, isKey};
-ghost use Rattle.syntax.specs.Held.Kind.{kindOf, valueOf, Words};
+ghost use Rattle.syntax.specs.Held.Kind.{kindOf, valueOf, nameKind, Words};
 ghost use Rattle.meaning.specs.Accepted.{opens};
 ghost use Rattle.meaning.specs.Decide.Check.{tally, crowded, pastLimit, member, misnamed};
 ghost use Rattle.passes.specs.Tokens.{foundOf, titlesOf, slotIn, slotOrValue, Resolved, Stands, Titles, Grows};
@@ -20,27 +22,6 @@ pub enum Found {
     At(u16),
     Nothing,
 }
-
-const LBRACE: u8 = 0;
-
-const RBRACE: u8 = 1;
-
-const LPAREN: u8 = 2;
-
-const RPAREN: u8 = 3;
-
-const MONITOR: u8 = 19;
-
-const VAR: u8 = 20;
-
-const METHOD: u8 = 23;
-
-const WAITUNTIL: u8 = 24;
-
-// Also the kind before the first token, which declares nothing.
-const NUMBER: u8 = 29;
-
-const NAME: u8 = 30;
 
 // Is a kind one of two?
 fn either(kind: u8, a: u8, b: u8) -> bool
@@ -63,14 +44,13 @@ fn more(n: usize, one: bool) -> usize
 // Is this token past the 1,024th, or one that opens the thirteenth level?
 fn crowds(kind: u8, passed: usize, opened: usize, closed: usize) -> bool
     requires { ⌜ closed ≤ passed ⌝ }
-    ensures { λ r. ⌜ ((l : Lexeme) → kind ≡ kindOf l
-        → r ≡ (leb 1024 passed || (opens l && leb (closed + 12) opened))) ⌝ }
+    ensures { λ r. ⌜ ((l : Lexeme) → kind ≡ kindOf l → r ≡ (leb mostTokens passed || (opens l && leb (closed + mostOpen) opened))) ⌝ }
 {
-    if 1024 <= passed {
+    if syntax::TOKENS <= passed {
         return true;
     }
-    if either(kind, LBRACE, LPAREN) {
-        return closed + 12 <= opened;
+    if either(kind, syntax::LBRACE, syntax::LPAREN) {
+        return closed + syntax::OPEN <= opened;
     }
     false
 }
@@ -91,8 +71,8 @@ pub fn find_crowded(kinds: &[u8], places: &[u16]) -> Found
         if crowds(kind, i, opened, closed) {
             return Found::At(places[i]);
         }
-        opened = more(opened, either(kind, LBRACE, LPAREN));
-        closed = more(closed, either(kind, RBRACE, RPAREN));
+        opened = more(opened, either(kind, syntax::LBRACE, syntax::LPAREN));
+        closed = more(closed, either(kind, syntax::RBRACE, syntax::RPAREN));
         i += 1;
     }
     Found::Nothing
@@ -100,18 +80,17 @@ pub fn find_crowded(kinds: &[u8], places: &[u16]) -> Found
 
 // Is this token a var past 6, a method past 8 or a waituntil past 16?
 fn exceeds(kind: u8, vars: usize, methods: usize, regions: usize) -> bool
-    ensures { λ r. ⌜ ((l : Lexeme) → kind ≡ kindOf l
-        → r ≡ ((isKey k-var l && leb 6 vars) || (isKey k-method l && leb 8 methods)
-        || (isKey k-waituntil l && leb 16 regions))) ⌝ }
+    ensures { λ r. ⌜ ((l : Lexeme) → kind ≡ kindOf l → r ≡ ((isKey k-var l && leb mostVars vars) || (isKey k-method l && leb mostMethods methods)
+        || (isKey k-waituntil l && leb mostRegions regions))) ⌝ }
 {
-    if kind == VAR {
-        return 6 <= vars;
+    if kind == syntax::KEY_VAR {
+        return syntax::VARIABLES <= vars;
     }
-    if kind == METHOD {
-        return 8 <= methods;
+    if kind == syntax::KEY_METHOD {
+        return syntax::METHODS <= methods;
     }
-    if kind == WAITUNTIL {
-        return 16 <= regions;
+    if kind == syntax::KEY_WAITUNTIL {
+        return machine::REGIONS <= regions;
     }
     false
 }
@@ -134,18 +113,18 @@ pub fn find_past_limit(kinds: &[u8], places: &[u16]) -> Found
         if exceeds(kind, vars, methods, regions) {
             return Found::At(place);
         }
-        vars = more(vars, kind == VAR);
-        methods = more(methods, kind == METHOD);
-        regions = more(regions, kind == WAITUNTIL);
+        vars = more(vars, kind == syntax::KEY_VAR);
+        methods = more(methods, kind == syntax::KEY_METHOD);
+        regions = more(regions, kind == syntax::KEY_WAITUNTIL);
         i += 1;
     }
     Found::Nothing
 }
 
-// Up to eight declared names: where each begins in the file, and its length.
+// Declared names, as many as there may be methods: where each begins in the file, and its length.
 pub struct Names {
-    pub starts: [u16; 8],
-    pub lens: [u16; 8],
+    pub starts: [u16; syntax::METHODS],
+    pub lens: [u16; syntax::METHODS],
     pub count: usize,
 }
 
@@ -153,8 +132,8 @@ fn no_names() -> Names
     ensures { λ r. ⌜ ((file : List ℕ) → Titles file [] r) ⌝ }
 {
     Names {
-        starts: [0u16; 8],
-        lens: [0u16; 8],
+        starts: [0u16; syntax::METHODS],
+        lens: [0u16; syntax::METHODS],
         count: 0,
     }
 }
@@ -179,12 +158,12 @@ fn same_part(file: &[u8], a: u16, a_len: u16, b: u16, b_len: u16) -> bool
 
 // The slot of a name among the declared ones, or their count.
 fn slot_of(file: &[u8], names: Names, start: u16, len: u16) -> usize
-    ensures within { λ r. ⌜ r ≤ 8 ⌝ }
+    ensures within { λ r. ⌜ r ≤ mostMethods ⌝ }
     ensures slot { λ r. ⌜ ((titles : List (List ℕ)) (x : List ℕ) → Titles (now (file .entry)) titles names
         → Stands (now (file .entry)) x start len → r ≡ slotIn titles x) ⌝ }
 {
     let mut i = 0;
-    while i < names.count && i < 8 {
+    while i < names.count && i < syntax::METHODS {
         if same_part(file, names.starts[i], names.lens[i], start, len) {
             return i;
         }
@@ -203,12 +182,12 @@ fn among(file: &[u8], names: Names, start: u16, len: u16) -> bool
 
 // Is this a name behind the keyword?
 fn declares(kind: u8, before: u8, keyword: u8) -> bool
-    ensures { λ r. ⌜ r ≡ (eqb kind 30 && eqb before keyword) ⌝ }
+    ensures { λ r. ⌜ r ≡ (eqb kind nameKind && eqb before keyword) ⌝ }
 {
-    kind == NAME && before == keyword
+    kind == syntax::NAME && before == keyword
 }
 
-// One name more, where it is to be added and there are not eight.
+// One name more, where it is to be added and there is room.
 fn declared(names: Names, adds: bool, start: u16, len: u16) -> Names
     ensures { λ r. ⌜ Grows names adds start len r ⌝ }
 {
@@ -216,7 +195,7 @@ fn declared(names: Names, adds: bool, start: u16, len: u16) -> Names
     if !adds {
         return names;
     }
-    if 8 <= at {
+    if syntax::METHODS <= at {
         return names;
     }
     let mut more = names;
@@ -238,17 +217,17 @@ fn wrong(
 ) -> bool
     ensures { λ r. ⌜ Judges (now (file .entry)) vars methods kind before start len r ⌝ }
 {
-    if kind != NAME {
+    if kind != syntax::NAME {
         return false;
     }
-    if before == METHOD {
+    if before == syntax::KEY_METHOD {
         return among(file, methods, start, len);
     }
-    if before == MONITOR {
+    if before == syntax::KEY_MONITOR {
         return false;
     }
     let known = among(file, vars, start, len);
-    if before == VAR {
+    if before == syntax::KEY_VAR {
         return known;
     }
     !known
@@ -269,7 +248,8 @@ pub fn find_misnamed(file: &[u8], kinds: &[u8], values: &[u16], places: &[u16]) 
     }
     let mut vars = no_names();
     let mut methods = no_names();
-    let mut before = NUMBER;
+    // Before the first token a kind that declares nothing.
+    let mut before = syntax::NUMBER;
     let mut i = 0;
     while i < kinds.len() {
         let kind = kinds[i];
@@ -278,8 +258,13 @@ pub fn find_misnamed(file: &[u8], kinds: &[u8], values: &[u16], places: &[u16]) 
         if wrong(file, vars, methods, kind, before, start, len) {
             return Found::At(start);
         }
-        vars = declared(vars, declares(kind, before, VAR), start, len);
-        methods = declared(methods, declares(kind, before, METHOD), start, len);
+        vars = declared(vars, declares(kind, before, syntax::KEY_VAR), start, len);
+        methods = declared(
+            methods,
+            declares(kind, before, syntax::KEY_METHOD),
+            start,
+            len,
+        );
         before = kind;
         i += 1;
     }
@@ -299,11 +284,17 @@ pub fn variables(kinds: &[u8], values: &[u16], places: &[u16]) -> Names
     if places.len() != kinds.len() {
         return vars;
     }
-    let mut before = NUMBER;
+    // Before the first token a kind that declares nothing.
+    let mut before = syntax::NUMBER;
     let mut i = 0;
     while i < kinds.len() {
         let kind = kinds[i];
-        vars = declared(vars, declares(kind, before, VAR), places[i], values[i]);
+        vars = declared(
+            vars,
+            declares(kind, before, syntax::KEY_VAR),
+            places[i],
+            values[i],
+        );
         before = kind;
         i += 1;
     }
@@ -316,7 +307,7 @@ fn slot_or_value(file: &[u8], vars: Names, kind: u8, start: u16, value: u16) -> 
         → value ≡ valueOf l
         → ((x : List ℕ) → l ≡ name x → Stands (now (file .entry)) x start value) → r ≡ slotOrValue titles l) ⌝ }
 {
-    if kind == NAME {
+    if kind == syntax::NAME {
         return slot_of(file, vars, start, value) as u16;
     }
     value

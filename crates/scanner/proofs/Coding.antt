@@ -9,41 +9,28 @@ use lib.ListN.{length, take, drop, getD, length-drop}
 use lib.Dec.{leb}
 use borrow.Author.Tests.{leb-true, leb-false}
 use Rattle.syntax.specs.Bytes.{letter, digit, wordByte, leading, decimal}
-use Rattle.syntax.specs.Token.{Lexeme, Keyword, number, mark, keywords, keywordNumber}
+use Rattle.syntax.specs.Token.{Lexeme, number, mark, keywords}
 use Rattle.syntax.specs.Decide.Scan.{Scan, nothing, found, scan, wordOf}
-use Rattle.syntax.specs.Token as syntax
 use Rattle.scanner.specs.Step.{keyCode, tokenOf, wordAt, numberAt}
 use Rattle.scanner.specs.Coded.{lexemeCode, codeOf, Within}
-use Rattle.syntax.specs.Held.Kind.{kindOf, valueOf}
+use Rattle.syntax.specs.Held.Kind.{kindOf, valueOf, nameKind, firstKeyword, keywordCount}
+use Rattle.syntax.proofs.ByKind.{keyword-few}
 use Rattle.scanner.specs.declared.Token.the-variants.{Word}
 use Rattle.scanner.proofs.FirstElement.{by-cases, leading-le, leading-more-at}
 use Rattle.scanner.proofs.Marks.{MarkOr, none, one, marks-or}
 use Rattle.scanner.proofs.Scanning.{WordOr, a-name, a-key, word-or, over, within, scan-end, scan-word, scan-number, scan-mark}
 
-keyword-below : (k : Keyword) → keywordNumber k < 10
-unfolding keywordNumber
-keyword-below syntax.k-monitor = omega arith
-keyword-below syntax.k-var = omega arith
-keyword-below syntax.k-in = omega arith
-keyword-below syntax.k-keep = omega arith
-keyword-below syntax.k-method = omega arith
-keyword-below syntax.k-waituntil = omega arith
-keyword-below syntax.k-if = omega arith
-keyword-below syntax.k-else = omega arith
-keyword-below syntax.k-true = omega arith
-keyword-below syntax.k-false = omega arith
-
-pub key-at-most : {w : List ℕ} {l : Lexeme} → WordOr w l → keyCode l ≤ 10
+pub key-at-most : {w : List ℕ} {l : Lexeme} → WordOr w l → keyCode l ≤ keywordCount
 unfolding keyCode
 key-at-most a-name = omega arith
-key-at-most (a-key k) = omega (arith, keyword-below k)
+key-at-most (a-key k) = omega (arith, keyword-few k)
 
-pub name-code : {w : List ℕ} {l : Lexeme} → WordOr w l → keyCode l ≡ 10 → lexemeCode l ≡ record { kind = 30; value = length w }
+pub name-code : {w : List ℕ} {l : Lexeme} → WordOr w l → keyCode l ≡ keywordCount → lexemeCode l ≡ record { kind = nameKind; value = length w }
 unfolding keyCode kindOf valueOf
 name-code a-name e = refl
-name-code (a-key k) e = absurd (omega (arith, keyword-below k))
+name-code (a-key k) e = absurd (omega (arith, keyword-few k))
 
-pub key-code : {w : List ℕ} {l : Lexeme} → WordOr w l → (keyCode l ≡ 10 → ⊥) → lexemeCode l ≡ record { kind = 19 + keyCode l; value = 0 }
+pub key-code : {w : List ℕ} {l : Lexeme} → WordOr w l → (keyCode l ≡ keywordCount → ⊥) → lexemeCode l ≡ record { kind = firstKeyword + keyCode l; value = 0 }
 unfolding keyCode kindOf valueOf
 key-code a-name n = absurd (n refl)
 key-code (a-key k) n = refl

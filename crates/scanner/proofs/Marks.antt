@@ -13,7 +13,8 @@ use lib.Seq.{drop-cons, getD-drop}
 use lib.Dec.{eqb}
 use borrow.Author.Tests.{ne-eqb, not-true}
 use Rattle.syntax.specs.Bytes.{bytes, startsWith}
-use Rattle.syntax.specs.Token.{Mark, marks, markNumber, mark}
+use Rattle.syntax.specs.Token.{Mark, marks, markNumber, mark, equals, bang, below, above}
+use Rattle.syntax.specs.Held.Kind.{kindOf}
 use Rattle.syntax.specs.Decide.Scan.{Scan, markOf, nothing, found}
 use Rattle.scanner.specs.Step.{marked, tokenOf, stepOf, stepTo}
 use Rattle.scanner.specs.declared.Marked.{Marked}
@@ -26,12 +27,12 @@ two a b = marked (markOf marks (a ∷ b ∷ []))
 
 -- after `=`, `:`, `!`, `<`, `>`, a byte that is not `=`
 pub not-61 : (b : ℕ) → (b ≡ 61 → ⊥)
-    → (two 61 b ≡ record { 0 = 5; 1 = 1 })
+    → (two 61 b ≡ record { 0 = kindOf (mark equals); 1 = 1 })
     × (two 58 b ≡ record { 0 = 0; 1 = 0 })
-    × (two 33 b ≡ record { 0 = 16; 1 = 1 })
-    × (two 60 b ≡ record { 0 = 10; 1 = 1 })
-    × (two 62 b ≡ record { 0 = 12; 1 = 1 })
-unfolding marked markOf marks startsWith bytes markNumber
+    × (two 33 b ≡ record { 0 = kindOf (mark bang); 1 = 1 })
+    × (two 60 b ≡ record { 0 = kindOf (mark below); 1 = 1 })
+    × (two 62 b ≡ record { 0 = kindOf (mark above); 1 = 1 })
+unfolding marked markOf marks startsWith bytes kindOf markNumber
 not-61 b n =
     let e = ne-eqb 61 b (λ q. n (sym q)) in
     (cc, cc, cc, cc, cc)
@@ -39,7 +40,7 @@ not-61 b n =
 -- after `.`, a byte that is not `.`
 pub not-46 : (b : ℕ) → (b ≡ 46 → ⊥)
     → two 46 b ≡ record { 0 = 0; 1 = 0 }
-unfolding marked markOf marks startsWith bytes markNumber
+unfolding marked markOf marks startsWith bytes kindOf markNumber
 not-46 b n =
     let e = ne-eqb 46 b (λ q. n (sym q)) in
     cc
@@ -47,7 +48,7 @@ not-46 b n =
 -- after `&`, a byte that is not `&`
 pub not-38 : (b : ℕ) → (b ≡ 38 → ⊥)
     → two 38 b ≡ record { 0 = 0; 1 = 0 }
-unfolding marked markOf marks startsWith bytes markNumber
+unfolding marked markOf marks startsWith bytes kindOf markNumber
 not-38 b n =
     let e = ne-eqb 38 b (λ q. n (sym q)) in
     cc
@@ -55,7 +56,7 @@ not-38 b n =
 -- after `|`, a byte that is not `|`
 pub not-124 : (b : ℕ) → (b ≡ 124 → ⊥)
     → two 124 b ≡ record { 0 = 0; 1 = 0 }
-unfolding marked markOf marks startsWith bytes markNumber
+unfolding marked markOf marks startsWith bytes kindOf markNumber
 not-124 b n =
     let e = ne-eqb 124 b (λ q. n (sym q)) in
     cc

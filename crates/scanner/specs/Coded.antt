@@ -6,6 +6,7 @@ use mathlib.Core.List.{List, map}
 use lib.ListN.{length, take, drop}
 use lib.Dec.{ltb}
 use Rattle.syntax.specs.Held.Kind.{kindOf, valueOf}
+use Rattle.syntax.specs.Limits.{mostBytes, mostWordBytes}
 use Rattle.syntax.specs.Token.{Lexeme, number, Token, keywords}
 use Rattle.syntax.specs.Decide.Scan.{Tokens, tokens, none-at, tokenize, wordOf}
 use Rattle.scanner.specs.declared.Token as token
@@ -26,7 +27,7 @@ codeOf file None = record { kind = 0; value = 0 }
 
 -- a word lies in the file, and is short
 unfoldable pub Within : List ℕ → token.Token → Type 0
-Within file (Word f e) = (f ≤ e) × (e ≤ length file) × (e ≤ f + 16)
+Within file (Word f e) = (f ≤ e) × (e ≤ length file) × (e ≤ f + mostWordBytes)
 Within file (Number v) = Unit
 Within file (Mark m) = Unit
 Within file None = Unit
@@ -42,7 +43,7 @@ scannedAs (tokens ts) = scanned.Tokens (length ts)
 scannedAs (none-at k) = scanned.Bad k
 
 unfoldable pub scannedOf : List ℕ → Scanned
-scannedOf file = elim (ltb 8192 (length file)) [ true ↦ scanned.TooLong | false ↦ scannedAs (tokenize file) ]
+scannedOf file = elim (ltb mostBytes (length file)) [ true ↦ scanned.TooLong | false ↦ scannedAs (tokenize file) ]
 
 -- the whole promise of a scan: its answer, and the tokens where it answers with their count
 pub record Scans (file : List ℕ) (r : Scanned) (kinds values places : List ℕ) : Type 0 where

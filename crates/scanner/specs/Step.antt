@@ -5,7 +5,9 @@ use mathlib.Core.List.{List, [], _∷_}
 use lib.ListN.{take, drop}
 use lib.Dec.{eqb}
 use Rattle.syntax.specs.Bytes.{blank, digit, wordByte, leading, decimal, sameBytes}
-use Rattle.syntax.specs.Token.{Lexeme, name, key, number, mark, markNumber, keywordNumber, keywords}
+use Rattle.syntax.specs.Limits.{mostWordBytes, mostDigits}
+use Rattle.syntax.specs.Token.{Lexeme, name, key, number, mark, keywordNumber, keywords}
+use Rattle.syntax.specs.Held.Kind.{kindOf, keywordCount}
 use Rattle.syntax.specs.Decide.Scan.{nothing, found, scan, atMost, wordOf}
 use Rattle.syntax.specs.Decide.Scan as syntax
 use Rattle.scanner.specs.declared.Token.{Token}
@@ -20,31 +22,31 @@ passes k b = elim (eqb k 0) [ true ↦ blank b | false ↦ elim (eqb k 1) [ true
 abbrev pub Scan : Type 0
 Scan = syntax.Scan
 
--- the number and the length of a mark, and 0 and 0 where there is none
+-- the kind and the length of a mark, and 0 and 0 where there is none
 unfoldable pub marked : Scan → Marked
 marked nothing = record { 0 = 0; 1 = 0 }
 marked (found (name x) n) = record { 0 = 0; 1 = 0 }
 marked (found (key k) n) = record { 0 = 0; 1 = 0 }
 marked (found (number v) n) = record { 0 = 0; 1 = 0 }
-marked (found (mark m) n) = record { 0 = markNumber m; 1 = n }
+marked (found (mark m) n) = record { 0 = kindOf (mark m); 1 = n }
 
 -- the number of the first of some words that a text is, and their count where it is none of them
 unfoldable pub place : List (List ℕ) → List ℕ → ℕ
 place [] w = 0
 place (k ∷ ks) w = elim (sameBytes k w) [ true ↦ 0 | false ↦ suc (place ks w) ]
 
--- the number of a keyword, and 10 for a name
+-- the number of a keyword, and their count where there is none
 unfoldable pub keyCode : Lexeme → ℕ
-keyCode (name x) = 10
+keyCode (name x) = keywordCount
 keyCode (key k) = keywordNumber k
-keyCode (number n) = 10
-keyCode (mark m) = 10
+keyCode (number n) = keywordCount
+keyCode (mark m) = keywordCount
 
 unfoldable pub tokenOf : ℕ → ℕ → Lexeme → Token
 tokenOf s n (name x) = Word s (s + n)
 tokenOf s n (key k) = Word s (s + n)
 tokenOf s n (number v) = Number v
-tokenOf s n (mark m) = Mark (markNumber m)
+tokenOf s n (mark m) = Mark (kindOf (mark m))
 
 abbrev pub stepTo : Token → ℕ → ℕ → Step
 stepTo t s e = record { token = t; start = s; next = record { at = e } }
@@ -55,10 +57,10 @@ stepOf s (found l n) = stepTo (tokenOf s n l) s (s + n)
 
 -- the word, and the number, at the front of some bytes, as `scan` has them
 abbrev pub wordAt : List ℕ → Scan
-wordAt bs = atMost 16 (leading wordByte bs) (wordOf keywords (take (leading wordByte bs) bs))
+wordAt bs = atMost mostWordBytes (leading wordByte bs) (wordOf keywords (take (leading wordByte bs) bs))
 
 abbrev pub numberAt : List ℕ → Scan
-numberAt bs = atMost 3 (leading digit bs) (number (decimal 0 (take (leading digit bs) bs)))
+numberAt bs = atMost mostDigits (leading digit bs) (number (decimal 0 (take (leading digit bs) bs)))
 
 -- the token behind the blanks at a place of a file
 unfoldable pub stepAt : List ℕ → ℕ → Step

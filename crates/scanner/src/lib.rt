@@ -7,6 +7,7 @@ ghost use Prim.Native.Nat.{_+_, _-_, _≤_, _<_};
 ghost use lib.ListN.{take, drop, getD, length};
 ghost use Rattle.syntax.specs.Bytes.{blank, letter, digit, wordByte, leading, decimal, sameBytes};
 ghost use Rattle.syntax.specs.Decide.Scan.{markOf, wordOf, nothing, scan as scanned};
+ghost use Rattle.syntax.specs.Limits.{mostBytes, mostWordBytes, mostDigits};
 ghost use Rattle.syntax.specs.Token.{marks, keywords};
 ghost use Rattle.scanner.specs.Step.{passes, marked, place, keyCode, wordAt, numberAt, stepOf, stepTo, stepAt};
 ghost use Rattle.scanner.specs.Coded.{lexemeCode, Within, codeOf, Scans};
@@ -36,18 +37,17 @@ pub struct Step {
     pub next: Cursor,
 }
 
-// How many tokens a file has; the first byte that begins none (2); or that it is over 8,192 bytes (1).
+// How many tokens a file has; the first byte that begins none (2); or that it is too long (1).
 pub enum Scanned {
     Tokens(usize),
     Bad(usize),
     TooLong,
 }
 
-// A mark's number and how many bytes it has: 0 where there is none.
+// A mark's kind and how many bytes it has: 0 where there is none.
 struct Marked(u8, usize);
 
-// How a token is held: a mark's number, 19 and a keyword's number, 29 for a number, 30 for a name; with a number's value or a name's
-// length.
+// How a token is held: its kind, with a number's value or a name's length.
 struct Code {
     kind: u8,
     value: u16,
@@ -59,16 +59,6 @@ const BLANK: u8 = 0;
 const WORD: u8 = 1;
 
 const DIGIT: u8 = 2;
-
-// What stands for a keyword where there is none.
-const NO_KEYWORD: u8 = 10;
-
-// The kinds behind those of marks.
-const KEYWORD: u8 = 19;
-
-const NUMBER: u8 = 29;
-
-const NAME: u8 = 30;
 
 fn is_blank(b: u8) -> bool
     ensures { λ r. ⌜ r ≡ blank b ⌝ }
@@ -125,50 +115,50 @@ fn mark_of(a: u8, b: u8) -> Marked
     ensures { λ r. ⌜ r ≡ marked (markOf marks (a ∷ b ∷ [])) ⌝ }
 {
     match a {
-        b'{' => Marked(0, 1),
-        b'}' => Marked(1, 1),
-        b'(' => Marked(2, 1),
-        b')' => Marked(3, 1),
-        b';' => Marked(4, 1),
+        b'{' => Marked(syntax::LBRACE, 1),
+        b'}' => Marked(syntax::RBRACE, 1),
+        b'(' => Marked(syntax::LPAREN, 1),
+        b')' => Marked(syntax::RPAREN, 1),
+        b';' => Marked(syntax::SEMICOLON, 1),
         b'=' => if b == b'=' {
-            Marked(8, 2)
+            Marked(syntax::SAME, 2)
         } else {
-            Marked(5, 1)
+            Marked(syntax::EQUALS, 1)
         },
         b'.' => if b == b'.' {
-            Marked(6, 2)
+            Marked(syntax::DOTS, 2)
         } else {
             Marked(0, 0)
         },
         b':' => if b == b'=' {
-            Marked(7, 2)
+            Marked(syntax::BECOMES, 2)
         } else {
             Marked(0, 0)
         },
         b'!' => if b == b'=' {
-            Marked(9, 2)
+            Marked(syntax::DIFFERS, 2)
         } else {
-            Marked(16, 1)
+            Marked(syntax::BANG, 1)
         },
         b'<' => if b == b'=' {
-            Marked(11, 2)
+            Marked(syntax::AT_MOST, 2)
         } else {
-            Marked(10, 1)
+            Marked(syntax::BELOW, 1)
         },
         b'>' => if b == b'=' {
-            Marked(13, 2)
+            Marked(syntax::AT_LEAST, 2)
         } else {
-            Marked(12, 1)
+            Marked(syntax::ABOVE, 1)
         },
-        b'+' => Marked(14, 1),
-        b'-' => Marked(15, 1),
+        b'+' => Marked(syntax::PLUS, 1),
+        b'-' => Marked(syntax::MINUS, 1),
         b'&' => if b == b'&' {
-            Marked(17, 2)
+            Marked(syntax::AND_AND, 2)
         } else {
             Marked(0, 0)
         },
         b'|' => if b == b'|' {
-            Marked(18, 2)
+            Marked(syntax::OR_OR, 2)
         } else {
             Marked(0, 0)
         },
@@ -212,7 +202,7 @@ fn place_of(part: &[u8], a: &[u8], b: &[u8], c: &[u8], d: &[u8], e: &[u8]) -> u8
     }
 }
 
-// The number of the reserved word that a part of the file is, and 10 where it is none.
+// The number of the reserved word that a part of the file is, and their count where it is none.
 fn keyword_of(part: &[u8]) -> u8
     ensures { λ r. ⌜ r ≡ keyCode (wordOf keywords (now (part .entry))) ⌝ }
 {
@@ -223,9 +213,9 @@ fn keyword_of(part: &[u8]) -> u8
     5 + place_of(part, b"waituntil", b"if", b"else", b"true", b"false")
 }
 
-// The value of at most three digits.
+// The value of few enough digits.
 fn value_of(part: &[u8]) -> u16
-    requires { ⌜ (length (now part) ≤ 3) × (leading digit (now part) ≡ length (now part)) ⌝ }
+    requires { ⌜ (length (now part) ≤ mostDigits) × (leading digit (now part) ≡ length (now part)) ⌝ }
     ensures { λ r. ⌜ r ≡ decimal 0 (now (part .entry)) ⌝ }
 {
     let mut n: u16 = 0;
@@ -268,7 +258,7 @@ fn word_at(file: &[u8], start: usize) -> Step
     ensures { λ r. ⌜ r ≡ stepOf start (wordAt (drop start (now (file .entry)))) ⌝ }
 {
     let end = run_end(file, start, WORD);
-    if 16 < end - start {
+    if syntax::WORD_BYTES < end - start {
         none_at(start)
     } else {
         found(Token::Word(start, end), start, end)
@@ -280,7 +270,7 @@ fn number_at(file: &[u8], start: usize) -> Step
     ensures { λ r. ⌜ r ≡ stepOf start (numberAt (drop start (now (file .entry)))) ⌝ }
 {
     let end = run_end(file, start, DIGIT);
-    if 3 < end - start {
+    if syntax::NUMBER_DIGITS < end - start {
         none_at(start)
     } else {
         found(Token::Number(value_of(&file[start..end])), start, end)
@@ -359,18 +349,18 @@ fn read_token(file: &[u8], at: usize) -> Step
 
 // How a word of the file is held.
 fn word_code(file: &[u8], from: usize, end: usize) -> Code
-    requires { ⌜ (from ≤ end) × (end ≤ length (now file)) × (end ≤ from + 16) ⌝ }
+    requires { ⌜ (from ≤ end) × (end ≤ length (now file)) × (end ≤ from + mostWordBytes) ⌝ }
     ensures { λ r. ⌜ r ≡ lexemeCode (wordOf keywords (take (end - from) (drop from (now (file .entry))))) ⌝ }
 {
     let key = keyword_of(&file[from..end]);
-    if key == NO_KEYWORD {
+    if key == syntax::KEYWORDS {
         Code {
-            kind: NAME,
+            kind: syntax::NAME,
             value: (end - from) as u16,
         }
     } else {
         Code {
-            kind: KEYWORD + key,
+            kind: syntax::FIRST_KEYWORD + key,
             value: 0,
         }
     }
@@ -384,7 +374,7 @@ fn code_of(file: &[u8], token: Token) -> Code
     match token {
         Token::Word(from, end) => word_code(file, from, end),
         Token::Number(value) => Code {
-            kind: NUMBER,
+            kind: syntax::NUMBER,
             value: value,
         },
         Token::Mark(mark) => Code {
@@ -397,15 +387,15 @@ fn code_of(file: &[u8], token: Token) -> Code
 
 // The tokens of a file, into slices that are long enough.
 fn scan_into(file: &[u8], kinds: &mut [u8], values: &mut [u16], places: &mut [u16]) -> Scanned
-    requires { ⌜ (length (now kinds) ≡ 8192) × (length (now values) ≡ 8192) × (length (now places) ≡ 8192) ⌝ }
+    requires { ⌜ (length (now kinds) ≡ mostBytes) × (length (now values) ≡ mostBytes) × (length (now places) ≡ mostBytes) ⌝ }
     ensures { λ r. ⌜ Scans (now (file .entry)) r (now (kinds .exit)) (now (values .exit)) (now (places .exit)) ⌝ }
 {
-    if 8192 < file.len() {
+    if syntax::FILE_BYTES < file.len() {
         return Scanned::TooLong;
     }
     let mut cursor = Cursor::new();
     let mut n: usize = 0;
-    while n < 8192 {
+    while n < syntax::FILE_BYTES {
         let at = cursor.at;
         let step = read_token(file, at);
         let start = step.start;
@@ -427,12 +417,12 @@ fn scan_into(file: &[u8], kinds: &mut [u8], values: &mut [u16], places: &mut [u1
     Scanned::Tokens(n)
 }
 
-// The tokens of a file of at most 8,192 bytes: each token's kind, a number's value or a name's length, and its place.
+// The tokens of a file that is not too long: each token's kind, a number's value or a name's length, and its place.
 pub fn scan(
     file: &[u8],
-    kinds: &mut [u8; 8192],
-    values: &mut [u16; 8192],
-    places: &mut [u16; 8192],
+    kinds: &mut [u8; syntax::FILE_BYTES],
+    values: &mut [u16; syntax::FILE_BYTES],
+    places: &mut [u16; syntax::FILE_BYTES],
 ) -> Scanned
     ensures { λ r. ⌜ Scans (now (file .entry)) r (now (kinds .exit)) (now (values .exit)) (now (places .exit)) ⌝ }
 {

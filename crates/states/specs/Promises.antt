@@ -7,6 +7,8 @@ use mathlib.Core.List.{List, _∷_, _++_}
 use lib.ListN.{length, getD, drop}
 use lib.Dec.{eqb}
 use lib.IntN.{ℤ}
+use Rattle.syntax.specs.Limits.{mostVars}
+use Rattle.machine.specs.Limits.{mostStates}
 use Rattle.syntax.specs.Token.{Lexeme, mark, rbrace}
 use Rattle.sets.specs.Set.{member}
 use Rattle.syntax.specs.Tree.{Monitor, Var, Cond, Region, spellCond, spellBlock}
@@ -41,14 +43,14 @@ pub record Guards (m : Monitor) (kinds values : List ℕ) (bounds : Bounds) (ats
 
 -- six values stand at a place and every sixteenth behind it, and all else is as it was
 pub record Put (xs : List ℕ) (at : ℕ) (values ys : List ℕ) : Type 0 where
-  pub here : (k : ℕ) → k < 6 → (n : ℕ) → n ≡ at + k * 16 → getD ys n 0 ≡ getD values k 0
-  pub others : (n : ℕ) → ((k : ℕ) → k < 6 → n ≡ at + k * 16 → ⊥) → getD ys n 0 ≡ getD xs n 0
+  pub here : (k : ℕ) → k < mostVars → (n : ℕ) → n ≡ at + k * 16 → getD ys n 0 ≡ getD values k 0
+  pub others : (n : ℕ) → ((k : ℕ) → k < mostVars → n ≡ at + k * 16 → ⊥) → getD ys n 0 ≡ getD xs n 0
 
 -- the values of state s stand in lane j
 pub record InLane (vs : List Var) (lanes : List ℕ) (j s : ℕ) : Type 0 where
   pub values : List ℕ
   pub biased : Biased vs (stateAt vs s) values
-  pub places : (k : ℕ) → k < 6 → (n : ℕ) → n ≡ j + k * 16 → getD lanes n 0 ≡ getD values k 0
+  pub places : (k : ℕ) → k < mostVars → (n : ℕ) → n ≡ j + k * 16 → getD lanes n 0 ≡ getD values k 0
 
 -- what holds of lane j and the state in it, for the sixteen states from one on
 pub record Sixteen (vs : List Var) (P : ℕ → ℕ → Type 0) (from : ℕ) : Type 0 where

@@ -6,6 +6,7 @@ use mathlib.Core.List.{List, _∷_, _++_}
 use mathlib.Core.Option.{Option, none, some}
 use lib.ListN.{length, getD, drop}
 use lib.IntN.{ℤ}
+use Rattle.machine.specs.Limits.{mostStates}
 use Rattle.sets.specs.Set.{member}
 use Rattle.syntax.specs.Token.{Lexeme, mark, rbrace}
 use Rattle.syntax.specs.Tree.{Var, Region, Monitor, spellCond, spellBlock}
@@ -45,7 +46,7 @@ HoldsAll m rows = (g s : ℕ) → g < length (guards m) → s < count (vars m) �
 -- the state after every region's body, where it may run
 unfoldable pub AfterAll : Monitor → List ℕ → Type 0
 AfterAll m rows =
-    (r s : ℕ) → r < length (regions m) → runs (model m) r s ≡ true → getD rows (r * 4096 + s) 0 ≡ after m r s
+    (r s : ℕ) → r < length (regions m) → runs (model m) r s ≡ true → getD rows (r * mostStates + s) 0 ≡ after m r s
 
 -- The outcome of a body as a number: that of the state after it, or the mark of a fault, which is no state's
 

@@ -7,6 +7,8 @@ ghost use mathlib.Core.List.{List, _++_};
 ghost use Prim.Native.Nat.{ℕ, _+_, _%_, _<_, _≤_};
 ghost use lib.ListN.{drop, length, getD};
 ghost use lib.IntN.{ℤ};
+ghost use Rattle.syntax.specs.Limits.{mostBytes};
+ghost use Rattle.machine.specs.Limits.{mostRegions, mostStates, mostAfter};
 ghost use Rattle.sets.specs.Set.{member};
 ghost use Rattle.syntax.specs.Token.{Lexeme};
 ghost use Rattle.syntax.specs.Tree.{Monitor, Var, Cond, Region, spellCond};
@@ -24,7 +26,7 @@ ghost use Rattle.variables.specs.declared.Bounds.{Bounds};
 ghost use Rattle.states.specs.Promises.{Put, Condition, Guards, Sixteen, Values, Truths, Body, Moves, runsBy, failsBy, breaksBy, Lowest};
 
 // The outcome of a body that leaves a range: no state's number.
-const FAULT: u16 = 4096;
+const FAULT: u16 = machine::STATE_END;
 
 // Every region keeps, or the lowest region and then the lowest state from which one does not (9).
 pub enum Broken {
@@ -40,12 +42,12 @@ fn wide(at: u16) -> usize
 }
 
 // A state's values at a place and every sixteenth behind it.
-fn put_values(all: &mut [u16], at: usize, values: [u16; 6])
+fn put_values(all: &mut [u16], at: usize, values: [u16; syntax::VARIABLES])
     requires { ⌜ at + 80 < length (now all) ⌝ }
     ensures { λ _. ⌜ Put (now (all .entry)) at values (now (all .exit)) ⌝ }
 {
     let mut k: usize = 0;
-    while k < 6 {
+    while k < syntax::VARIABLES {
         all[at + k * 16] = values[k];
         k += 1;
     }
@@ -53,7 +55,7 @@ fn put_values(all: &mut [u16], at: usize, values: [u16; 6])
 
 // The values of the sixteen states from one on.
 fn lanes_at(bounds: Bounds, from: usize) -> [u16; 96]
-    requires { ⌜ from ≤ 4096 ⌝ }
+    requires { ⌜ from ≤ mostStates ⌝ }
     ensures { λ r. ⌜ ((vs : List Var) → Bounded vs bounds → Sixteen vs (Values vs r) from) ⌝ }
 {
     let mut lanes = [0u16; 96];
@@ -67,7 +69,7 @@ fn lanes_at(bounds: Bounds, from: usize) -> [u16; 96]
 }
 
 // Whether the condition that begins at a token holds at some values.
-pub fn holds_at(kinds: &[u8], values: &[u16], vars: [u16; 6], at: usize) -> bool
+pub fn holds_at(kinds: &[u8], values: &[u16], vars: [u16; syntax::VARIABLES], at: usize) -> bool
     ensures { λ r. ⌜ ((vs : List Var) (as′ : List ℤ) (ls us : List Lexeme) (c : Cond)
         → Codes vs ls (now (kinds .entry)) (now (values .entry)) → Biased vs as′ vars
         → drop at ls ≡ spellCond c ++ us → EndsCond us → length ls < 8193
@@ -88,10 +90,10 @@ fn bit_of(b: bool) -> u8
 // The truth of the condition that begins at a token, 1 or 0, at every state.
 pub fn fill_row(kinds: &[u8], values: &[u16], bounds: Bounds, at: usize, row: &mut [u8])
     ensures { λ _. ⌜ ((vs : List Var) (c : Cond) → Condition vs c (now (kinds .entry)) (now (values .entry)) bounds at
-        → 4096 ≤ length (now (row .entry)) → TruthRow vs (truth c vs) (now (row .exit))) ⌝ }
+        → mostStates ≤ length (now (row .entry)) → TruthRow vs (truth c vs) (now (row .exit))) ⌝ }
 {
     let states = bounds.states;
-    if 4096 < states {
+    if machine::STATES < states {
         return;
     }
     if row.len() < states {
@@ -114,11 +116,11 @@ fn guards_from(
     kinds: &[u8],
     values: &[u16],
     lanes: &[u16; 96],
-    ats: [u16; 16],
+    ats: [u16; machine::REGIONS],
     count: usize,
     known: &mut [u16],
 )
-    requires { ⌜ (count ≤ 16) × (length (now known) ≡ 16) ⌝ }
+    requires { ⌜ (count ≤ mostRegions) × (length (now known) ≡ mostRegions) ⌝ }
     ensures { λ _. ⌜ ((m : Monitor) (bounds : Bounds) (from : ℕ) → Guards m (now (kinds .entry)) (now (values .entry)) bounds ats count
         → Sixteen (vars m) (Values (vars m) (now (lanes .entry))) from
         → Sixteen (vars m) (Truths m (now (known .exit))) from) ⌝ }
@@ -133,7 +135,7 @@ fn guards_from(
 
 // The guards that hold in lane j, as a set.
 fn guards_in(known: &[u16], j: u32, count: usize) -> u16
-    requires { ⌜ (count ≤ 16) × (length (now known) ≡ 16) ⌝ }
+    requires { ⌜ (count ≤ mostRegions) × (length (now known) ≡ mostRegions) ⌝ }
     ensures { λ r. ⌜ ((g : ℕ) → g < count → member r g ≡ member (getD (now (known .entry)) g 0) j) ⌝ }
 {
     let mut set: u16 = 0;
@@ -152,24 +154,24 @@ pub fn fill_holds(
     kinds: &[u8],
     values: &[u16],
     bounds: Bounds,
-    ats: [u16; 16],
+    ats: [u16; machine::REGIONS],
     count: usize,
     holds: &mut [u16],
 )
     ensures { λ _. ⌜ ((m : Monitor) → Guards m (now (kinds .entry)) (now (values .entry)) bounds ats count
-        → 4096 ≤ length (now (holds .entry)) → HoldsAll m (now (holds .exit))) ⌝ }
+        → mostStates ≤ length (now (holds .entry)) → HoldsAll m (now (holds .exit))) ⌝ }
 {
     let states = bounds.states;
-    if 4096 < states {
+    if machine::STATES < states {
         return;
     }
     if holds.len() < states {
         return;
     }
-    if 16 < count {
+    if machine::REGIONS < count {
         return;
     }
-    let mut known = [0u16; 16];
+    let mut known = [0u16; machine::REGIONS];
     let mut s: usize = 0;
     while s < states {
         if s % 16 == 0 {
@@ -182,7 +184,7 @@ pub fn fill_holds(
 }
 
 // The values in lane j.
-fn lane_of(lanes: &[u16; 96], j: usize) -> [u16; 6]
+fn lane_of(lanes: &[u16; 96], j: usize) -> [u16; syntax::VARIABLES]
     requires { ⌜ j < 16 ⌝ }
     ensures { λ r. ⌜ r ≡ lane (now (lanes .entry)) j ⌝ }
 {
@@ -231,7 +233,7 @@ fn state_after(bounds: Bounds, ok: u16, ended: &[u16; 96], j: usize) -> u16
     }
     let values = lane_of(ended, j);
     let to = variables::number_of(bounds, values);
-    if 4096 <= to {
+    if machine::STATES <= to {
         return FAULT;
     }
     to as u16
@@ -306,7 +308,7 @@ fn after_row(
     holds: &[u16],
     after: &mut [u16],
 )
-    requires { ⌜ (bounds .states ≤ 4096) × (4096 ≤ length (now after)) ⌝ }
+    requires { ⌜ (bounds .states ≤ mostStates) × (mostStates ≤ length (now after)) ⌝ }
     ensures { λ _. ⌜ ((vs : List Var) (keep : List ℤ → Bool) (q : Region)
         → Body vs keep q (now (kinds .entry)) (now (values .entry)) bounds at guard (now (kept .entry)) (now (holds .entry))
         → Row vs keep q (count vs) (λ k. getD (now (after .exit)) k 0)) ⌝ }
@@ -323,39 +325,38 @@ fn after_row(
     }
 }
 
-// The outcome of every region's body, at region * 4096 + state, from each state where the test that `kept` holds and the
-// guard do; whether it is kept is not asked. `ats` has the token at which each body begins.
+// The state after every region's body, at region * STATES + state; `ats` has the token at which each body begins.
 pub fn fill_after(
     kinds: &[u8],
     values: &[u16],
     bounds: Bounds,
-    ats: [u16; 16],
-    guard_of: [u8; 16],
+    ats: [u16; machine::REGIONS],
+    guard_of: [u8; machine::REGIONS],
     count: usize,
     kept: &[u8],
     holds: &[u16],
     after: &mut [u16],
 )
     ensures { λ _. ⌜ ((m : Monitor) (keep : List ℤ → Bool) (ls : List Lexeme)
-        → Codes (vars m) ls (now (kinds .entry)) (now (values .entry)) → Bounded (vars m) bounds → length ls ≤ 8192
-        → count ≡ length (regions m) → count ≤ 16 → BodiesAt m ls ats → GuardNumbers m «guard_of»
-        → 65536 ≤ length (now (after .entry))
+        → Codes (vars m) ls (now (kinds .entry)) (now (values .entry)) → Bounded (vars m) bounds → length ls ≤ mostBytes
+        → count ≡ length (regions m) → count ≤ mostRegions → BodiesAt m ls ats → GuardNumbers m «guard_of»
+        → mostAfter ≤ length (now (after .entry))
         → TruthRow (vars m) keep (now (kept .entry)) → HoldsAll m (now (holds .entry))
         → Outcomes m keep (now (after .exit))) ⌝ }
 {
-    if after.len() < 65536 {
+    if after.len() < machine::AFTER {
         return;
     }
-    if 16 < count {
+    if machine::REGIONS < count {
         return;
     }
-    if 4096 < bounds.states {
+    if machine::STATES < bounds.states {
         return;
     }
     let mut r: usize = 0;
     while r < count {
-        let from = r * 4096;
-        let to = from + 4096;
+        let from = r * machine::STATES;
+        let to = from + machine::STATES;
         let at = wide(ats[r]);
         let guard = guard_of[r];
         after_row(
@@ -409,28 +410,28 @@ fn first_in_row(row: &[u16], states: usize, guard: u8, kept: &[u8], holds: &[u16
 // Every region keeps, or the lowest region and then the lowest state from which the outcome is a fault or is not kept (9).
 pub fn first_broken(
     bounds: Bounds,
-    guard_of: [u8; 16],
+    guard_of: [u8; machine::REGIONS],
     count: usize,
     kept: &[u8],
     holds: &[u16],
     after: &[u16],
 ) -> Broken
-    ensures { λ r. ⌜ ((m : Monitor) → Bounded (vars m) bounds → count ≡ length (regions m) → count ≤ 16
-        → GuardNumbers m «guard_of» → 65536 ≤ length (now (after .entry))
+    ensures { λ r. ⌜ ((m : Monitor) → Bounded (vars m) bounds → count ≡ length (regions m) → count ≤ mostRegions
+        → GuardNumbers m «guard_of» → mostAfter ≤ length (now (after .entry))
         → KeptAll m (now (kept .entry)) → HoldsAll m (now (holds .entry)) → Outcomes m (keptAt m) (now (after .entry))
         → BrokenAs r (broken m)) ⌝ }
 {
-    if after.len() < 65536 {
+    if after.len() < machine::AFTER {
         return Broken::Never;
     }
-    if 16 < count {
+    if machine::REGIONS < count {
         return Broken::Never;
     }
     let states = bounds.states;
     let mut r: usize = 0;
     while r < count {
-        let from = r * 4096;
-        let to = from + 4096;
+        let from = r * machine::STATES;
+        let to = from + machine::STATES;
         let guard = guard_of[r];
         let s = first_in_row(&after[from..to], states, guard, kept, holds);
         if s < states {

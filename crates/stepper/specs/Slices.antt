@@ -4,6 +4,7 @@ use mathlib.Core.Bool.{Bool, true, false, not}
 use mathlib.Core.List.{List, []}
 use lib.ListN.{getD}
 use lib.Dec.{eqb}
+use Rattle.machine.specs.Limits.{mostRegions, mostStates}
 use Rattle.sets.specs.Set.{member}
 use Rattle.machine.specs.Monitor.{Place, idle, waiting, due, Monitor, Config}
 use Rattle.machine.specs.Decide.Step.{Told, plainTold}
@@ -14,19 +15,19 @@ use Rattle.stepper.specs.declared.Run.{Run}
 use Rattle.stepper.specs.Shown.{threadsOf}
 
 unfoldable pub guardAt : List ℕ → ℕ → ℕ
-guardAt gs r = getD gs (r % 16) 0 % 16
+guardAt gs r = getD gs (r % mostRegions) 0 % mostRegions
 
 unfoldable pub holdsAt : List ℕ → ℕ → ℕ → Bool
-holdsAt hs g s = member (getD hs (s % 4096) 0) g
+holdsAt hs g s = member (getD hs (s % mostStates) 0) g
 
 unfoldable pub afterAt : List ℕ → ℕ → ℕ → ℕ
-afterAt as′ r s = getD as′ (r % 16 * 4096 + s % 4096) 0
+afterAt as′ r s = getD as′ (r % mostRegions * mostStates + s % mostStates) 0
 
 unfoldable pub beginsAt : List ℕ → ℕ → Bool
-beginsAt bs r = eqb (getD bs (r % 16) 0) 1
+beginsAt bs r = eqb (getD bs (r % mostRegions) 0) 1
 
 unfoldable pub followsAt : List ℕ → ℕ → Place
-followsAt os r = followsBy (r % 16) (getD os (r % 16) 0)
+followsAt os r = followsBy (r % mostRegions) (getD os (r % mostRegions) 0)
 
 -- an entry by its number
 unfoldable pub entryBy : ℕ → Entry
@@ -34,7 +35,7 @@ entryBy zero = none
 entryBy (suc n) = entry (eqb (suc n / 2 % 2) 1) (eqb (suc n / 4 % 2) 1)
 
 unfoldable pub entryAt : List ℕ → ℕ → ℕ → Entry
-entryAt es r g = entryBy (getD es (r % 16 * 16 + g % 16) 0)
+entryAt es r g = entryBy (getD es (r % mostRegions * mostRegions + g % mostRegions) 0)
 
 abbrev pub slices : List ℕ → List ℕ → List ℕ → List ℕ → List ℕ → ℕ → Monitor
 slices hs as′ gs bs os n = record {

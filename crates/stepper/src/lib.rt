@@ -32,7 +32,7 @@ pub struct Thread {
 // The record of a run: the state's number, the place of each of sixteen threads, and the notified set.
 pub struct Run {
     pub state: u16,
-    pub threads: [Thread; 16],
+    pub threads: [Thread; machine::THREADS],
     pub notified: u16,
 }
 
@@ -60,22 +60,22 @@ pub fn start(state: u16) -> Run
 {
     Run {
         state: state,
-        threads: [Thread { place: Place::Idle }; 16],
+        threads: [Thread { place: Place::Idle }; machine::THREADS],
         notified: 0,
     }
 }
 
 // The guard of a region, and whether a guard holds in a state.
-fn guard_at(guard_of: &[u8; 16], region: u8) -> u8
+fn guard_at(guard_of: &[u8; machine::REGIONS], region: u8) -> u8
     ensures { λ r. ⌜ r ≡ guardAt (now («guard_of» .entry)) region ⌝ }
 {
-    guard_of[(region % 16) as usize] % 16
+    guard_of[(region % machine::REGION_END) as usize] % machine::REGION_END
 }
 
-fn holds_at(holds: &[u16; 4096], guard: u8, state: u16) -> bool
+fn holds_at(holds: &[u16; machine::STATES], guard: u8, state: u16) -> bool
     ensures { λ r. ⌜ r ≡ holdsAt (now (holds .entry)) guard state ⌝ }
 {
-    sets::has(holds[(state % 4096) as usize], guard as u32)
+    sets::has(holds[(state % machine::STATE_END) as usize], guard as u32)
 }
 
 fn is_due(place: Place) -> bool
@@ -99,11 +99,11 @@ fn is_waiting(place: Place) -> bool
 }
 
 // Whether another thread than t is due.
-fn other_due(threads: [Thread; 16], t: usize) -> bool
+fn other_due(threads: [Thread; machine::THREADS], t: usize) -> bool
     ensures { λ r. ⌜ r ≡ any 16 (λ u. not (eqb u t) && isDue (placesOf threads u)) ⌝ }
 {
     let mut u: usize = 0;
-    while u < 16 {
+    while u < machine::THREADS {
         let thread = threads[u];
         let place = thread.place;
         if u != t {
@@ -117,18 +117,19 @@ fn other_due(threads: [Thread; 16], t: usize) -> bool
 }
 
 // Whether a thread at a place may be at a region next.
-fn may_be_at(place: Place, region: u8, begins: &[u8; 16], regions: usize) -> bool
+fn may_be_at(place: Place, region: u8, begins: &[u8; machine::REGIONS], regions: usize) -> bool
     ensures { λ r. ⌜ r ≡ mayBeAt (slices [] [] [] (now (begins .entry)) [] regions) (placeOf place) region ⌝ }
 {
     match place {
-        Place::Idle => (region as usize) < regions && begins[(region % 16) as usize] == 1,
+        Place::Idle => (region as usize) < regions
+            && begins[(region % machine::REGION_END) as usize] == 1,
         Place::Waiting(w) => w == region,
         Place::Due(w) => w == region,
     }
 }
 
 // Whether a thread at a place waits on a guard.
-fn waits_on(place: Place, guard_of: &[u8; 16], guard: u8) -> bool
+fn waits_on(place: Place, guard_of: &[u8; machine::REGIONS], guard: u8) -> bool
     ensures { λ r. ⌜ r ≡ onGuard (guardsOnly (now («guard_of» .entry))) guard (placeOf place) ⌝ }
 {
     match place {
@@ -139,13 +140,13 @@ fn waits_on(place: Place, guard_of: &[u8; 16], guard: u8) -> bool
 }
 
 // The waiters on a guard, as a set.
-fn waiters(threads: [Thread; 16], guard_of: &[u8; 16], guard: u8) -> u16
+fn waiters(threads: [Thread; machine::THREADS], guard_of: &[u8; machine::REGIONS], guard: u8) -> u16
     ensures { λ r. ⌜ ((u : ℕ) → u < 16 → member r u
         ≡ waitsOn (guardsOnly (now («guard_of» .entry))) (threadsOf threads) guard u) ⌝ }
 {
     let mut set: u16 = 0;
     let mut u: usize = 0;
-    while u < 16 {
+    while u < machine::THREADS {
         let thread = threads[u];
         let place = thread.place;
         if waits_on(place, guard_of, guard) {
@@ -167,7 +168,12 @@ fn is_first(threads: [Thread; 16], guard_of: &[u8; 16], guard: u8, notified: u16
 }
 
 // Whether the plain machine notifies a thread at a place: it waits and its guard holds.
-fn own_holds(place: Place, guard_of: &[u8; 16], holds: &[u16; 4096], state: u16) -> bool
+fn own_holds(
+    place: Place,
+    guard_of: &[u8; machine::REGIONS],
+    holds: &[u16; machine::STATES],
+    state: u16,
+) -> bool
     ensures { λ r. ⌜ r ≡ own (truths (now (holds .entry)) (now («guard_of» .entry))) state (placeOf place) ⌝ }
 {
     match place {
@@ -178,13 +184,18 @@ fn own_holds(place: Place, guard_of: &[u8; 16], holds: &[u16; 4096], state: u16)
 }
 
 // Every waiter whose guard holds.
-fn told_plain(threads: [Thread; 16], guard_of: &[u8; 16], holds: &[u16; 4096], state: u16) -> u16
+fn told_plain(
+    threads: [Thread; machine::THREADS],
+    guard_of: &[u8; machine::REGIONS],
+    holds: &[u16; machine::STATES],
+    state: u16,
+) -> u16
     ensures { λ r. ⌜ ((u : ℕ) → u < 16 → member r u
         ≡ own (truths (now (holds .entry)) (now («guard_of» .entry))) state (placesOf threads u)) ⌝ }
 {
     let mut set: u16 = 0;
     let mut u: usize = 0;
-    while u < 16 {
+    while u < machine::THREADS {
         let thread = threads[u];
         let place = thread.place;
         if own_holds(place, guard_of, holds, state) {
@@ -216,10 +227,10 @@ fn either(a: bool, b: bool) -> bool
 // Whether an entry of a region acts on a thread at a place, where those ahead of it wait on the guards of a set.
 fn entry_acts(
     place: Place,
-    guard_of: &[u8; 16],
-    holds: &[u16; 4096],
+    guard_of: &[u8; machine::REGIONS],
+    holds: &[u16; machine::STATES],
     state: u16,
-    entries: &[u8; 256],
+    entries: &[u8; machine::ENTRIES],
     region: u8,
     met: u16,
 ) -> bool
@@ -230,7 +241,8 @@ fn entry_acts(
         Place::Idle => false,
         Place::Waiting(w) => {
             let guard = guard_at(guard_of, w);
-            let code = entries[(region % 16) as usize * 16 + (guard % 16) as usize];
+            let code = entries[(region % machine::REGION_END) as usize * machine::REGIONS
+                + (guard % machine::REGION_END) as usize];
             acts(
                 code,
                 holds_at(holds, guard, state),
@@ -242,7 +254,7 @@ fn entry_acts(
 }
 
 // The guards met so far, with that of a thread at a place.
-fn met_with(met: u16, place: Place, guard_of: &[u8; 16]) -> u16
+fn met_with(met: u16, place: Place, guard_of: &[u8; machine::REGIONS]) -> u16
     ensures { λ r. ⌜ ((g : ℕ) → member r g ≡ onGuard (guardsOnly (now («guard_of» .entry))) g (placeOf place) || member met g) ⌝ }
 {
     match place {
@@ -254,11 +266,11 @@ fn met_with(met: u16, place: Place, guard_of: &[u8; 16]) -> u16
 
 // Those whom the entries of a region notify; the first waiter on each guard is the first that is met.
 fn told_table(
-    threads: [Thread; 16],
-    guard_of: &[u8; 16],
-    holds: &[u16; 4096],
+    threads: [Thread; machine::THREADS],
+    guard_of: &[u8; machine::REGIONS],
+    holds: &[u16; machine::STATES],
     state: u16,
-    entries: &[u8; 256],
+    entries: &[u8; machine::ENTRIES],
     region: u8,
 ) -> u16
     ensures { λ r. ⌜ ((u : ℕ) → u < 16 → member r u
@@ -268,7 +280,7 @@ fn told_table(
     let mut set: u16 = 0;
     let mut met: u16 = 0;
     let mut u: usize = 0;
-    while u < 16 {
+    while u < machine::THREADS {
         let thread = threads[u];
         let place = thread.place;
         if entry_acts(place, guard_of, holds, state, entries, region, met) {
@@ -281,7 +293,7 @@ fn told_table(
 }
 
 // The places with that of thread t replaced.
-fn put(threads: [Thread; 16], t: usize, place: Place) -> [Thread; 16]
+fn put(threads: [Thread; machine::THREADS], t: usize, place: Place) -> [Thread; machine::THREADS]
     requires { ⌜ t < 16 ⌝ }
     ensures { λ r. ⌜ ((u : ℕ) → u < 16 → placesOf r u ≡ putAt (placesOf threads) t (placeOf place) u) ⌝ }
 {
@@ -304,13 +316,13 @@ fn leave(threads: [Thread; 16], t: usize, place: Place) -> [Thread; 16]
 }
 
 // Where a thread is after a region's body.
-fn behind(region: u8, goes_on: &[u8; 16]) -> Place
+fn behind(region: u8, goes_on: &[u8; machine::REGIONS]) -> Place
     ensures { λ r. ⌜ placeOf r ≡ followsAt (now («goes_on» .entry)) region ⌝ }
 {
-    if goes_on[(region % 16) as usize] == 0 {
+    if goes_on[(region % machine::REGION_END) as usize] == 0 {
         Place::Idle
     } else {
-        Place::Due(region % 16 + 1)
+        Place::Due(region % machine::REGION_END + 1)
     }
 }
 
@@ -318,9 +330,9 @@ fn behind(region: u8, goes_on: &[u8; 16]) -> Place
 fn judge(
     run: Run,
     frame: Frame,
-    holds: &[u16; 4096],
-    guard_of: &[u8; 16],
-    begins: &[u8; 16],
+    holds: &[u16; machine::STATES],
+    guard_of: &[u8; machine::REGIONS],
+    begins: &[u8; machine::REGIONS],
     regions: usize,
 ) -> u8
     requires { ⌜ frame .thread < 16 ⌝ }
@@ -365,11 +377,11 @@ fn ran(
     run: Run,
     frame: Frame,
     table: bool,
-    holds: &[u16; 4096],
-    after: &[u16; 65536],
-    guard_of: &[u8; 16],
-    goes_on: &[u8; 16],
-    entries: &[u8; 256],
+    holds: &[u16; machine::STATES],
+    after: &[u16; machine::AFTER],
+    guard_of: &[u8; machine::REGIONS],
+    goes_on: &[u8; machine::REGIONS],
+    entries: &[u8; machine::ENTRIES],
 ) -> Run
     requires { ⌜ frame .thread < 16 ⌝ }
     ensures { λ r. ⌜ Shows r
@@ -380,7 +392,8 @@ fn ran(
     let region = frame.region;
     let threads = run.threads;
     let places = leave(threads, t as usize, behind(region, goes_on));
-    let to = after[(region % 16) as usize * 4096 + (run.state % 4096) as usize];
+    let to = after[(region % machine::REGION_END) as usize * machine::STATES
+        + (run.state % machine::STATE_END) as usize];
     let notified = run.notified;
     let told = if table {
         told_table(places, guard_of, holds, to, entries, region)
@@ -428,12 +441,12 @@ pub fn step(
     run: Run,
     frame: Frame,
     table: bool,
-    holds: &[u16; 4096],
-    after: &[u16; 65536],
-    guard_of: &[u8; 16],
-    begins: &[u8; 16],
-    goes_on: &[u8; 16],
-    entries: &[u8; 256],
+    holds: &[u16; machine::STATES],
+    after: &[u16; machine::AFTER],
+    guard_of: &[u8; machine::REGIONS],
+    begins: &[u8; machine::REGIONS],
+    goes_on: &[u8; machine::REGIONS],
+    entries: &[u8; machine::ENTRIES],
     regions: usize,
 ) -> Outcome
     ensures { λ r. ⌜ ((m : Monitor) (c : Config) (kept : List ℕ) → m .regions ≡ regions
@@ -444,7 +457,7 @@ pub fn step(
         → Steps run r (stepBy m table c frame)) ⌝ }
 {
     let known = Frame {
-        thread: frame.thread % 16,
+        thread: frame.thread % machine::THREAD_END,
         region: frame.region,
         flag: frame.flag,
     };

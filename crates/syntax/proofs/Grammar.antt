@@ -10,10 +10,24 @@ use mathlib.Core.Option.{Option, none, some}
 use mathlib.Core.List.{List, [], _∷_, _++_, append-nil, append-assoc, append-cancel-right}
 use lib.ListN.{length, getD}
 use borrow.Author.Tests.{eqb-true, eq-eqb}
-use Rattle.syntax.specs.Token.{Lexeme, name, key, number, mark, Mark, Keyword, lbrace, rbrace, lparen, rparen, semicolon, equals, dots, becomes, same, differs, below, at-most, above, at-least, plus, minus, bang, and-and, or-or, k-monitor, k-var, k-in, k-keep, k-method, k-waituntil, k-if, k-else, k-true, k-false, isMark, isKey, isName, markNumber, keywordNumber}
-use Rattle.syntax.specs.Tree.{Int, plain, negated, Atom, literal, variable, Sign, added, taken, Term, Expr, Comparison, eq, ne, lt, le, gt, ge, Cond, only, or, Conj, just, and, Simple, negation, bracketed, constant, compare, Block, end, then, Stmt, assign, if-then, if-else, Monitor, spellInt, spellAtom, signMark, spellTerm, each, spellExpr, comparisonMark, spellConstant, spellCond, spellConj, spellSimple, spellBlock, spellStmt, spellRegion, spellMethod, spellVar, spell, InGrammar, Viable}
-use Rattle.syntax.specs.Decide.Reading.{Got, got, stuck, Reader, onwards, _>>=_, give, begins, readName, readNumber, readInt, readAtom, readSign, readTerm, isSign, readExpr, readComparison, readCond, readConj, readSimple, readBlock, readStmt, readRegion, readMethod, readVar, atEnd, readMonitor, read}
-use Rattle.syntax.proofs.Phrase.{Follow, of, Phrase, Accepts, front, said, vacuous, spelled, gives, chains, chooses, ones, skips, picks, picks₁, meets, thens, turns, manys, somes, every, pairs, cases, exact, clear}
+use Rattle.syntax.specs.Token.{Lexeme, name, key, number, mark, Mark, Keyword, lbrace, rbrace, lparen, rparen}
+use Rattle.syntax.specs.Token.{semicolon, equals, dots, becomes, same, differs, below, at-most, above, at-least}
+use Rattle.syntax.specs.Token.{plus, minus, bang, and-and, or-or, k-monitor, k-var, k-in, k-keep, k-method}
+use Rattle.syntax.specs.Token.{k-waituntil, k-if, k-else, k-true, k-false, isMark, isKey, isName, markNumber}
+use Rattle.syntax.specs.Token.{keywordNumber}
+use Rattle.syntax.specs.Tree.{Int, plain, negated, Atom, literal, variable, Sign, added, taken, Term, Expr}
+use Rattle.syntax.specs.Tree.{Comparison, eq, ne, lt, le, gt, ge, Cond, only, or, Conj, just, and, Simple}
+use Rattle.syntax.specs.Tree.{negation, bracketed, constant, compare, Block, end, then, Stmt, assign, if-then}
+use Rattle.syntax.specs.Tree.{if-else, Monitor, spellInt, spellAtom, signMark, spellTerm, each, spellExpr}
+use Rattle.syntax.specs.Tree.{comparisonMark, spellConstant, spellCond, spellConj, spellSimple, spellBlock}
+use Rattle.syntax.specs.Tree.{spellStmt, spellRegion, spellMethod, spellVar, spell, InGrammar, Viable}
+use Rattle.syntax.specs.Decide.Reading.{Got, got, stuck, Reader, onwards, _>>=_, give, begins, readName}
+use Rattle.syntax.specs.Decide.Reading.{readNumber, readInt, readAtom, readSign, readTerm, isSign, readExpr}
+use Rattle.syntax.specs.Decide.Reading.{readComparison, readCond, readConj, readSimple, readBlock, readStmt}
+use Rattle.syntax.specs.Decide.Reading.{readRegion, readMethod, readVar, atEnd, readMonitor, read}
+use Rattle.syntax.proofs.Phrase.{Follow, of, Phrase, Accepts, front, said, vacuous, spelled, gives, chains}
+use Rattle.syntax.proofs.Phrase.{chooses, ones, skips, picks, picks₁, meets, thens, turns, manys, somes, every}
+use Rattle.syntax.proofs.Phrase.{pairs, cases, exact, clear}
 
 -- Tests of a lexeme
 

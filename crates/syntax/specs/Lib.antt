@@ -1,4 +1,5 @@
 pub mod Bytes
+pub mod Limits
 pub mod Token
 pub mod Spelling
 pub mod Tree

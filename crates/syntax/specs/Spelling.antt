@@ -6,6 +6,7 @@ use mathlib.Core.List.{List, [], _∷_, List·Memᴰ}
 use mathlib.Core.Path.{_≡_}
 use lib.ListN.{length, take, drop}
 use Rattle.syntax.specs.Bytes.{bytes, blank, letter, digit, wordByte, decimal}
+use Rattle.syntax.specs.Limits.{mostWordBytes, mostDigits}
 use Rattle.syntax.specs.Token.{Mark, Keyword, Lexeme, name, key, number, mark, Token, keywords, marks}
 
 -- each byte passes a test
@@ -38,9 +39,9 @@ pub data TokenShape (w : List ℕ) : Type 0 where
 
 -- the lexeme of a word of "at most 16 bytes", of a number of "1 to 3 decimal digits", or of a mark
 pub data Spells (w : List ℕ) : Lexeme → Type 0 where
-  reserved : {k : Keyword} → Word w → length w ≤ 16 → Listed keywords w k → Spells w (key k)
-  named : Word w → length w ≤ 16 → ((k : Keyword) → Listed keywords w k → ⊥) → Spells w (name w)
-  valued : Digits w → length w ≤ 3 → Spells w (number (decimal 0 w))
+  reserved : {k : Keyword} → Word w → length w ≤ mostWordBytes → Listed keywords w k → Spells w (key k)
+  named : Word w → length w ≤ mostWordBytes → ((k : Keyword) → Listed keywords w k → ⊥) → Spells w (name w)
+  valued : Digits w → length w ≤ mostDigits → Spells w (number (decimal 0 w))
   marked : {m : Mark} → Listed marks w m → Spells w (mark m)
 
 -- "The longest token is taken": the first n bytes have a token's shape, and no more bytes have one
@@ -52,8 +53,8 @@ pub record Longest (bs : List ℕ) (n : ℕ) : Type 0 where
 -- "begins no token, or begins a word or number that is too long"
 pub data BeginsNone (bs : List ℕ) : Type 0 where
   no-token : ((k : ℕ) → k ≤ length bs → TokenShape (take k bs) → ⊥) → BeginsNone bs
-  long-word : {n : ℕ} → Longest bs n → Word (take n bs) → 16 < n → BeginsNone bs
-  long-number : {n : ℕ} → Longest bs n → Digits (take n bs) → 3 < n → BeginsNone bs
+  long-word : {n : ℕ} → Longest bs n → Word (take n bs) → mostWordBytes < n → BeginsNone bs
+  long-number : {n : ℕ} → Longest bs n → Digits (take n bs) → mostDigits < n → BeginsNone bs
 
 -- the bytes from a place on are blanks and these tokens
 pub data Cover : ℕ → List ℕ → List Token → Type 0 where

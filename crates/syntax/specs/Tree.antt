@@ -3,7 +3,10 @@ use Prim.Native.Nat.{ℕ}
 use mathlib.Core.Bool.{Bool, true, false}
 use mathlib.Core.List.{List, [], _∷_, _++_}
 use mathlib.Core.Path.{_≡_}
-use Rattle.syntax.specs.Token.{Lexeme, name, key, number, mark, Mark, lbrace, rbrace, lparen, rparen, semicolon, equals, dots, becomes, same, differs, below, at-most, above, at-least, plus, minus, bang, and-and, or-or, k-monitor, k-var, k-in, k-keep, k-method, k-waituntil, k-if, k-else, k-true, k-false}
+use Rattle.syntax.specs.Token.{Lexeme, name, key, number, mark, Mark, lbrace, rbrace, lparen, rparen, semicolon}
+use Rattle.syntax.specs.Token.{equals, dots, becomes, same, differs, below, at-most, above, at-least, plus, minus}
+use Rattle.syntax.specs.Token.{bang, and-and, or-or, k-monitor, k-var, k-in, k-keep, k-method, k-waituntil, k-if}
+use Rattle.syntax.specs.Token.{k-else, k-true, k-false}
 
 -- "a number with or without - before it"
 pub data Int : Type 0 where

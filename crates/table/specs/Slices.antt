@@ -6,6 +6,7 @@ use mathlib.Core.Bool.{Bool, true, false, not, _&&_, _||_}
 use mathlib.Core.List.{List, _++_}
 use lib.ListN.{length, getD, take, drop}
 use lib.Dec.{eqb}
+use Rattle.machine.specs.Limits.{mostRegions, mostStates}
 use Rattle.sets.specs.Set.{member}
 use Rattle.logic.specs.Tests.{any}
 use Rattle.machine.specs.Algorithm1.{Entry, none, entry}
@@ -21,7 +22,7 @@ runsAt kept holds guard s = eqb (getD kept s 0) 1 && member (getD holds s 0) gua
 -- passes
 unfoldable pub someAt : (kept holds after : List ℕ) (n guard r : ℕ) → (ℕ → ℕ → Bool) → Bool
 someAt kept holds after n guard r test =
-    any n (λ s. runsAt kept holds guard s && test (getD holds s 0) (getD holds (getD after (r * 4096 + s) 0 % 4096) 0))
+    any n (λ s. runsAt kept holds guard s && test (getD holds s 0) (getD holds (getD after (r * mostStates + s) 0 % mostStates) 0))
 
 -- guard g becomes true; it holds neither before nor after; it holds after
 unfoldable pub rises : ℕ → ℕ → ℕ → Bool
@@ -36,7 +37,7 @@ holdsThen g x y = member y g
 -- what a sweep of the first n states says
 pub record Swept (kept holds after : List ℕ) (n guard r : ℕ) (w : Sweep) : Type 0 where
   pub by-raised : (g : ℕ) → member (w .raised) g ≡ someAt kept holds after n guard r (rises g)
-  pub by-covered : (g : ℕ) → g < 16 → member (w .covered) g ≡ not (someAt kept holds after n guard r (neither g))
+  pub by-covered : (g : ℕ) → g < mostRegions → member (w .covered) g ≡ not (someAt kept holds after n guard r (neither g))
   pub by-left : (g : ℕ) → member (w .left) g ≡ someAt kept holds after n guard r (holdsThen g)
 
 -- an entry by whether it stands, is unconditional and is a broadcast
@@ -52,13 +53,12 @@ module _ (kept holds after guardOf : List ℕ) (states : ℕ) where
   -- one of the first n regions has guard g and leaves it true
   unfoldable pub wideAt : (n g : ℕ) → Bool
   wideAt n g =
-      any n (λ w. eqb g (getD guardOf w 0 % 16) && someAt kept holds after states (getD guardOf w 0 % 16) w
-      (holdsThen g))
+      any n (λ w. eqb g (getD guardOf w 0 % mostRegions) && someAt kept holds after states (getD guardOf w 0 % mostRegions) w (holdsThen g))
 
   -- the entry of a region and a guard, of so many regions, as a number
   unfoldable pub codeAt : (regions r g : ℕ) → ℕ
   codeAt regions r g =
-      let some = someAt kept holds after states (getD guardOf r 0 % 16) r in
+      let some = someAt kept holds after states (getD guardOf r 0 % mostRegions) r in
       codeOf (made (some (rises g)) (not (some (neither g))) (wideAt regions g))
 
 -- the entry that a number stands for
@@ -68,7 +68,7 @@ entryBy (suc n) = entry (eqb (suc n / 2 % 2) 1) (eqb (suc n / 4 % 2) 1)
 
 -- the line of a region and a guard, those of a region's first guards, and those of the first regions
 unfoldable pub lineAt : (entries : List ℕ) (r g : ℕ) → List ℕ
-lineAt entries r g = entryLine r g (entryBy (getD entries (r * 16 + g) 0))
+lineAt entries r g = entryLine r g (entryBy (getD entries (r * mostRegions + g) 0))
 
 unfoldable pub linesAt : (entries : List ℕ) (guards r : ℕ) → List ℕ
 linesAt entries guards r = forEach guards 0 (lineAt entries r)

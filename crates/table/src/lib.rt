@@ -2,6 +2,7 @@
 ghost use mathlib.Core.Path.{_≡_};
 ghost use Prim.Native.Nat.{ℕ, _+_, _*_, _%_, _<_, _≤_};
 ghost use lib.ListN.{length, getD};
+ghost use Rattle.machine.specs.Limits.{mostRegions, mostStates, mostEntries};
 ghost use Rattle.machine.specs.Monitor.{Monitor};
 ghost use Rattle.machine.specs.Held.{Held, codeOf, HeldEntries};
 ghost use Rattle.meaning.specs.Decide.Table.{tableOf, entryLine};
@@ -17,16 +18,16 @@ pub enum Placed {
 
 // A guard's number; in slices that hold a monitor the remainder is the number itself.
 fn guard(x: u8) -> u32
-    ensures { λ n. ⌜ n ≡ x % 16 ⌝ }
+    ensures { λ n. ⌜ n ≡ x % mostRegions ⌝ }
 {
     x as u32 % 16
 }
 
 // A state's number; in slices that hold a monitor the remainder is the number itself.
 fn state(x: u16) -> usize
-    ensures { λ n. ⌜ n ≡ x % 4096 ⌝ }
+    ensures { λ n. ⌜ n ≡ x % mostStates ⌝ }
 {
-    x as usize % 4096
+    x as usize % machine::STATES
 }
 
 // What a region's body does to guards over the states it may run from, as sets: those that it makes true from some
@@ -39,15 +40,15 @@ struct Sweep {
 
 // A sweep of the states before s, and s.
 fn visit(
-    kept: &[u8; 4096],
-    holds: &[u16; 4096],
-    after: &[u16; 65536],
+    kept: &[u8; machine::STATES],
+    holds: &[u16; machine::STATES],
+    after: &[u16; machine::AFTER],
     guard: u32,
     r: usize,
     s: usize,
     w: Sweep,
 ) -> Sweep
-    requires { ⌜ (guard < 16) × (r < 16) × (s < 4096) × Swept (now kept) (now holds) (now after) s guard r w ⌝ }
+    requires { ⌜ (guard < mostRegions) × (r < mostRegions) × (s < mostStates) × Swept (now kept) (now holds) (now after) s guard r w ⌝ }
     ensures { λ n. ⌜ Swept (now (kept .entry)) (now (holds .entry)) (now (after .entry)) (s + 1) guard r n ⌝ }
 {
     if kept[s] != 1 {
@@ -57,7 +58,7 @@ fn visit(
     if !sets::has(here, guard) {
         return w;
     }
-    let t = state(after[r * 4096 + s]);
+    let t = state(after[r * machine::STATES + s]);
     let there = holds[t];
     let either = here | there;
     Sweep {
@@ -69,14 +70,14 @@ fn visit(
 
 // The sweep of all states.
 fn sweep_region(
-    kept: &[u8; 4096],
-    holds: &[u16; 4096],
-    after: &[u16; 65536],
+    kept: &[u8; machine::STATES],
+    holds: &[u16; machine::STATES],
+    after: &[u16; machine::AFTER],
     states: usize,
     guard: u32,
     r: usize,
 ) -> Sweep
-    requires { ⌜ (states ≤ 4096) × (guard < 16) × (r < 16) ⌝ }
+    requires { ⌜ (states ≤ mostStates) × (guard < mostRegions) × (r < mostRegions) ⌝ }
     ensures { λ n. ⌜ Swept (now (kept .entry)) (now (holds .entry)) (now (after .entry)) states guard r n ⌝ }
 {
     let mut w = Sweep {
@@ -109,14 +110,14 @@ fn code(stands: bool, always: bool, wide: bool) -> u8
 
 // The entries of a region, at region * 16 + guard, by its sweep and the set of guards whose entries are broadcasts.
 fn fill_region(w: Sweep, wide: u16, guards: usize, r: usize, entries: &mut [u8])
-    requires { ⌜ (guards ≤ 16) × (r < 16) × (length (now entries) ≡ 256) ⌝ }
-    ensures { λ _. ⌜ ((g : ℕ) → g < guards → getD (now (entries .exit)) (r * 16 + g) 0 ≡ sweptCode w wide g) ⌝ }
-    ensures { λ _. ⌜ ((k : ℕ) → k < r * 16 → getD (now (entries .exit)) k 0 ≡ getD (now (entries .entry)) k 0) ⌝ }
+    requires { ⌜ (guards ≤ mostRegions) × (r < mostRegions) × (length (now entries) ≡ mostEntries) ⌝ }
+    ensures { λ _. ⌜ ((g : ℕ) → g < guards → getD (now (entries .exit)) (r * mostRegions + g) 0 ≡ sweptCode w wide g) ⌝ }
+    ensures { λ _. ⌜ ((k : ℕ) → k < r * mostRegions → getD (now (entries .exit)) k 0 ≡ getD (now (entries .entry)) k 0) ⌝ }
 {
     let mut g = 0;
     while g < guards {
         let t = g as u32;
-        entries[r * 16 + g] = code(
+        entries[r * machine::REGIONS + g] = code(
             sets::has(w.raised, t),
             sets::has(w.covered, t),
             sets::has(wide, t),
@@ -127,19 +128,18 @@ fn fill_region(w: Sweep, wide: u16, guards: usize, r: usize, entries: &mut [u8])
 
 // The entries of all regions. A guard's are broadcasts where some region that has it leaves it true.
 fn fill_regions(
-    kept: &[u8; 4096],
-    holds: &[u16; 4096],
-    after: &[u16; 65536],
-    guard_of: &[u8; 16],
+    kept: &[u8; machine::STATES],
+    holds: &[u16; machine::STATES],
+    after: &[u16; machine::AFTER],
+    guard_of: &[u8; machine::REGIONS],
     states: usize,
     regions: usize,
     guards: usize,
     entries: &mut [u8],
 )
-    requires { ⌜ (states ≤ 4096) × (regions ≤ 16) × (guards ≤ 16) × (length (now entries) ≡ 256) ⌝ }
-    ensures { λ _. ⌜ ((r : ℕ) → r < regions → (g : ℕ) → g < guards → getD (now (entries .exit)) (r * 16 + g) 0
-        ≡ codeAt (now (kept .entry)) (now (holds .entry)) (now (after .entry)) (now («guard_of» .entry)) states regions
-        r g) ⌝ }
+    requires { ⌜ (states ≤ mostStates) × (regions ≤ mostRegions) × (guards ≤ mostRegions) × (length (now entries) ≡ mostEntries) ⌝ }
+    ensures { λ _. ⌜ ((r : ℕ) → r < regions → (g : ℕ) → g < guards → getD (now (entries .exit)) (r * mostRegions + g) 0
+        ≡ codeAt (now (kept .entry)) (now (holds .entry)) (now (after .entry)) (now («guard_of» .entry)) states regions r g) ⌝ }
 {
     let mut sweeps = [Sweep {
         raised: 0,
@@ -165,26 +165,26 @@ fn fill_regions(
 
 // The entries of all regions and guards of a monitor that the slices hold, at region * 16 + guard.
 pub fn fill_entries(
-    kept: &[u8; 4096],
-    holds: &[u16; 4096],
-    after: &[u16; 65536],
-    guard_of: &[u8; 16],
+    kept: &[u8; machine::STATES],
+    holds: &[u16; machine::STATES],
+    after: &[u16; machine::AFTER],
+    guard_of: &[u8; machine::REGIONS],
     states: usize,
     regions: usize,
     guards: usize,
-    entries: &mut [u8; 256],
+    entries: &mut [u8; machine::ENTRIES],
 )
     ensures { λ _. ⌜ ((m : Monitor) → m .states ≡ states → m .regions ≡ regions → m .guards ≡ guards
         → Held m (now (kept .entry)) (now (holds .entry)) (now (after .entry)) (now («guard_of» .entry))
         → HeldEntries m (now (entries .exit))) ⌝ }
 {
-    if states > 4096 {
+    if states > machine::STATES {
         return;
     }
-    if regions > 16 {
+    if regions > machine::REGIONS {
         return;
     }
-    if guards > 16 {
+    if guards > machine::REGIONS {
         return;
     }
     fill_regions(
@@ -200,14 +200,14 @@ pub fn fill_entries(
 }
 
 // How many of a region's entries stand: a line of nine bytes each.
-fn count_region(entries: &[u8; 256], guards: usize, r: usize) -> usize
-    requires { ⌜ (guards ≤ 16) × (r < 16) ⌝ }
+fn count_region(entries: &[u8; machine::ENTRIES], guards: usize, r: usize) -> usize
+    requires { ⌜ (guards ≤ mostRegions) × (r < mostRegions) ⌝ }
     ensures { λ n. ⌜ (n * 9 ≡ length (linesAt (now (entries .entry)) guards r)) × (n ≤ guards) ⌝ }
 {
     let mut n = 0;
     let mut g = 0;
     while g < guards {
-        if entries[r * 16 + g] != 0 {
+        if entries[r * machine::REGIONS + g] != 0 {
             n += 1;
         }
         g += 1;
@@ -216,9 +216,9 @@ fn count_region(entries: &[u8; 256], guards: usize, r: usize) -> usize
 }
 
 // How many entries stand.
-fn count(entries: &[u8; 256], regions: usize, guards: usize) -> usize
-    requires { ⌜ (regions ≤ 16) × (guards ≤ 16) ⌝ }
-    ensures { λ n. ⌜ (n * 9 ≡ length (tableAt (now (entries .entry)) regions guards)) × (n ≤ 256) ⌝ }
+fn count(entries: &[u8; machine::ENTRIES], regions: usize, guards: usize) -> usize
+    requires { ⌜ (regions ≤ mostRegions) × (guards ≤ mostRegions) ⌝ }
+    ensures { λ n. ⌜ (n * 9 ≡ length (tableAt (now (entries .entry)) regions guards)) × (n ≤ mostEntries) ⌝ }
 {
     let mut n = 0;
     let mut r = 0;
@@ -231,7 +231,7 @@ fn count(entries: &[u8; 256], regions: usize, guards: usize) -> usize
 
 // A line of the table at a place of the buffer.
 fn write_line(table: &mut [u8], at: usize, r: usize, g: usize, code: u8)
-    requires { ⌜ (at + 9 ≤ length (now table)) × (r < 16) × (g < 16) × (0 < code) ⌝ }
+    requires { ⌜ (at + 9 ≤ length (now table)) × (r < mostRegions) × (g < mostRegions) × (0 < code) ⌝ }
     ensures { λ _. ⌜ now (table .exit) ≡ over (now (table .entry)) at (entryLine r g (entryBy code)) ⌝ }
 {
     table[at] = 48;
@@ -246,11 +246,17 @@ fn write_line(table: &mut [u8], at: usize, r: usize, g: usize, code: u8)
 }
 
 // The line of a region and a guard, where their entry stands, at a place of the buffer; the place behind it.
-fn write_entry(entries: &[u8; 256], r: usize, g: usize, table: &mut [u8], at: usize) -> usize
-    requires { ⌜ (at + length (lineAt (now entries) r g) ≤ length (now table)) × (r < 16) × (g < 16) ⌝ }
+fn write_entry(
+    entries: &[u8; machine::ENTRIES],
+    r: usize,
+    g: usize,
+    table: &mut [u8],
+    at: usize,
+) -> usize
+    requires { ⌜ (at + length (lineAt (now entries) r g) ≤ length (now table)) × (r < mostRegions) × (g < mostRegions) ⌝ }
     ensures { λ e. ⌜ Writes (lineAt (now (entries .entry)) r g) (now (table .entry)) at e (now (table .exit)) ⌝ }
 {
-    let code = entries[r * 16 + g];
+    let code = entries[r * machine::REGIONS + g];
     if code == 0 {
         return at;
     }
@@ -259,8 +265,14 @@ fn write_entry(entries: &[u8; 256], r: usize, g: usize, table: &mut [u8], at: us
 }
 
 // The lines of a region from a place of the buffer on; the place behind them.
-fn write_region(entries: &[u8; 256], guards: usize, r: usize, table: &mut [u8], at: usize) -> usize
-    requires { ⌜ (at + length (linesAt (now entries) guards r) ≤ length (now table)) × (guards ≤ 16) × (r < 16) ⌝ }
+fn write_region(
+    entries: &[u8; machine::ENTRIES],
+    guards: usize,
+    r: usize,
+    table: &mut [u8],
+    at: usize,
+) -> usize
+    requires { ⌜ (at + length (linesAt (now entries) guards r) ≤ length (now table)) × (guards ≤ mostRegions) × (r < mostRegions) ⌝ }
     ensures { λ e. ⌜ Writes (linesAt (now (entries .entry)) guards r) (now (table .entry)) at e (now (table .exit)) ⌝ }
 {
     let mut next = at;
@@ -273,14 +285,19 @@ fn write_region(entries: &[u8; 256], guards: usize, r: usize, table: &mut [u8], 
 }
 
 // The lines of the entries, by region and then guard. A buffer that is too short is left as it is.
-pub fn write_table(entries: &[u8; 256], regions: usize, guards: usize, table: &mut [u8]) -> Placed
-    ensures { λ r. ⌜ ((m : Monitor) → m .regions ≡ regions → m .guards ≡ guards → regions ≤ 16 → guards ≤ 16
+pub fn write_table(
+    entries: &[u8; machine::ENTRIES],
+    regions: usize,
+    guards: usize,
+    table: &mut [u8],
+) -> Placed
+    ensures { λ r. ⌜ ((m : Monitor) → m .regions ≡ regions → m .guards ≡ guards → regions ≤ mostRegions → guards ≤ mostRegions
         → HeldEntries m (now (entries .entry)) → WritesTable (tableOf m) (now (table .entry)) r (now (table .exit))) ⌝ }
 {
-    if regions > 16 {
+    if regions > machine::REGIONS {
         return Placed::Short;
     }
-    if guards > 16 {
+    if guards > machine::REGIONS {
         return Placed::Short;
     }
     let size = count(entries, regions, guards) * 9;

@@ -30,7 +30,7 @@ module _ {ls : List Lexeme} {kinds values : List ℕ} (held : Numbers ls kinds v
       (held .by-number at n h, held .numbers-small at n h)
 
   module _ (rest : List Lexeme) (at : ℕ) where
-    pub minus-int : (n : Int) → drop at ls ≡ spellInt n ++ rest → getD kinds at 0 ≡ 15
+    pub minus-int : (n : Int) → drop at ls ≡ spellInt n ++ rest → getD kinds at 0 ≡ kindOf (mark minus)
         → SpelledInt ls rest n at (record { value = 65536 - getD values (at + 1) 0; next = at + negatedLong })
     unfolding spellInt intOf kindOf markNumber
     minus-int (plain n) e k = absurd (omega (arith, kind-is at (number n) rest e))
@@ -44,7 +44,7 @@ module _ {ls : List Lexeme} {kinds values : List ℕ} (held : Numbers ls kinds v
           place = refl;
         }
 
-    pub plain-int : (n : Int) → drop at ls ≡ spellInt n ++ rest → (getD kinds at 0 ≡ 15 → ⊥)
+    pub plain-int : (n : Int) → drop at ls ≡ spellInt n ++ rest → (getD kinds at 0 ≡ kindOf (mark minus) → ⊥)
         → SpelledInt ls rest n at (record { value = 65536 + getD values at 0; next = at + plainLong })
     unfolding spellInt intOf kindOf markNumber
     plain-int (plain n) e k =

@@ -11,16 +11,15 @@ use lib.Dec.{leb}
 use lib.ListN.{length, getD, drop, take, getElem?, length-append}
 use lib.Seq.{take-append-seam}
 use lib.IntN.{pos}
-use borrow.Author.Tests.{leb-true, leb-false, eq-eqb}
-use Rattle.syntax.specs.Token.{Lexeme, name, key, number, mark, Mark, k-var, markNumber, keywordNumber, isKey}
-use Rattle.syntax.specs.Token as token
+use borrow.Author.Tests.{leb-true, leb-false}
+use Rattle.syntax.specs.Token.{Lexeme, key, k-var}
 use Rattle.syntax.specs.Held.Kind.{kindOf}
 use Rattle.syntax.specs.Tree.{Var, each, spellVar}
 use Rattle.meaning.specs.Value.{intOf}
 use Rattle.meaning.specs.State.{size, count, starts}
 use Rattle.meaning.specs.Accepted.{GoodRanges, no-vars}
 use Rattle.logic.proofs.Bools.{split, no-some}
-use Rattle.syntax.proofs.Lexemes.{decides-key}
+use Rattle.syntax.proofs.ByKind.{is-key}
 use Rattle.variables.specs.Bounded.{Numbers, Bounded, EndsVars, Ranged, RangedBy}
 use Rattle.meaning.specs.Held.{Offset, Biased, Ranges}
 use Rattle.variables.specs.Promises.{TripleAt, SpelledVar, Good, Slots, Loaded, WithVar, Weighed}
@@ -83,49 +82,18 @@ bounded-all vs b r good few-states few l w =
 
 -- Which tokens begin a variable
 
-mark-below : (m : Mark) → markNumber m < 19
-unfolding markNumber
-mark-below m = elim m [
-  | token.lbrace ↦ omega arith
-  | token.rbrace ↦ omega arith
-  | token.lparen ↦ omega arith
-  | token.rparen ↦ omega arith
-  | token.semicolon ↦ omega arith
-  | token.equals ↦ omega arith
-  | token.dots ↦ omega arith
-  | token.becomes ↦ omega arith
-  | token.same ↦ omega arith
-  | token.differs ↦ omega arith
-  | token.below ↦ omega arith
-  | token.at-most ↦ omega arith
-  | token.above ↦ omega arith
-  | token.at-least ↦ omega arith
-  | token.plus ↦ omega arith
-  | token.minus ↦ omega arith
-  | token.bang ↦ omega arith
-  | token.and-and ↦ omega arith
-  | token.or-or ↦ omega arith
-]
-
-var-kind : (l : Lexeme) → kindOf l ≡ 20 → isKey k-var l ≡ true
-unfolding kindOf isKey keywordNumber
-var-kind (name x) e = absurd (omega arith)
-var-kind (key k) e = eq-eqb 1 (keywordNumber k) (omega arith)
-var-kind (number n) e = absurd (omega arith)
-var-kind (mark m) e = absurd (omega (arith, mark-below m))
-
 -- the variables of some tokens go on exactly where `var` stands
 module _ {ls : List Lexeme} {kinds values : List ℕ} (held : Numbers ls kinds values) (us : List Lexeme) (ends : EndsVars us) (i : ℕ) where
-  goes-on : (todo : List Var) → drop i ls ≡ each spellVar todo ++ us → getD kinds i 0 ≡ 20
+  goes-on : (todo : List Var) → drop i ls ≡ each spellVar todo ++ us → getD kinds i 0 ≡ kindOf (key k-var)
       → (v : Var) × (rest : List Var) × (todo ≡ v ∷ rest)
   unfolding EndsVars each
   goes-on [] e k =
       let l = ends .0 in
-      absurd (ends .3 (decides-key k-var l .0 (var-kind l (sym (kind-is held i l (ends .1) (e ∙ ends .2)) ∙ k))))
+      absurd (ends .3 (is-key k-var l (sym (kind-is held i l (ends .1) (e ∙ ends .2)) ∙ k)))
   goes-on (v ∷ rest) e k = (v, rest, refl)
 
-  stops : (todo : List Var) → drop i ls ≡ each spellVar todo ++ us → (getD kinds i 0 ≡ 20 → ⊥) → todo ≡ []
-  unfolding each spellVar kindOf keywordNumber
+  stops : (todo : List Var) → drop i ls ≡ each spellVar todo ++ us → (getD kinds i 0 ≡ kindOf (key k-var) → ⊥) → todo ≡ []
+  unfolding each spellVar
   stops [] e k = refl
   stops (v ∷ rest) e k = absurd (k (kind-is held i (key k-var) _ e))
 
@@ -172,7 +140,7 @@ each-snoc (u ∷ vs) v = simp length-append (omega (arith, each-snoc vs v))
 
 module _ (kinds values : List ℕ) (at : ℕ) (b : Bounds) (i : ℕ) (walk : Walk kinds values at b i) where
   -- `var` stands at i, with the integers t behind it
-  module _ (var : getD kinds i 0 ≡ 20) (t : Triple) (read : TripleAt kinds values i t) where
+  module _ (var : getD kinds i 0 ≡ kindOf (key k-var)) (t : Triple) (read : TripleAt kinds values i t) where
     -- the variable there, and those behind it
     next : (vs : List Var) (ls us : List Lexeme) (s : Spelling kinds values at vs ls us) (w : Walked vs ls us at b i)
         → (v : Var) × (rest : List Var) × (vs ≡ w .done ++ (v ∷ rest)) × SpelledVar ls (each spellVar rest ++ us) v i t
@@ -231,7 +199,7 @@ module _ (kinds values : List ℕ) (at : ℕ) (b : Bounds) (i : ℕ) (walk : Wal
         )
 
   -- no `var` stands at i
-  pub walk-end : (getD kinds i 0 ≡ 20 → ⊥) → (r : Bounds) → Weighed b r → (vs : List Var) (ls us : List Lexeme)
+  pub walk-end : (getD kinds i 0 ≡ kindOf (key k-var) → ⊥) → (r : Bounds) → Weighed b r → (vs : List Var) (ls us : List Lexeme)
       → Spelling kinds values at vs ls us → Ranged vs ls us at (record { ok = true; token = i; bounds = r })
   unfolding Ranged RangedBy each
   walk-end none r weighed vs ls us s =

@@ -6,6 +6,8 @@ use mathlib.Core.List.{List, _∷_, map}
 use mathlib.Core.Option.{some}
 use lib.ListN.{length, getD, drop, take, getElem?}
 use lib.IntN.{ℤ, pos, _-ℤ_}
+use Rattle.syntax.specs.Limits.{mostVars}
+use Rattle.machine.specs.Limits.{mostStates}
 use Rattle.syntax.specs.Token.{Lexeme, number, key, k-var}
 use Rattle.syntax.specs.Held.Kind.{kindOf}
 use Rattle.syntax.specs.Tree.{Var, each, spellVar}
@@ -24,9 +26,9 @@ pub record Numbers (ls : List Lexeme) (kinds values : List ℕ) : Type 0 where
   pub numbers-small : (i n : ℕ) → getElem? ls i ≡ some (number n) → n < 1000
 
 pub record Bounded (vs : List Var) (b : Bounds) : Type 0 where
-  pub few-vars : length vs ≤ 6
+  pub few-vars : length vs ≤ mostVars
   pub good : GoodRanges vs
-  pub few-states : count vs ≤ 4096
+  pub few-states : count vs ≤ mostStates
   pub counted : b .count ≡ length vs
   pub states : b .states ≡ count vs
   pub ranges : Ranges vs (b .lows) (b .highs)

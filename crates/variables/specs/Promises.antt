@@ -7,6 +7,8 @@ use mathlib.Core.List.{List, _++_}
 use mathlib.Core.Option.{some}
 use lib.ListN.{length, getD, drop, set, getElem?}
 use lib.IntN.{ℤ}
+use Rattle.syntax.specs.Limits.{mostVars}
+use Rattle.machine.specs.Limits.{mostStates}
 use Rattle.syntax.specs.Token.{Lexeme}
 use Rattle.syntax.specs.Tree.{Int, Var, spellInt, spellVar}
 use Rattle.meaning.specs.Value.{intOf}
@@ -54,7 +56,7 @@ pub record Good (states : ℕ) (t : Triple) : Type 0 where
   pub high-bound : t .high ≤ 65663
   pub start-above : t .low ≤ t .start
   pub start-below : t .start ≤ t .high
-  pub few : states * (t .high - t .low + 1) ≤ 4096
+  pub few : states * (t .high - t .low + 1) ≤ mostStates
 
 pub record Fitting (states : ℕ) (t : Triple) (r : Bool) : Type 0 where
   pub yes : r ≡ true → Good states t
@@ -62,10 +64,10 @@ pub record Fitting (states : ℕ) (t : Triple) (r : Bool) : Type 0 where
 
 -- six slots, of which the first hold a value of each variable and the others hold e
 pub record Slots (f : Var → ℤ) (e : ℕ) (vs : List Var) (xs : List ℕ) : Type 0 where
-  pub six : length xs ≡ 6
+  pub six : length xs ≡ mostVars
   pub held : (k : ℕ) (v : Var) → getElem? vs k ≡ some v → Shifted 128 (f v) (getD xs k 0)
   pub small : (k : ℕ) → getD xs k 0 ≤ 255
-  pub unused : (k : ℕ) → k < 6 → length vs ≤ k → getD xs k 0 ≡ e
+  pub unused : (k : ℕ) → k < mostVars → length vs ≤ k → getD xs k 0 ≡ e
 
 -- bounds without weights
 pub record Loaded (vs : List Var) (b : Bounds) : Type 0 where
@@ -77,13 +79,13 @@ pub record Loaded (vs : List Var) (b : Bounds) : Type 0 where
 
 -- one variable more, in the next slot
 pub record WithVar (b : Bounds) (t : Triple) (r : Bounds) : Type 0 where
-  pub few : r .states ≤ 4096
-  pub room : r .count ≤ 6
-  pub lows : b .count < 6 → r .lows ≡ set (b .lows) (b .count) (t .low - 65408)
-  pub highs : b .count < 6 → r .highs ≡ set (b .highs) (b .count) (t .high - 65408)
-  pub starts : b .count < 6 → r .starts ≡ set (b .starts) (b .count) (t .start - 65408)
-  pub counted : b .count < 6 → r .count ≡ b .count + 1
-  pub states : b .count < 6 → r .states ≡ b .states * (t .high - t .low + 1)
+  pub few : r .states ≤ mostStates
+  pub room : r .count ≤ mostVars
+  pub lows : b .count < mostVars → r .lows ≡ set (b .lows) (b .count) (t .low - 65408)
+  pub highs : b .count < mostVars → r .highs ≡ set (b .highs) (b .count) (t .high - 65408)
+  pub starts : b .count < mostVars → r .starts ≡ set (b .starts) (b .count) (t .start - 65408)
+  pub counted : b .count < mostVars → r .count ≡ b .count + 1
+  pub states : b .count < mostVars → r .states ≡ b .states * (t .high - t .low + 1)
 
 pub record SizeOf (low high r : ℕ) : Type 0 where
   pub small : r ≤ 65536
@@ -91,9 +93,8 @@ pub record SizeOf (low high r : ℕ) : Type 0 where
 
 -- the weights of some variables
 pub record Weights (lows highs : List ℕ) (n : ℕ) (ws : List ℕ) : Type 0 where
-  pub weigh : (vs : List Var) → Slots (λ v. intOf (v .low)) 1 vs lows → Slots (λ v. intOf (v .high)) 0 vs highs
-      → GoodRanges vs
-      → count vs ≤ 4096 → length vs ≡ n → (k : ℕ) → k < n → getD ws k 0 ≡ count (drop (suc k) vs)
+  pub weigh : (vs : List Var) → Slots (λ v. intOf (v .low)) 1 vs lows → Slots (λ v. intOf (v .high)) 0 vs highs → GoodRanges vs
+      → count vs ≤ mostStates → length vs ≡ n → (k : ℕ) → k < n → getD ws k 0 ≡ count (drop (suc k) vs)
 
 -- the same bounds, with their weights
 pub record Weighed (b r : Bounds) : Type 0 where

@@ -5,6 +5,8 @@ ghost use mathlib.Core.List.{List, [], _++_};
 ghost use Prim.Native.Nat.{ℕ, _+_, _^_, _<_, _≤_};
 ghost use lib.ListN.{drop, length, getD};
 ghost use lib.IntN.{ℤ};
+ghost use Rattle.syntax.specs.Limits.{mostBytes, mostVars};
+ghost use Rattle.machine.specs.Limits.{mostStates};
 ghost use Rattle.syntax.specs.Token.{Lexeme};
 ghost use Rattle.syntax.specs.Tree.{Var, each, spellVar};
 ghost use Rattle.meaning.specs.State.{stateAt, numberOf, count};
@@ -16,10 +18,10 @@ ghost use Rattle.variables.specs.Promises.{Weighed, DigitOf, ShareOf};
 
 // At most six variables: bounds, start values, sizes of ranges, and weights in a state's number.
 pub struct Bounds {
-    pub lows: [u16; 6],
-    pub highs: [u16; 6],
-    pub starts: [u16; 6],
-    pub weights: [u16; 6],
+    pub lows: [u16; syntax::VARIABLES],
+    pub highs: [u16; syntax::VARIABLES],
+    pub starts: [u16; syntax::VARIABLES],
+    pub weights: [u16; syntax::VARIABLES],
     pub count: usize,
     pub states: usize,
 }
@@ -30,11 +32,6 @@ pub struct Declared {
     pub token: usize,
     pub bounds: Bounds,
 }
-
-// The kinds of - and of var.
-const MINUS: u8 = 15;
-
-const VAR: u8 = 20;
 
 // The token at which a file's variables begin: behind `monitor NAME {`.
 pub const FIRST: usize = 3;
@@ -91,7 +88,7 @@ fn int_at(kinds: &[u8], values: &[u16], at: usize) -> Integer
     requires { ⌜ at < 2 ^ 63 + 16 ⌝ }
     ensures { λ r. ⌜ IntAt (now (kinds .entry)) (now (values .entry)) at r ⌝ }
 {
-    if kind_at(kinds, at) == MINUS {
+    if kind_at(kinds, at) == syntax::MINUS {
         Integer {
             value: OFFSET - value_at(values, at + MARK) as u32,
             next: at + NEGATED,
@@ -122,7 +119,7 @@ fn triple_at(kinds: &[u8], values: &[u16], at: usize) -> Triple
 
 // Whether a variable's bounds and start value are good and leave at most 4,096 states.
 fn fits(states: usize, v: Triple) -> bool
-    requires { ⌜ states ≤ 4096 ⌝ }
+    requires { ⌜ states ≤ mostStates ⌝ }
     ensures { λ r. ⌜ Fitting states v r ⌝ }
 {
     if v.high < v.low {
@@ -140,7 +137,7 @@ fn fits(states: usize, v: Triple) -> bool
     if v.high < v.start {
         return false;
     }
-    states * ((v.high - v.low) as usize + 1) <= 4096
+    states * ((v.high - v.low) as usize + 1) <= machine::STATES
 }
 
 // No variables: slots without a variable have an empty range, and 0 as their start value.
@@ -148,10 +145,10 @@ pub fn no_bounds() -> Bounds
     ensures { λ r. ⌜ Loaded [] r ⌝ }
 {
     Bounds {
-        lows: [1u16; 6],
-        highs: [0u16; 6],
-        starts: [128u16; 6],
-        weights: [1u16; 6],
+        lows: [1u16; syntax::VARIABLES],
+        highs: [0u16; syntax::VARIABLES],
+        starts: [128u16; syntax::VARIABLES],
+        weights: [1u16; syntax::VARIABLES],
         count: 0,
         states: 1,
     }
@@ -160,12 +157,12 @@ pub fn no_bounds() -> Bounds
 // One good variable more.
 fn with_var(bounds: Bounds, v: Triple) -> Bounds
     requires { ⌜ Good (bounds .states) v ⌝ }
-    requires { ⌜ (bounds .count ≤ 6) × (bounds .states ≤ 4096) ⌝ }
+    requires { ⌜ (bounds .count ≤ mostVars) × (bounds .states ≤ mostStates) ⌝ }
     ensures { λ r. ⌜ WithVar bounds v r ⌝ }
 {
     let mut next = bounds;
     let at = bounds.count;
-    if at < 6 {
+    if at < syntax::VARIABLES {
         next.lows[at] = (v.low - LOWEST) as u16;
         next.highs[at] = (v.high - LOWEST) as u16;
         next.starts[at] = (v.start - LOWEST) as u16;
@@ -187,11 +184,15 @@ fn size_of(low: u16, high: u16) -> usize
 }
 
 // The weights of the variables, the last one weighing 1. The remainder keeps the product small for any bounds.
-fn weights_of(lows: [u16; 6], highs: [u16; 6], count: usize) -> [u16; 6]
-    requires { ⌜ count ≤ 6 ⌝ }
+fn weights_of(
+    lows: [u16; syntax::VARIABLES],
+    highs: [u16; syntax::VARIABLES],
+    count: usize,
+) -> [u16; syntax::VARIABLES]
+    requires { ⌜ count ≤ mostVars ⌝ }
     ensures { λ r. ⌜ Weights lows highs count r ⌝ }
 {
-    let mut weights = [1u16; 6];
+    let mut weights = [1u16; syntax::VARIABLES];
     let mut weight: usize = 1;
     let mut k = count;
     while 0 < k {
@@ -204,7 +205,7 @@ fn weights_of(lows: [u16; 6], highs: [u16; 6], count: usize) -> [u16; 6]
 
 // Bounds with their weights.
 fn weighed(bounds: Bounds) -> Bounds
-    requires { ⌜ bounds .count ≤ 6 ⌝ }
+    requires { ⌜ bounds .count ≤ mostVars ⌝ }
     ensures { λ r. ⌜ Weighed bounds r ⌝ }
 {
     let mut next = bounds;
@@ -218,12 +219,12 @@ fn weighed(bounds: Bounds) -> Bounds
 // The variables that begin at a token.
 pub fn read(kinds: &[u8], values: &[u16], at: usize) -> Declared
     ensures { λ r. ⌜ ((vs : List Var) (ls us : List Lexeme) → Numbers ls (now (kinds .entry)) (now (values .entry))
-        → drop at ls ≡ each spellVar vs ++ us → EndsVars us → length vs ≤ 6 → length ls ≤ 8192
+        → drop at ls ≡ each spellVar vs ++ us → EndsVars us → length vs ≤ mostVars → length ls ≤ mostBytes
         → Ranged vs ls us at r) ⌝ }
 {
     let mut bounds = no_bounds();
     let mut i = at;
-    while kind_at(kinds, i) == VAR {
+    while kind_at(kinds, i) == syntax::KEY_VAR {
         let v = triple_at(kinds, values, i);
         if !fits(bounds.states, v) {
             return Declared {
@@ -267,13 +268,13 @@ fn digit_of(low: u16, weight: u16, rest: usize) -> Digit
 }
 
 // The values of the state with a number.
-pub fn values_of(bounds: Bounds, state: usize) -> [u16; 6]
+pub fn values_of(bounds: Bounds, state: usize) -> [u16; syntax::VARIABLES]
     ensures { λ r. ⌜ ((vs : List Var) → Bounded vs bounds → state < count vs → Biased vs (stateAt vs state) r) ⌝ }
 {
-    let mut values = [128u16; 6];
+    let mut values = [128u16; syntax::VARIABLES];
     let mut rest = state;
     let mut k = 0;
-    while k < 6 {
+    while k < syntax::VARIABLES {
         if bounds.count <= k {
             return values;
         }
@@ -297,13 +298,12 @@ fn share_of(value: u16, low: u16, weight: u16) -> usize
 }
 
 // The number of the state with some values.
-pub fn number_of(bounds: Bounds, values: [u16; 6]) -> usize
-    ensures { λ r. ⌜ ((vs : List Var) (as′ : List ℤ) → Bounded vs bounds → Biased vs as′ values → State vs as′
-        → r ≡ numberOf vs as′) ⌝ }
+pub fn number_of(bounds: Bounds, values: [u16; syntax::VARIABLES]) -> usize
+    ensures { λ r. ⌜ ((vs : List Var) (as′ : List ℤ) → Bounded vs bounds → Biased vs as′ values → State vs as′ → r ≡ numberOf vs as′) ⌝ }
 {
     let mut number: usize = 0;
     let mut k = 0;
-    while k < 6 {
+    while k < syntax::VARIABLES {
         if bounds.count <= k {
             return number;
         }

@@ -6,6 +6,8 @@ use native.Mathlib.Omega.{arith}
 use mathlib.Core.Path.{sym, refl, _∙_}
 use mathlib.Core.Bool.{true, false}
 use lib.ListN.{length}
+use Rattle.syntax.specs.Token.{mark, lparen, bang, and-and, or-or, markNumber, keywordNumber}
+use Rattle.syntax.specs.Held.Kind.{kindOf}
 use Rattle.evaluator.proofs.Places.{kind-within}
 use Rattle.evaluator.proofs.Readings.{simple-not, simple-bracketed, simple-constant, constantKind, simple-compare, conj-one, conj-more, cond-one, cond-more}
 use borrow.Fn.Kinds.{In}
@@ -73,13 +75,15 @@ eval-simple-calls t =
     (kind-at-reads.Asked, kind-at-reads.Learnt, after-reads.Asked, after-reads.Learnt, eval-simple-below t, eval-simple.Post, other-reads.Asked, other-reads.Learnt, eval-cond-below t, eval-cond.Post, eval-compare-reads.Asked, eval-compare-reads.Learnt)
 
 eval-cond-eval-cond-requires : (t : ℕ) → eval-cond-lts.Need-eval-cond-requires (eval-cond-calls t) (eval-cond-at t) eval-cond.Post
+unfolding kindOf markNumber keywordNumber
 eval-cond-eval-cond-requires t c κs =
     let conj = c .before .before .before in
     let start = conj .before .before .before in
-    let step = kind-within 18 (c .after .ensures) (sym (c .before .before .kind-at .ensures) ∙ c .before .if1 .taken) refl in
+    let step = kind-within (kindOf (mark or-or)) (c .after .ensures) (sym (c .before .before .kind-at .ensures) ∙ c .before .if1 .taken) refl in
     omega (arith, step, conj .eval-conj .ensures, c .after .ensures, start .pre)
 
 eval-cond-returns : (t : ℕ) → eval-cond-lts.Need-returns (eval-cond-calls t) (eval-cond-at t) eval-cond.Post
+unfolding kindOf markNumber keywordNumber
 eval-cond-returns t c =
     let more = c .before .before .before in
     let kind = more .before .before .before in
@@ -87,16 +91,19 @@ eval-cond-returns t c =
     (more .before .after .ensures) (more .eval-cond .ensures) (c .union .ensures)
 
 eval-cond-returns-2 : (t : ℕ) → eval-cond-lts.Need-returns-2 (eval-cond-calls t) (eval-cond-at t) eval-cond.Post
+unfolding kindOf markNumber keywordNumber
 eval-cond-returns-2 t c = cond-one (c .before .before .eval-conj .ensures) (λ e. c .if1 .left (c .before .kind-at .ensures ∙ e))
 
 eval-conj-eval-conj-requires : (t : ℕ) → eval-conj-lts.Need-eval-conj-requires (eval-conj-calls t) (eval-conj-at t) eval-conj.Post
+unfolding kindOf markNumber keywordNumber
 eval-conj-eval-conj-requires t c κs =
     let simple = c .before .before .before in
     let start = simple .before .before .before in
-    let step = kind-within 17 (c .after .ensures) (sym (c .before .before .kind-at .ensures) ∙ c .before .if1 .taken) refl in
+    let step = kind-within (kindOf (mark and-and)) (c .after .ensures) (sym (c .before .before .kind-at .ensures) ∙ c .before .if1 .taken) refl in
     omega (arith, step, simple .eval-simple .ensures, c .after .ensures, start .pre)
 
 eval-conj-returns : (t : ℕ) → eval-conj-lts.Need-returns (eval-conj-calls t) (eval-conj-at t) eval-conj.Post
+unfolding kindOf markNumber keywordNumber
 eval-conj-returns t c =
     let more = c .before .before .before in
     let kind = more .before .before .before in
@@ -104,15 +111,18 @@ eval-conj-returns t c =
     (more .before .after .ensures) (more .eval-conj .ensures) (c .both .ensures)
 
 eval-conj-returns-2 : (t : ℕ) → eval-conj-lts.Need-returns-2 (eval-conj-calls t) (eval-conj-at t) eval-conj.Post
+unfolding kindOf markNumber keywordNumber
 eval-conj-returns-2 t c = conj-one (c .before .before .eval-simple .ensures) (λ e. c .if1 .left (c .before .kind-at .ensures ∙ e))
 
 eval-simple-eval-simple-requires : (t : ℕ) → eval-simple-lts.Need-eval-simple-requires (eval-simple-calls t) (eval-simple-at t) eval-simple.Post
+unfolding kindOf markNumber keywordNumber
 eval-simple-eval-simple-requires t c κs =
     let start = c .before .before .before .before .before in
-    let step = kind-within 16 (c .before .after .ensures) (sym (c .before .before .kind-at .ensures) ∙ c .if1 .taken) refl in
+    let step = kind-within (kindOf (mark bang)) (c .before .after .ensures) (sym (c .before .before .kind-at .ensures) ∙ c .if1 .taken) refl in
     omega (arith, step, c .before .after .ensures, start .pre)
 
 eval-simple-returns : (t : ℕ) → eval-simple-lts.Need-returns (eval-simple-calls t) (eval-simple-at t) eval-simple.Post
+unfolding kindOf markNumber keywordNumber
 eval-simple-returns t c =
     let simple = c .before .before in
     let after = simple .before .before in
@@ -120,13 +130,15 @@ eval-simple-returns t c =
     (c .other .ensures)
 
 eval-simple-eval-cond-requires : (t : ℕ) → eval-simple-lts.Need-eval-cond-requires (eval-simple-calls t) (eval-simple-at t) eval-simple.Post
+unfolding kindOf markNumber keywordNumber
 eval-simple-eval-cond-requires t c κs =
     let after = c .before .before in
     let start = after .before .before .before .before in
-    let step = kind-within 2 (after .after .ensures) (sym (after .before .kind-at .ensures) ∙ c .if2 .taken) refl in
+    let step = kind-within (kindOf (mark lparen)) (after .after .ensures) (sym (after .before .kind-at .ensures) ∙ c .if2 .taken) refl in
     omega (arith, step, after .after .ensures, start .pre)
 
 eval-simple-returns-2 : (t : ℕ) → eval-simple-lts.Need-returns-2 (eval-simple-calls t) (eval-simple-at t) eval-simple.Post
+unfolding kindOf markNumber keywordNumber
 eval-simple-returns-2 t c =
     let whole = c .before .before in
     let after = whole .before .before .before in
@@ -134,18 +146,19 @@ eval-simple-returns-2 t c =
     (c .before .after2 .ensures)
 
 eval-simple-returns-3 : (t : ℕ) → eval-simple-lts.Need-returns-3 (eval-simple-calls t) (eval-simple-at t) eval-simple.Post
-unfolding constantKind
+unfolding constantKind kindOf markNumber keywordNumber
 eval-simple-returns-3 t c =
     let after = c .before .before .before in
     simple-constant true (sym (after .before .kind-at .ensures) ∙ c .if3 .taken) (after .after .ensures)
 
 eval-simple-returns-4 : (t : ℕ) → eval-simple-lts.Need-returns-4 (eval-simple-calls t) (eval-simple-at t) eval-simple.Post
-unfolding constantKind
+unfolding constantKind kindOf markNumber keywordNumber
 eval-simple-returns-4 t c =
     let after = c .before .before .before .before in
     simple-constant false (sym (after .before .kind-at .ensures) ∙ c .if4 .taken) (after .after .ensures)
 
 eval-simple-returns-5 : (t : ℕ) → eval-simple-lts.Need-returns-5 (eval-simple-calls t) (eval-simple-at t) eval-simple.Post
+unfolding kindOf markNumber keywordNumber
 eval-simple-returns-5 t c =
     let kind = c .before .before .before .before .before .before .kind-at .ensures in
     simple-compare (λ e. c .before .before .before .before .if1 .left (kind ∙ e)) (λ e. c .before .before .before .if2 .left (kind ∙ e))

@@ -6,6 +6,8 @@ use Prim.Native.Nat.{ℕ, _+_, _-_, _*_, _<_}
 use native.Mathlib.Omega.{arith}
 use mathlib.Core.Path.{sym, refl, _∙_}
 use lib.ListN.{length}
+use Rattle.syntax.specs.Token.{key, mark, rbrace, k-if, markNumber, keywordNumber}
+use Rattle.syntax.specs.Held.Kind.{kindOf, nameKind, noKind}
 use Rattle.evaluator.proofs.Places.{apart, kind-here}
 use Rattle.evaluator.proofs.Readings.{near-more}
 use Rattle.evaluator.proofs.Runs.{block-end, block-more, stmt-assign, stmt-if, branch-one, branch-two}
@@ -79,16 +81,18 @@ run-stmt-calls t =
     (after-reads.Asked, after-reads.Learnt, kind-at-reads.Asked, kind-at-reads.Learnt, eval-cond-reads.Asked, eval-cond-reads.Learnt, run-branch-below t, run-branch.Post, eval-expr-reads.Asked, eval-expr-reads.Learnt, value-at-reads.Asked, value-at-reads.Learnt, store-reads.Asked, store-reads.Learnt)
 
 run-block-returns : (t : ℕ) → run-block-lts.Need-returns (run-block-calls t) (run-block-at t) run-block.Post
+unfolding kindOf markNumber keywordNumber
 run-block-returns t c =
     let start = c .before .before .before .before in
     let kind = sym (c .before .kind-at .ensures) ∙ c .if1 .taken in
-    block-end (start .args .at) (start .pre .1 .1) (λ e. apart 1 30 refl kind e) (λ e. apart 1 25 refl kind e)
+    block-end (start .args .at) (start .pre .1 .1) (λ e. apart (kindOf (mark rbrace)) nameKind refl kind e) (λ e. apart (kindOf (mark rbrace)) (kindOf (key k-if)) refl kind e)
 
 run-block-returns-2 : (t : ℕ) → run-block-lts.Need-returns-2 (run-block-calls t) (run-block-at t) run-block.Post
+unfolding kindOf markNumber keywordNumber
 run-block-returns-2 t c =
     let start = c .before .before .before .before .before in
     let kind = sym (c .before .before .kind-at .ensures) ∙ c .if2 .taken in
-    block-end (start .args .at) (start .pre .1 .1) (λ e. apart 255 30 refl kind e) (λ e. apart 255 25 refl kind e)
+    block-end (start .args .at) (start .pre .1 .1) (λ e. apart noKind nameKind refl kind e) (λ e. apart noKind (kindOf (key k-if)) refl kind e)
 
 run-block-run-stmt-requires : (t : ℕ) → run-block-lts.Need-run-stmt-requires (run-block-calls t) (run-block-at t) run-block.Post
 run-block-run-stmt-requires t c κs =
@@ -103,6 +107,7 @@ run-block-run-block-requires t c κs =
     omega (arith, stmt .run-stmt .ensures, start .pre)
 
 run-block-returns-3 : (t : ℕ) → run-block-lts.Need-returns-3 (run-block-calls t) (run-block-at t) run-block.Post
+unfolding kindOf markNumber keywordNumber
 run-block-returns-3 t c =
     let more = c .before in
     let stmt = more .before .before .before in
@@ -125,6 +130,7 @@ run-branch-run-block-requires-2 t c κs =
     omega (arith, second .after5 .ensures, other .after3 .ensures, run .run-block .ensures, next .after .ensures, next .before .close-of .ensures, start .pre)
 
 run-branch-returns : (t : ℕ) → run-branch-lts.Need-returns (run-branch-calls t) (run-branch-at t) run-branch.Post
+unfolding kindOf markNumber keywordNumber
 run-branch-returns t c =
     let more = c .before in
     let second = more .before .before .before in
@@ -141,6 +147,7 @@ run-branch-returns t c =
     (more .before .unless .ensures) (more .run-block2 .ensures) (c .both2 .ensures)
 
 run-branch-returns-2 : (t : ℕ) → run-branch-lts.Need-returns-2 (run-branch-calls t) (run-branch-at t) run-branch.Post
+unfolding kindOf markNumber keywordNumber
 run-branch-returns-2 t c =
     let kind = c .before in
     let run = kind .before in
@@ -158,6 +165,7 @@ run-stmt-run-branch-requires t c κs =
     omega (arith, third .before .after .ensures .one-more (start .pre .1 .1 .1), third .after2 .ensures, brace .before .eval-cond .ensures, brace .after3 .ensures, start .pre)
 
 run-stmt-returns : (t : ℕ) → run-stmt-lts.Need-returns (run-stmt-calls t) (run-stmt-at t) run-stmt.Post
+unfolding kindOf markNumber keywordNumber
 run-stmt-returns t c =
     let brace = c .before .before .before in
     let test = brace .before in
@@ -174,6 +182,7 @@ run-stmt-store-requires t c κs =
     (start .pre .1 .1 .0, near-more (sum .eval-expr .ensures .near) (omega (arith, sum .eval-expr .ensures, start .pre)))
 
 run-stmt-returns-2 : (t : ℕ) → run-stmt-lts.Need-returns-2 (run-stmt-calls t) (run-stmt-at t) run-stmt.Post
+unfolding kindOf markNumber keywordNumber
 run-stmt-returns-2 t c =
     let value = c .before .before .before in
     let sum = value .before .before in

@@ -6,7 +6,8 @@ use mathlib.Core.Path.{_≡_, sym, _∙_}
 use mathlib.Core.Logic.{⊎-elim}
 use lib.ListN.{length, getD}
 use borrow.Author.Needs.{needs}
-use Rattle.syntax.specs.Token.{markNumber}
+use Rattle.syntax.specs.Held.Kind.{kindOf, noKind}
+use Rattle.syntax.specs.Token.{markNumber, mark, keywordNumber}
 use Rattle.syntax.specs.Tree.{signMark}
 use Rattle.evaluator.specs.Promises.{signOf}
 use Rattle.evaluator.proofs.Readings.{past-sign, Open, open-first, open-last, open-more}
@@ -25,14 +26,15 @@ eval-term-requires c κs =
     (record { within = inv .to; short = c .before .before .before .pre .short }, inv .near)
 
 returns : tie.Need-returns Inv-loop μ-loop
+unfolding kindOf markNumber keywordNumber
 returns c =
     let kind = c .before .before in
     open-last (kind .before .before .loop .inv) (kind .before .eval-term .ensures) (λ e. c .before .if1 .left (kind .kind-at .ensures ∙ e))
     (λ e. c .if2 .left (kind .kind-at .ensures ∙ e))
 
 -- the sign behind an operand
-sign : (c : tie.Joined1 Inv-loop μ-loop) → getD (c .before .before .before .before .before .before .args .kinds .now) (c .before .before .eval-term .result .next) 255 ≡ markNumber (signMark (signOf (c .if1 .taken)))
-unfolding markNumber signMark signOf
+sign : (c : tie.Joined1 Inv-loop μ-loop) → getD (c .before .before .before .before .before .before .args .kinds .now) (c .before .before .eval-term .result .next) noKind ≡ kindOf (mark (signMark (signOf (c .if1 .taken))))
+unfolding markNumber signMark signOf kindOf keywordNumber
 sign c =
     sym (c .before .kind-at .ensures)
     ∙ ⊎-elim (λ w. rw (w .1) (w .0 .taken)) (λ w. rw (w .2) (w .1 .taken)) (c .if1 .came)

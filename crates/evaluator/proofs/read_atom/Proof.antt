@@ -2,6 +2,8 @@
 use native.Mathlib.Omega.{arith}
 use mathlib.Core.Path.{sym, _∙_}
 use borrow.Author.Needs.{needs}
+use Rattle.syntax.specs.Held.Kind.{kindOf}
+use Rattle.syntax.specs.Token.{markNumber, keywordNumber}
 use Rattle.evaluator.proofs.Readings.{atom-name, atom-minus, atom-number}
 use Rattle.evaluator.proofs.read_atom.Statement.{statement}
 use Rattle.evaluator.proofs.read_atom.Tie as tie
@@ -12,6 +14,7 @@ returns c =
     atom-name (sym (next .before .kind-at .ensures) ∙ c .before .if1 .taken) (next .after .ensures) (c .value-at .ensures)
 
 returns-2 : tie.Need-returns-2
+unfolding kindOf markNumber keywordNumber
 returns-2 c =
     let minus = c .before .value-at2 in
     let next = c .before .before .before .before in
@@ -19,6 +22,7 @@ returns-2 c =
     (omega (arith, minus .ok)) (minus .ensures)
 
 returns-3 : tie.Need-returns-3
+unfolding kindOf markNumber keywordNumber
 returns-3 c =
     let next = c .before .before .before in
     let kind = next .before .kind-at .ensures in

@@ -5,7 +5,9 @@ use Rattle.grammar.proofs.Readers.{then, done, yes, no, passes, fuelled
 use Rattle.grammar.proofs.KindTests.{by-mark, by-key, took-mark, took-key, took-name}
 use Rattle.syntax.specs.Decide.Reading.{readBlock, readStmt}
 use Rattle.syntax.specs.Tree.{only, just, constant, end, if-then}
-use Rattle.syntax.specs.Token.{lbrace, rbrace, lparen, rparen, semicolon, becomes, k-if, k-else, markNumber, keywordNumber}
+use Rattle.syntax.specs.Token.{lbrace, rbrace, lparen, rparen, semicolon, becomes, k-if, k-else, markNumber}
+use Rattle.syntax.specs.Token.{keywordNumber}
+use Rattle.syntax.specs.Held.Kind.{kindOf}
 use borrow.Author.Needs.{needs}
 use native.Mathlib.Omega.{arith}
 use Prim.Native.Nat.{ℕ, _<_}
@@ -55,19 +57,19 @@ read-block-returns t c =
     spent readBlock end (λ ls. refl) (c .before .if1 .taken) (c .stop .ensures)
 
 read-block-returns-2 : (t : ℕ) → read-block-lts.Need-returns-2 (read-block-calls t) (read-block-at t) read-block.Post
-unfolding readBlock markNumber
+unfolding readBlock kindOf markNumber
 read-block-returns-2 t c =
     fuelled readBlock (c .before .before .if1 .left) (yes _ (by-mark rbrace) (c .before .sees .ensures) (c .if2 .taken) (done _))
 
 read-block-returns-3 : (t : ℕ) → read-block-lts.Need-returns-3 (read-block-calls t) (read-block-at t) read-block.Post
-unfolding readBlock markNumber
+unfolding readBlock kindOf markNumber
 read-block-returns-3 t c =
     fuelled readBlock (c .before .before .before .before .before .before .if1 .left)
     (no _ (by-mark rbrace) (c .before .before .before .before .before .sees .ensures) (c .before .before .before .before .if2 .left)
     (then (c .before .before .before .read-stmt .ensures) λ _. then (c .read-block .ensures) λ _. done _))
 
 read-block-returns-4 : (t : ℕ) → read-block-lts.Need-returns-4 (read-block-calls t) (read-block-at t) read-block.Post
-unfolding readBlock markNumber
+unfolding readBlock kindOf markNumber
 read-block-returns-4 t c =
     fuelled readBlock (c .before .before .before .before .before .if1 .left)
     (no _ (by-mark rbrace) (c .before .before .before .before .sees .ensures) (c .before .before .before .if2 .left)
@@ -82,7 +84,7 @@ read-stmt-returns t c =
     spent readStmt (if-then (only (just (constant true))) end) (λ ls. refl) (c .before .if1 .taken) (c .stop .ensures)
 
 read-stmt-returns-2 : (t : ℕ) → read-stmt-lts.Need-returns-2 (read-stmt-calls t) (read-stmt-at t) read-stmt.Post
-unfolding readStmt markNumber keywordNumber
+unfolding readStmt kindOf markNumber keywordNumber
 read-stmt-returns-2 t c =
     fuelled readStmt (c .before .before .before .before .before .before .before .before .before .before .before .before .before .before .before .if1 .left)
     (yes _ (by-key k-if) (c .before .before .before .before .before .before .before .before .before .before .before .before .before .before .sees .ensures) (c .before .before .before .before .before .before .before .before .before .before .before .before .before .if2 .taken)
@@ -100,7 +102,7 @@ read-stmt-returns-2 t c =
     then (took-mark rbrace (c .expect8 .ensures)) λ _. done _)))
 
 read-stmt-returns-3 : (t : ℕ) → read-stmt-lts.Need-returns-3 (read-stmt-calls t) (read-stmt-at t) read-stmt.Post
-unfolding readStmt markNumber keywordNumber
+unfolding readStmt kindOf markNumber keywordNumber
 read-stmt-returns-3 t c =
     fuelled readStmt (c .before .before .before .before .before .before .before .before .before .before .before .if1 .left)
     (yes _ (by-key k-if) (c .before .before .before .before .before .before .before .before .before .before .sees .ensures) (c .before .before .before .before .before .before .before .before .before .if2 .taken)
@@ -114,7 +116,7 @@ read-stmt-returns-3 t c =
     no _ (by-key k-else) (c .before .sees2 .ensures) (c .if3 .left) (done _)))
 
 read-stmt-returns-4 : (t : ℕ) → read-stmt-lts.Need-returns-4 (read-stmt-calls t) (read-stmt-at t) read-stmt.Post
-unfolding readStmt markNumber keywordNumber
+unfolding readStmt kindOf markNumber keywordNumber
 read-stmt-returns-4 t c =
     fuelled readStmt (c .before .before .before .before .before .before .if1 .left)
     (no _ (by-key k-if) (c .before .before .before .before .before .sees .ensures) (c .before .before .before .before .if2 .left)

@@ -6,6 +6,7 @@ use Rattle.grammar.proofs.KindTests.{by-mark, by-key, took-mark, took-k
 use Rattle.syntax.specs.Decide.Reading.{readCond, readConj, readSimple}
 use Rattle.syntax.specs.Tree.{only, just, constant}
 use Rattle.syntax.specs.Token.{lparen, rparen, bang, and-and, or-or, k-true, k-false, markNumber, keywordNumber}
+use Rattle.syntax.specs.Held.Kind.{kindOf}
 use native.Mathlib.Omega.{arith}
 use Prim.Native.Nat.{ℕ, _<_}
 use borrow.Fn.Kinds.{In}
@@ -67,14 +68,14 @@ read-cond-returns t c =
     spent readCond (only (just (constant true))) (λ ls. refl) (c .before .if1 .taken) (c .stop .ensures)
 
 read-cond-returns-2 : (t : ℕ) → read-cond-lts.Need-returns-2 (read-cond-calls t) (read-cond-at t) read-cond.Post
-unfolding readCond markNumber
+unfolding readCond kindOf markNumber
 read-cond-returns-2 t c =
     fuelled readCond (c .before .before .before .before .before .if1 .left)
     (then (c .before .before .before .before .read-conj .ensures) λ _. yes _ (by-mark or-or) (c .before .before .before .sees .ensures) (c .before .before .if2 .taken)
     (then (took-mark or-or (c .before .expect .ensures)) λ _. then (c .read-cond .ensures) λ _. done _))
 
 read-cond-returns-3 : (t : ℕ) → read-cond-lts.Need-returns-3 (read-cond-calls t) (read-cond-at t) read-cond.Post
-unfolding readCond markNumber
+unfolding readCond kindOf markNumber
 read-cond-returns-3 t c =
     fuelled readCond (c .before .before .before .if1 .left)
     (then (c .before .before .read-conj .ensures) λ _. no _ (by-mark or-or) (c .before .sees .ensures) (c .if2 .left) (done _))
@@ -88,14 +89,14 @@ read-conj-returns t c =
     spent readConj (just (constant true)) (λ ls. refl) (c .before .if1 .taken) (c .stop .ensures)
 
 read-conj-returns-2 : (t : ℕ) → read-conj-lts.Need-returns-2 (read-conj-calls t) (read-conj-at t) read-conj.Post
-unfolding readConj markNumber
+unfolding readConj kindOf markNumber
 read-conj-returns-2 t c =
     fuelled readConj (c .before .before .before .before .before .if1 .left)
     (then (c .before .before .before .before .read-simple .ensures) λ _. yes _ (by-mark and-and) (c .before .before .before .sees .ensures) (c .before .before .if2 .taken)
     (then (took-mark and-and (c .before .expect .ensures)) λ _. then (c .read-conj .ensures) λ _. done _))
 
 read-conj-returns-3 : (t : ℕ) → read-conj-lts.Need-returns-3 (read-conj-calls t) (read-conj-at t) read-conj.Post
-unfolding readConj markNumber
+unfolding readConj kindOf markNumber
 read-conj-returns-3 t c =
     fuelled readConj (c .before .before .before .if1 .left)
     (then (c .before .before .read-simple .ensures) λ _. no _ (by-mark and-and) (c .before .sees .ensures) (c .if2 .left) (done _))
@@ -109,14 +110,14 @@ read-simple-returns t c =
     spent readSimple (constant true) (λ ls. refl) (c .before .if1 .taken) (c .stop .ensures)
 
 read-simple-returns-2 : (t : ℕ) → read-simple-lts.Need-returns-2 (read-simple-calls t) (read-simple-at t) read-simple.Post
-unfolding readSimple markNumber keywordNumber
+unfolding readSimple kindOf markNumber keywordNumber
 read-simple-returns-2 t c =
     fuelled readSimple (c .before .before .before .before .if1 .left)
     (yes _ (by-mark bang) (c .before .before .before .sees .ensures) (c .before .before .if2 .taken)
     (then (took-mark bang (c .before .expect .ensures)) λ _. then (c .read-simple .ensures) λ _. done _))
 
 read-simple-returns-3 : (t : ℕ) → read-simple-lts.Need-returns-3 (read-simple-calls t) (read-simple-at t) read-simple.Post
-unfolding readSimple markNumber keywordNumber
+unfolding readSimple kindOf markNumber keywordNumber
 read-simple-returns-3 t c =
     fuelled readSimple (c .before .before .before .before .before .before .before .if1 .left)
     (no _ (by-mark bang) (c .before .before .before .before .before .before .sees .ensures) (c .before .before .before .before .before .if2 .left)
@@ -124,7 +125,7 @@ read-simple-returns-3 t c =
     (then (took-mark lparen (c .before .before .expect2 .ensures)) λ _. then (c .before .read-cond .ensures) λ _. then (took-mark rparen (c .expect3 .ensures)) λ _. done _)))
 
 read-simple-returns-4 : (t : ℕ) → read-simple-lts.Need-returns-4 (read-simple-calls t) (read-simple-at t) read-simple.Post
-unfolding readSimple markNumber keywordNumber
+unfolding readSimple kindOf markNumber keywordNumber
 read-simple-returns-4 t c =
     fuelled readSimple (c .before .before .before .before .before .before .before .if1 .left)
     (no _ (by-mark bang) (c .before .before .before .before .before .before .sees .ensures) (c .before .before .before .before .before .if2 .left)
@@ -133,7 +134,7 @@ read-simple-returns-4 t c =
     (then (took-key k-true (c .expect4 .ensures)) λ _. done _))))
 
 read-simple-returns-5 : (t : ℕ) → read-simple-lts.Need-returns-5 (read-simple-calls t) (read-simple-at t) read-simple.Post
-unfolding readSimple markNumber keywordNumber
+unfolding readSimple kindOf markNumber keywordNumber
 read-simple-returns-5 t c =
     fuelled readSimple (c .before .before .before .before .before .before .before .before .before .if1 .left)
     (no _ (by-mark bang) (c .before .before .before .before .before .before .before .before .sees .ensures) (c .before .before .before .before .before .before .before .if2 .left)
@@ -143,7 +144,7 @@ read-simple-returns-5 t c =
     (then (took-key k-false (c .expect5 .ensures)) λ _. done _)))))
 
 read-simple-returns-6 : (t : ℕ) → read-simple-lts.Need-returns-6 (read-simple-calls t) (read-simple-at t) read-simple.Post
-unfolding readSimple markNumber keywordNumber
+unfolding readSimple kindOf markNumber keywordNumber
 read-simple-returns-6 t c =
     fuelled readSimple (c .before .before .before .before .before .before .before .before .before .before .before .if1 .left)
     (no _ (by-mark bang) (c .before .before .before .before .before .before .before .before .before .before .sees .ensures) (c .before .before .before .before .before .before .before .before .before .if2 .left)

@@ -5,6 +5,7 @@ use Rattle.grammar.proofs.Readers.{then, done, yes, no, fuelled, spent}
 use Rattle.grammar.proofs.KindTests.{by-key}
 use Rattle.syntax.specs.Decide.Reading.{readMany, readMethod}
 use Rattle.syntax.specs.Token.{isKey, k-method, keywordNumber}
+use Rattle.syntax.specs.Held.Kind.{kindOf}
 use native.Mathlib.Omega.{arith}
 use Prim.Native.Nat.{ℕ, _<_}
 use borrow.Fn.Kinds.{In}
@@ -42,14 +43,14 @@ read-methods-returns t c =
     spent (readMany (isKey k-method) (readMethod _)) [] (λ ls. refl) (c .before .if1 .taken) (c .stop .ensures)
 
 read-methods-returns-2 : (t : ℕ) → read-methods-lts.Need-returns-2 (read-methods-calls t) (read-methods-at t) read-methods.Post
-unfolding readMany keywordNumber
+unfolding readMany kindOf keywordNumber
 read-methods-returns-2 t c =
     fuelled (readMany (isKey k-method) (readMethod _)) (c .before .before .before .before .if1 .left)
     (yes _ (by-key k-method) (c .before .before .before .sees .ensures) (c .before .before .if2 .taken)
     (then (c .before .read-method .ensures) λ _. then (c .read-methods .ensures) λ _. done _))
 
 read-methods-returns-3 : (t : ℕ) → read-methods-lts.Need-returns-3 (read-methods-calls t) (read-methods-at t) read-methods.Post
-unfolding readMany keywordNumber
+unfolding readMany kindOf keywordNumber
 read-methods-returns-3 t c =
     fuelled (readMany (isKey k-method) (readMethod _)) (c .before .before .if1 .left)
     (no _ (by-key k-method) (c .before .sees .ensures) (c .if2 .left) (done _))

@@ -5,6 +5,7 @@ use Rattle.grammar.proofs.Readers.{then, done, yes, no, fuelled, spent}
 use Rattle.grammar.proofs.KindTests.{by-key}
 use Rattle.syntax.specs.Decide.Reading.{readMany, readRegion}
 use Rattle.syntax.specs.Token.{isKey, k-waituntil, keywordNumber}
+use Rattle.syntax.specs.Held.Kind.{kindOf}
 use native.Mathlib.Omega.{arith}
 use Prim.Native.Nat.{ℕ, _<_}
 use borrow.Fn.Kinds.{In}
@@ -42,14 +43,14 @@ read-regions-returns t c =
     spent (readMany (isKey k-waituntil) (readRegion _)) [] (λ ls. refl) (c .before .if1 .taken) (c .stop .ensures)
 
 read-regions-returns-2 : (t : ℕ) → read-regions-lts.Need-returns-2 (read-regions-calls t) (read-regions-at t) read-regions.Post
-unfolding readMany keywordNumber
+unfolding readMany kindOf keywordNumber
 read-regions-returns-2 t c =
     fuelled (readMany (isKey k-waituntil) (readRegion _)) (c .before .before .before .before .if1 .left)
     (yes _ (by-key k-waituntil) (c .before .before .before .sees .ensures) (c .before .before .if2 .taken)
     (then (c .before .read-region .ensures) λ _. then (c .read-regions .ensures) λ _. done _))
 
 read-regions-returns-3 : (t : ℕ) → read-regions-lts.Need-returns-3 (read-regions-calls t) (read-regions-at t) read-regions.Post
-unfolding readMany keywordNumber
+unfolding readMany kindOf keywordNumber
 read-regions-returns-3 t c =
     fuelled (readMany (isKey k-waituntil) (readRegion _)) (c .before .before .if1 .left)
     (no _ (by-key k-waituntil) (c .before .sees .ensures) (c .if2 .left) (done _))

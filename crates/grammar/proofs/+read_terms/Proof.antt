@@ -4,6 +4,8 @@ use mathlib.Core.List.{[]}
 use Rattle.grammar.proofs.Readers.{then, done, yes, no, fuelled, spent}
 use Rattle.grammar.proofs.KindTests.{by-sign, took-sign}
 use Rattle.syntax.specs.Decide.Reading.{readMany, readTerm, isSign}
+use Rattle.syntax.specs.Token.{markNumber}
+use Rattle.syntax.specs.Held.Kind.{kindOf}
 use native.Mathlib.Omega.{arith}
 use Prim.Native.Nat.{ℕ, _<_}
 use borrow.Fn.Kinds.{In}
@@ -38,14 +40,14 @@ read-terms-returns t c =
     spent (readMany isSign readTerm) [] (λ ls. refl) (c .before .if1 .taken) (c .stop .ensures)
 
 read-terms-returns-2 : (t : ℕ) → read-terms-lts.Need-returns-2 (read-terms-calls t) (read-terms-at t) read-terms.Post
-unfolding readMany readTerm
+unfolding readMany readTerm kindOf markNumber
 read-terms-returns-2 t c =
     fuelled (readMany isSign readTerm) (c .before .before .before .before .before .if1 .left)
     (yes _ by-sign (c .before .before .before .before .sees-among .ensures) (c .before .before .before .if2 .taken)
     (then (then (took-sign (c .before .before .expect-among .ensures)) λ _. then (c .before .read-atom .ensures) λ _. done _) λ _. then (c .read-terms .ensures) λ _. done _))
 
 read-terms-returns-3 : (t : ℕ) → read-terms-lts.Need-returns-3 (read-terms-calls t) (read-terms-at t) read-terms.Post
-unfolding readMany readTerm
+unfolding readMany readTerm kindOf markNumber
 read-terms-returns-3 t c =
     fuelled (readMany isSign readTerm) (c .before .before .if1 .left)
     (no _ by-sign (c .before .sees-among .ensures) (c .if2 .left) (done _))

@@ -5,6 +5,7 @@ use Rattle.grammar.proofs.Readers.{then, done, yes, no, fuelled, spent}
 use Rattle.grammar.proofs.KindTests.{by-key}
 use Rattle.syntax.specs.Decide.Reading.{readMany, readVar}
 use Rattle.syntax.specs.Token.{isKey, k-var, keywordNumber}
+use Rattle.syntax.specs.Held.Kind.{kindOf}
 use native.Mathlib.Omega.{arith}
 use Prim.Native.Nat.{ℕ, _<_}
 use borrow.Fn.Kinds.{In}
@@ -37,14 +38,14 @@ read-vars-returns t c =
     spent (readMany (isKey k-var) readVar) [] (λ ls. refl) (c .before .if1 .taken) (c .stop .ensures)
 
 read-vars-returns-2 : (t : ℕ) → read-vars-lts.Need-returns-2 (read-vars-calls t) (read-vars-at t) read-vars.Post
-unfolding readMany keywordNumber
+unfolding readMany kindOf keywordNumber
 read-vars-returns-2 t c =
     fuelled (readMany (isKey k-var) readVar) (c .before .before .before .before .if1 .left)
     (yes _ (by-key k-var) (c .before .before .before .sees .ensures) (c .before .before .if2 .taken)
     (then (c .before .read-var .ensures) λ _. then (c .read-vars .ensures) λ _. done _))
 
 read-vars-returns-3 : (t : ℕ) → read-vars-lts.Need-returns-3 (read-vars-calls t) (read-vars-at t) read-vars.Post
-unfolding readMany keywordNumber
+unfolding readMany kindOf keywordNumber
 read-vars-returns-3 t c =
     fuelled (readMany (isKey k-var) readVar) (c .before .before .if1 .left)
     (no _ (by-key k-var) (c .before .sees .ensures) (c .if2 .left) (done _))

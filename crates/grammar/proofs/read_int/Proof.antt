@@ -3,17 +3,18 @@ use Rattle.grammar.proofs.Readers.{then, done, yes, no}
 use Rattle.grammar.proofs.KindTests.{by-mark, took-mark, took-number}
 use Rattle.syntax.specs.Decide.Reading.{readInt}
 use Rattle.syntax.specs.Token.{minus, markNumber}
+use Rattle.syntax.specs.Held.Kind.{kindOf}
 use Rattle.grammar.proofs.read_int.Statement.{statement}
 use Rattle.grammar.proofs.read_int.Tie as tie
 
 returns : tie.Need-returns
-unfolding readInt markNumber
+unfolding readInt kindOf markNumber
 returns c =
     yes _ (by-mark minus) (c .before .before .before .sees .ensures) (c .before .before .if1 .taken)
     (then (took-mark minus (c .before .expect .ensures)) λ _. then (took-number (c .expect2 .ensures)) λ _. done _)
 
 returns-2 : tie.Need-returns-2
-unfolding readInt markNumber
+unfolding readInt kindOf markNumber
 returns-2 c =
     no _ (by-mark minus) (c .before .before .sees .ensures) (c .before .if1 .left) (then (took-number (c .expect3 .ensures)) λ _. done _)
 

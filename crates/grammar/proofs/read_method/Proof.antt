@@ -3,11 +3,12 @@ use Rattle.grammar.proofs.Readers.{then, done}
 use Rattle.grammar.proofs.KindTests.{took-mark, took-key, took-name}
 use Rattle.syntax.specs.Decide.Reading.{readSome, readMethod}
 use Rattle.syntax.specs.Token.{lbrace, rbrace, k-method, markNumber, keywordNumber}
+use Rattle.syntax.specs.Held.Kind.{kindOf}
 use Rattle.grammar.proofs.read_method.Statement.{statement}
 use Rattle.grammar.proofs.read_method.Tie as tie
 
 returns : tie.Need-returns
-unfolding readMethod readSome markNumber keywordNumber
+unfolding readMethod readSome kindOf markNumber keywordNumber
 returns c =
     then (took-key k-method (c .before .before .before .before .before .expect .ensures)) λ _.
     then (took-name (c .before .before .before .before .expect2 .ensures)) λ _.

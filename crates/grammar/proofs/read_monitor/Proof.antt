@@ -3,11 +3,12 @@ use Rattle.grammar.proofs.Readers.{then, done}
 use Rattle.grammar.proofs.KindTests.{took-mark, took-key, took-name}
 use Rattle.syntax.specs.Decide.Reading.{readSome, readMonitor}
 use Rattle.syntax.specs.Token.{lbrace, rbrace, semicolon, k-monitor, k-keep, markNumber, keywordNumber}
+use Rattle.syntax.specs.Held.Kind.{kindOf}
 use Rattle.grammar.proofs.read_monitor.Statement.{statement}
 use Rattle.grammar.proofs.read_monitor.Tie as tie
 
 returns : tie.Need-returns
-unfolding readMonitor readSome markNumber keywordNumber
+unfolding readMonitor readSome kindOf markNumber keywordNumber
 returns c =
     then (took-key k-monitor (c .before .before .before .before .before .before .before .before .before .before .before .expect .ensures)) λ _.
     then (took-name (c .before .before .before .before .before .before .before .before .before .before .expect2 .ensures)) λ _.

@@ -3,11 +3,12 @@ use Rattle.grammar.proofs.Readers.{then, done}
 use Rattle.grammar.proofs.KindTests.{took-mark, took-key}
 use Rattle.syntax.specs.Decide.Reading.{readRegion}
 use Rattle.syntax.specs.Token.{lbrace, rbrace, lparen, rparen, k-waituntil, markNumber, keywordNumber}
+use Rattle.syntax.specs.Held.Kind.{kindOf}
 use Rattle.grammar.proofs.read_region.Statement.{statement}
 use Rattle.grammar.proofs.read_region.Tie as tie
 
 returns : tie.Need-returns
-unfolding readRegion markNumber keywordNumber
+unfolding readRegion kindOf markNumber keywordNumber
 returns c =
     then (took-key k-waituntil (c .before .before .before .before .before .before .expect .ensures)) λ _.
     then (took-mark lparen (c .before .before .before .before .before .expect2 .ensures)) λ _.

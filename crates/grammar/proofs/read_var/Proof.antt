@@ -3,11 +3,12 @@ use Rattle.grammar.proofs.Readers.{then, done}
 use Rattle.grammar.proofs.KindTests.{took-mark, took-key, took-name}
 use Rattle.syntax.specs.Decide.Reading.{readVar}
 use Rattle.syntax.specs.Token.{k-var, equals, k-in, dots, semicolon, markNumber, keywordNumber}
+use Rattle.syntax.specs.Held.Kind.{kindOf}
 use Rattle.grammar.proofs.read_var.Statement.{statement}
 use Rattle.grammar.proofs.read_var.Tie as tie
 
 returns : tie.Need-returns
-unfolding readVar markNumber keywordNumber
+unfolding readVar kindOf markNumber keywordNumber
 returns c =
     then (took-key k-var (c .before .before .before .before .before .before .before .before .expect .ensures)) λ _.
     then (took-name (c .before .before .before .before .before .before .before .expect2 .ensures)) λ _.

@@ -4,9 +4,9 @@ use native.Mathlib.Omega.{arith}
 use mathlib.Core.Path.{_≡_, refl, sym, _∙_}
 use mathlib.Core.List.{List}
 use lib.ListN.{length, drop, getD}
-use Rattle.syntax.specs.Token.{Token, lexemes, Lexeme}
+use Rattle.syntax.specs.Token.{Token, lexemes, Lexeme, key, k-waituntil, keywordNumber}
 use Rattle.syntax.specs.Tree.{Region}
-use Rattle.syntax.specs.Held.Kind.{Words}
+use Rattle.syntax.specs.Held.Kind.{kindOf, noKind, Words}
 use Rattle.layout.specs.Promises.{Flagged, Holds, Grown}
 use Rattle.layout.proofs.Methods.{kind-within, regionsAhead, Ahead, ahead-start, ahead-turn, ahead-full}
 use Rattle.layout.proofs.Methods.{ahead-over}
@@ -32,8 +32,8 @@ loop-holds c =
     )
 
 -- in a turn `waituntil` stands there
-waits : (q : tie.Then1 Inv-loop μ-loop) → getD
-    (q .before .before .before .before .before .before .before .args .kinds .now) (q .before .before .loop .i) 255 ≡ 24
+waits : (q : tie.Then1 Inv-loop μ-loop) → getD (q .before .before .before .before .before .before .before .args .kinds .now) (q .before .before .loop .i) noKind ≡ kindOf (key k-waituntil)
+unfolding kindOf keywordNumber
 waits q = sym (q .before .kind-at .ensures) ∙ q .if1 .taken
 
 returns : tie.Need-returns Inv-loop μ-loop
@@ -52,7 +52,7 @@ add-region-requires c κs =
     let q = c .before .before .before .before in
     let s = q .before .before .before .before .before in (
       s .pre .0,
-      kind-within (s .args .kinds .now) (q .loop .i) 24 (waits (c .before .before)) (omega arith),
+      kind-within (s .args .kinds .now) (q .loop .i) (key k-waituntil) (waits (c .before .before)),
       q .loop .inv .1 .room,
       omega (arith, c .if2 .left),
     )
@@ -60,8 +60,7 @@ add-region-requires c κs =
 loop-less : tie.Need-loop-less Inv-loop μ-loop
 loop-less c =
     let q = c .before .before .before .before .before .before in
-    let low = kind-within (q .before .before .before .before .before .args .kinds .now) (q .loop .i) 24
-    (waits (c .before .before .before .before)) (omega arith) in
+    let low = kind-within (q .before .before .before .before .before .args .kinds .now) (q .loop .i) (key k-waituntil) (waits (c .before .before .before .before)) in
     omega (arith, low, c .before .add-region .ensures .1)
 
 loop-again : tie.Need-loop-again Inv-loop μ-loop
@@ -83,6 +82,7 @@ loop-again c =
     )
 
 returns-2 : tie.Need-returns-2 Inv-loop μ-loop
+unfolding kindOf keywordNumber
 returns-2 c =
     let q = c .before .before in
     let a = q .before .before .before .before .before .args in (

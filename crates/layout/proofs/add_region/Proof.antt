@@ -6,12 +6,12 @@ use mathlib.Core.Path.{_≡_, ap, _∙_}
 use mathlib.Core.Logic.{inl, inr, ⊎-elim}
 use mathlib.Core.List.{map}
 use lib.ListN.{length, drop}
-use Rattle.syntax.specs.Token.{lexemes}
+use Rattle.syntax.specs.Token.{lexemes, markNumber}
 use Rattle.layout.specs.Places.{toGuard, toBody, past}
 use Rattle.layout.specs.Promises.{flagAt}
-use Rattle.layout.specs.Closing.{closeFrom}
 use Rattle.syntax.specs.Held.Kind.{kindOf}
 use Rattle.layout.proofs.Closes.{close-within}
+use Rattle.layout.proofs.Closes.{openBracket, shutBracket, openBrace, shutBrace, braceEnd}
 use Rattle.layout.proofs.Same.{lexemes-length}
 use Rattle.layout.proofs.Regions.{Numbered, numbered-same, numbered-room, numbered-holds}
 use Rattle.layout.proofs.Spelled.{bodyOf, nextOf, spelled, flag-behind}
@@ -23,11 +23,12 @@ use Rattle.layout.proofs.add_region.Tie as tie
 bracket : (q : tie.After-closing) → (q .closing .result ≤ length
     (q .before .before .before .before .before .args .kinds .now) + 1)
     × (q .before .before .before .before .before .args .at + toGuard ≤ q .closing .result)
+unfolding kindOf markNumber
 bracket q =
     let a = q .before .before .before .before .before .args in
     let ks = a .kinds .now in
     let e = q .closing .ensures in
-    let w = close-within 2 3 (a .at + toGuard) ks (length ks + 1)
+    let w = close-within openBracket shutBracket (a .at + toGuard) ks (length ks + 1)
     (omega (arith, q .before .before .before .before .before .pre .1)) (omega arith) in
     (omega (arith, e, w), omega (arith, e))
 
@@ -40,6 +41,7 @@ brace : (q : tie.After-closing2)
     (q .before .before .before .before .before .before .args .at))
     × (q .closing2 .result + past ≡ nextOf (q .before .before .before .before .before .before .args .kinds .now)
     (q .before .before .before .before .before .before .args .at))
+unfolding kindOf markNumber
 brace q =
     let a = q .before .before .before .before .before .before .args in
     let ks = a .kinds .now in
@@ -47,12 +49,12 @@ brace q =
     let e = q .closing2 .ensures in
     let body : q .before .closing .result + toBody ≡ bodyOf ks (a .at) =
     ap (λ n. n + toBody) (q .before .closing .ensures) in
-    let w = close-within 0 1 (q .before .closing .result + toBody) ks (length ks + 3) (omega (arith, b .0))
+    let w = close-within openBrace shutBrace (q .before .closing .result + toBody) ks (length ks + 3) (omega (arith, b .0))
     (omega arith) in (
       omega (arith, e, w),
       omega (arith, e, b .1),
       body,
-      ap (λ n. n + past) (e ∙ ap (λ n. n + closeFrom 0 1 0 (drop n ks)) body),
+      ap (λ n. n + past) (e ∙ ap (λ n. n + braceEnd (drop n ks)) body),
     )
 
 -- a guard's number is new or known

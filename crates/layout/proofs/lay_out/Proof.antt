@@ -5,14 +5,15 @@ use native.Mathlib.Omega.{arith}
 use mathlib.Core.Path.{_≡_, sym, ap, _∙_}
 use mathlib.Core.List.{List}
 use lib.ListN.{length, getD}
-use Rattle.syntax.specs.Token.{Token, lexemes}
+use Rattle.syntax.specs.Token.{Token, lexemes, key, k-method, markNumber, keywordNumber}
 use Rattle.syntax.specs.Tree.{Monitor, all, spell}
 use Rattle.meaning.specs.Model.{regions}
 use Rattle.layout.specs.Places.{toKept, past}
 use Rattle.layout.specs.Laid.{IsKeep}
-use Rattle.syntax.specs.Held.Kind.{Words}
+use Rattle.syntax.specs.Held.Kind.{kindOf, noKind, Words}
 use Rattle.layout.specs.Promises.{Room}
 use Rattle.layout.proofs.Closes.{close-within}
+use Rattle.layout.proofs.Closes.{semicolonKind}
 use Rattle.layout.proofs.Methods.{kind-within, AheadAll, all-start, all-turn, all-over}
 use Rattle.layout.proofs.Whole.{laid, holds-none, keep-below, keep-at, methods-at, words-sized, few-flagged}
 use Rattle.layout.proofs.lay_out.Statement.{statement}
@@ -44,13 +45,15 @@ returns-3 c =
     λ m ts w e few small k. absurd (c .before .if3 .taken (words-sized w .1))
 
 add-i : tie.Need-add-i Inv-loop μ-loop
+unfolding kindOf markNumber
 add-i c =
     let a = c .before .before .before .before .before .before .before .before .before .args in
     let ks = a .kinds .now in
-    let w = close-within 255 4 (a .keep + toKept) ks (length ks) (omega arith) (omega arith) in
+    let w = close-within noKind semicolonKind (a .keep + toKept) ks (length ks) (omega arith) (omega arith) in
     omega (arith, c .closing .ensures, w)
 
 loop-holds : tie.Need-loop-holds Inv-loop μ-loop
+unfolding kindOf markNumber
 loop-holds c =
     let a = c .before .before .before .before .before .before .before .before .before .args in
     let l = c .before .empty4 in
@@ -68,11 +71,12 @@ kindsOf q =
     let l = q .before .before .before .before in
     l .before .before .before .before .before .before .before .before .args .kinds .now
 
-begins : (q : tie.Then4 Inv-loop μ-loop) → getD (kindsOf q) (q .before .before .loop .i) 255 ≡ 23
+begins : (q : tie.Then4 Inv-loop μ-loop) → getD (kindsOf q) (q .before .before .loop .i) noKind ≡ kindOf (key k-method)
+unfolding kindOf keywordNumber
 begins q = sym (q .before .kind-at .ensures) ∙ q .if4 .taken
 
 inside : (q : tie.Then4 Inv-loop μ-loop) → q .before .before .loop .i < length (kindsOf q)
-inside q = kind-within (kindsOf q) (q .before .before .loop .i) 23 (begins q) (omega arith)
+inside q = kind-within (kindsOf q) (q .before .before .loop .i) (key k-method) (begins q)
 
 add-add-method : tie.Need-add-add-method Inv-loop μ-loop
 add-add-method c = omega (arith, inside c)
@@ -110,6 +114,7 @@ loop-again c =
     )
 
 returns-4 : tie.Need-returns-4 Inv-loop μ-loop
+unfolding kindOf keywordNumber
 returns-4 c =
     let q = c .before .before in
     let a = q .before .before .before .before .before .before .before .before .before .before .args in

@@ -5,6 +5,7 @@ use native.Mathlib.Omega.{arith}
 use mathlib.Core.Path.{_≡_, sym, ap, _∙_}
 use mathlib.Core.Logic.{⊎-elim}
 use lib.ListN.{length, length-map}
+use Rattle.syntax.specs.Token.{markNumber}
 use Rattle.syntax.specs.Held.Kind.{kindOf}
 use Rattle.layout.specs.Laid.{Kinds}
 use Rattle.layout.proofs.Links.{linkOf, Links, links-none, links-pass, links-store, links-linked}
@@ -47,6 +48,7 @@ loop-less : tie.Need-loop-less Inv-loop μ-loop
 loop-less c = omega arith
 
 loop-again : tie.Need-loop-again Inv-loop μ-loop
+unfolding kindOf markNumber
 loop-again c =
     let q = c .before .before .before in
     let a = q .before .before .before .before .args in

@@ -3,8 +3,10 @@ use Prim.Native.Nat.{_-_}
 use native.Mathlib.Omega.{arith}
 use mathlib.Core.Path.{_≡_, sym, _∙_}
 use lib.ListN.{length, drop}
-use Rattle.layout.specs.Closing.{closeFrom}
+use Rattle.syntax.specs.Token.{markNumber}
+use Rattle.syntax.specs.Held.Kind.{kindOf}
 use Rattle.layout.proofs.Closes.{close-within}
+use Rattle.layout.proofs.Closes.{openBracket, shutBracket, bracketEnd}
 use Rattle.layout.proofs.Guards.{guard-below, lengths-differ, guards-agree}
 use borrow.Author.Needs.{needs}
 use Rattle.layout.proofs.same_guard.Statement.{statement}
@@ -14,8 +16,9 @@ use Rattle.layout.proofs.same_guard.Tie as tie
 lengths :
     (q : tie.After-closing2)
     → (let a = q .before .before .before .before .before .before .before .before .args in
-    (q .before .closing .result - a .a ≡ closeFrom 2 3 0 (drop (a .a) (a .kinds .now)))
-    × (q .closing2 .result - a .b ≡ closeFrom 2 3 0 (drop (a .b) (a .kinds .now))))
+    (q .before .closing .result - a .a ≡ bracketEnd (drop (a .a) (a .kinds .now)))
+    × (q .closing2 .result - a .b ≡ bracketEnd (drop (a .b) (a .kinds .now))))
+unfolding kindOf markNumber
 lengths q = (omega (arith, q .before .closing .ensures), omega (arith, q .closing2 .ensures))
 
 returns : tie.Need-returns
@@ -41,9 +44,9 @@ returns-3 c =
 same-tokens-requires : tie.Need-same-tokens-requires
 same-tokens-requires c κs =
     let a = c .before .before .before .before .before .before .before .before .before .args in
-    let p = close-within 2 3 (a .a) (a .kinds .now) (length (a .kinds .now))
+    let p = close-within openBracket shutBracket (a .a) (a .kinds .now) (length (a .kinds .now))
     (c .before .before .before .before .if1 .left) (omega arith) in
-    let q = close-within 2 3 (a .b) (a .kinds .now) (length (a .kinds .now)) (c .before .before .before .if2 .left)
+    let q = close-within openBracket shutBracket (a .b) (a .kinds .now) (length (a .kinds .now)) (c .before .before .before .if2 .left)
     (omega arith) in
     let e = lengths (c .before) in (
       c .before .before .before .before .before .before .before .before .before .pre,

@@ -90,12 +90,12 @@ names q ts w =
     let a = s .args in
     let kind = q .before .before .before .before .before .before .before .before .before .before .before .if1 .left in
     let value = q .before .before .before .before .before .before .before .before .if2 .left in
-    let thirty = q .before .before .before .before .before .before .if3 .left in
+    let named = q .before .before .before .before .before .before .if3 .left in
     let length = q .before .before .before .before .wide .ensures .0 in
     rw (length, q .before .before .wide2 .ensures .0, q .wide3 .ensures .0) (
-      first-fits w (a .a) (a .b) (s .pre .1) (s .pre .2) kind value thirty,
-      second-fits w (a .a) (a .b) (s .pre .1) (s .pre .2) kind value thirty,
-      names-agree w (a .a) (a .b) (s .pre .1) (s .pre .2) kind value thirty,
+      first-fits w (a .a) (a .b) (s .pre .1) (s .pre .2) kind value named,
+      second-fits w (a .a) (a .b) (s .pre .1) (s .pre .2) kind value named,
+      names-agree w (a .a) (a .b) (s .pre .1) (s .pre .2) kind value named,
     )
 
 add-if4 : tie.Need-add-if4

@@ -7,8 +7,11 @@ use mathlib.Core.Option.{Option, none, some}
 use lib.ListN.{length, getD, drop}
 use lib.Dec.{ltb, leb}
 use lib.IntN.{ℤ, pos, negℤ}
+use Rattle.syntax.specs.Limits.{mostBytes, mostTokens, mostOpen, mostVars, mostMethods}
+use Rattle.machine.specs.Limits.{mostRegions, mostStates}
 use Rattle.syntax.specs.Bytes.{sameBytes}
-use Rattle.syntax.specs.Token.{Lexeme, name, key, number, mark, Keyword, k-monitor, k-var, k-keep, k-method, k-waituntil, Token, lexemes, isKey}
+use Rattle.syntax.specs.Token.{Lexeme, name, key, number, mark, Keyword, k-monitor, k-var, k-keep, k-method}
+use Rattle.syntax.specs.Token.{k-waituntil, Token, lexemes, isKey}
 use Rattle.syntax.specs.Decide.Scan.{tokens, none-at, tokenize}
 use Rattle.syntax.specs.Tree.{Region, Var, Monitor, all}
 use Rattle.syntax.specs.Decide.Reading.{got, stuck, read}
@@ -25,7 +28,7 @@ tally false n = n
 unfoldable pub crowded : ℕ → ℕ → ℕ → List Token → Option ℕ
 crowded passed opened closed [] = none
 crowded passed opened closed (t ∷ ts) =
-    elim (leb 1024 passed || (opens (t .lexeme) && leb (closed + 12) opened)) [
+    elim (leb mostTokens passed || (opens (t .lexeme) && leb (closed + mostOpen) opened)) [
       | true ↦ some (t .at)
       | false ↦ crowded (passed + 1) (tally (opens (t .lexeme)) opened) (tally (closes (t .lexeme)) closed) ts
     ]
@@ -42,8 +45,8 @@ leftOf ts ls = drop (length ts - length ls) ts
 unfoldable pub pastLimit : ℕ → ℕ → ℕ → List Token → Option ℕ
 pastLimit vs ms ws [] = none
 pastLimit vs ms ws (t ∷ ts) =
-    elim ((isKey k-var (t .lexeme) && leb 6 vs) || (isKey k-method (t .lexeme) && leb 8 ms)
-    || (isKey k-waituntil (t .lexeme) && leb 16 ws)) [
+    elim ((isKey k-var (t .lexeme) && leb mostVars vs) || (isKey k-method (t .lexeme) && leb mostMethods ms)
+    || (isKey k-waituntil (t .lexeme) && leb mostRegions ws)) [
       | true ↦ some (t .at)
       | false ↦ pastLimit (tally (isKey k-var (t .lexeme)) vs) (tally (isKey k-method (t .lexeme)) ms)
           (tally (isKey k-waituntil (t .lexeme)) ws) ts
@@ -90,7 +93,7 @@ goodRange v =
 unfoldable pub illRanged : ℕ → List Var → List ℕ → Option ℕ
 illRanged product [] ps = none
 illRanged product (v ∷ vs) ps =
-    elim (goodRange v && leb (product * size v) 4096)
+    elim (goodRange v && leb (product * size v) mostStates)
     [ true ↦ illRanged (product * size v) vs (drop 1 ps) | false ↦ some (getD ps 0 0) ]
 
 -- 9: from these values, "meeting kept condition and guard", "the body assigns outside a range at any moment or ends with the
@@ -145,7 +148,7 @@ checkTokens end ts =
 
 unfoldable pub check : List ℕ → Verdict
 check file =
-    elim (ltb 8192 (length file)) [
+    elim (ltb mostBytes (length file)) [
       | true ↦ refused (answer 1 0 0)
       | false ↦ elim (tokenize file) [ none-at k ↦ refused (answer 2 k 0) | tokens ts ↦ checkTokens (length file) ts ]
     ]

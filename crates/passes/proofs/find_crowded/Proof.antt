@@ -6,11 +6,11 @@ use mathlib.Core.Path.{_≡_, sym, _∙_}
 use mathlib.Core.List.{List}
 use lib.ListN.{length, drop}
 use borrow.Author.Needs.{needs}
-use Rattle.syntax.specs.Token.{Token}
+use Rattle.syntax.specs.Token.{Token, markNumber}
 use Rattle.meaning.specs.Decide.Check.{crowded}
-use Rattle.syntax.specs.Held.Kind.{Words}
-use Rattle.passes.specs.Kinds.{kind-opens, kind-closes}
+use Rattle.syntax.specs.Held.Kind.{kindOf, Words}
 use Rattle.passes.proofs.ByIndex.{tokenAt, kind-at, places-long, tally-up, offends, goes-on, ends, crowding}
+use Rattle.passes.proofs.ByIndex.{kind-opens, kind-closes}
 use Rattle.passes.proofs.find_crowded.Statement.{statement}
 use Rattle.passes.proofs.find_crowded.Tie as tie
 
@@ -34,6 +34,7 @@ returns-2 c file ts values h =
     (sym t ∙ c .before .if2 .taken)
 
 loop-again : tie.Need-loop-again Inv-loop μ-loop
+unfolding kindOf markNumber
 loop-again c = (
   omega arith,
   tally-up _ _ _ _ (c .before .before .more .ensures) (omega arith),

@@ -7,9 +7,9 @@ use mathlib.Core.List.{List}
 use mathlib.Core.Option.{none}
 use lib.ListN.{length}
 use borrow.Author.Needs.{needs}
-use Rattle.syntax.specs.Token.{Token}
+use Rattle.syntax.specs.Token.{Token, keywordNumber}
 use Rattle.meaning.specs.Decide.Check.{pastLimit}
-use Rattle.syntax.specs.Held.Kind.{Words}
+use Rattle.syntax.specs.Held.Kind.{kindOf, Words}
 use Rattle.passes.proofs.ByIndex.{values-long, places-long}
 use Rattle.passes.proofs.Misnaming.{Naming, naming-first, naming-offends, naming-next, naming-ends}
 use Rattle.passes.proofs.find_misnamed.Statement.{statement}
@@ -56,6 +56,7 @@ add-i : tie.Need-add-i Inv-loop μ-loop
 add-i c = omega (arith, c .before .before .before .before .before .before .before .before .before)
 
 loop-again : tie.Need-loop-again Inv-loop μ-loop
+unfolding kindOf keywordNumber
 loop-again c = (
   omega arith,
   λ ts h n.

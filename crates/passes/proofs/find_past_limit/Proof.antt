@@ -8,8 +8,8 @@ use lib.ListN.{length, drop}
 use borrow.Author.Needs.{needs}
 use Rattle.syntax.specs.Token.{Token, k-var, k-method, k-waituntil, keywordNumber}
 use Rattle.meaning.specs.Decide.Check.{pastLimit}
-use Rattle.syntax.specs.Held.Kind.{Words}
-use Rattle.passes.specs.Kinds.{kind-key}
+use Rattle.syntax.specs.Held.Kind.{kindOf, Words}
+use Rattle.syntax.proofs.ByKind.{kind-key}
 use Rattle.passes.proofs.ByIndex.{tokenAt, kind-at, places-long, tally-up, offends, goes-on, ends, limiting}
 use Rattle.passes.proofs.find_past_limit.Statement.{statement}
 use Rattle.passes.proofs.find_past_limit.Tie as tie
@@ -34,7 +34,7 @@ returns-2 c file ts values h =
     (sym t ∙ c .if2 .taken)
 
 loop-again : tie.Need-loop-again Inv-loop μ-loop
-unfolding keywordNumber
+unfolding kindOf keywordNumber
 loop-again c = (
   omega arith,
   tally-up _ _ _ _ (c .before .before .more .ensures) (omega arith),

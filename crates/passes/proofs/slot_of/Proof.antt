@@ -7,6 +7,7 @@ use mathlib.Core.List.{List, []}
 use lib.ListN.{length, drop, getD}
 use borrow.Author.Needs.{needs}
 use borrow.Author.Tests.{ltb-true, ltb-false}
+use Rattle.syntax.specs.Limits.{mostMethods}
 use Rattle.passes.specs.Tokens.{slotIn, Stands, Titles}
 use Rattle.passes.proofs.Naming.{slot-hit, slot-miss, slot-end}
 use Rattle.passes.proofs.slot_of.Statement.{statement}
@@ -14,12 +15,11 @@ use Rattle.passes.proofs.slot_of.Tie as tie
 
 abbrev Inv-loop : tie.InvT-loop
 Inv-loop file start len names i₀ i =
-    (i ≤ 8)
-    × ((titles : List (List ℕ)) (x : List ℕ) → Titles file titles names → Stands file x start len
-    → slotIn titles x ≡ i + slotIn (drop i titles) x)
+    (i ≤ mostMethods)
+    × ((titles : List (List ℕ)) (x : List ℕ) → Titles file titles names → Stands file x start len → slotIn titles x ≡ i + slotIn (drop i titles) x)
 
 abbrev μ-loop : tie.MeasureT-loop
-μ-loop file start len names i₀ i = 8 - i
+μ-loop file start len names i₀ i = mostMethods - i
 
 loop-holds : tie.Need-loop-holds Inv-loop μ-loop
 loop-holds c = (omega arith, λ titles x t s. omega arith)

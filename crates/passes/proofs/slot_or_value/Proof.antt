@@ -1,15 +1,16 @@
 -- `passes::slot_or_value` answers `slotOrValue`, by the kind.
 use mathlib.Core.Path.{sym, _∙_}
 use borrow.Author.Needs.{needs}
+use Rattle.syntax.proofs.ByKind.{is-name}
 use Rattle.passes.specs.Tokens.{slotOrValue}
-use Rattle.passes.proofs.Naming.{a-name, value-other}
+use Rattle.passes.proofs.Naming.{value-other}
 use Rattle.passes.proofs.slot_or_value.Statement.{statement}
 use Rattle.passes.proofs.slot_or_value.Tie as tie
 
 returns : tie.Need-returns
 unfolding slotOrValue
 returns c titles l t k v s =
-    let n = a-name l (sym k ∙ c .before .if1 .taken) in
+    let n = is-name l (sym k ∙ c .before .if1 .taken) in
     rw (n .1) (c .slot-of .ensures .1 titles (n .0) t (s (n .0) (n .1)))
 
 returns-2 : tie.Need-returns-2

@@ -7,9 +7,9 @@ use mathlib.Core.List.{List}
 use mathlib.Core.Option.{none}
 use lib.ListN.{length}
 use borrow.Author.Needs.{needs}
-use Rattle.syntax.specs.Token.{Token}
+use Rattle.syntax.specs.Token.{Token, keywordNumber}
 use Rattle.meaning.specs.Decide.Check.{pastLimit}
-use Rattle.syntax.specs.Held.Kind.{Words}
+use Rattle.syntax.specs.Held.Kind.{kindOf, Words}
 use Rattle.passes.proofs.ByIndex.{values-long, places-long}
 use Rattle.passes.proofs.Listing.{Listing, listing-first, listing-next, listing-last}
 use Rattle.passes.proofs.variables.Statement.{statement}
@@ -34,6 +34,7 @@ loop-holds : tie.Need-loop-holds Inv-loop μ-loop
 loop-holds c = (omega arith, λ file ts h n. listing-first file ts _ (c .before .before .no-names .ensures file))
 
 loop-again : tie.Need-loop-again Inv-loop μ-loop
+unfolding kindOf keywordNumber
 loop-again c = (
   omega arith,
   λ file ts h n.

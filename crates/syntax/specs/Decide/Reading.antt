@@ -4,8 +4,14 @@ use Prim.Native.Nat.{ℕ, zero, suc, _+_, _*_}
 use mathlib.Core.Bool.{Bool, true, false, _||_}
 use mathlib.Core.List.{List, [], _∷_}
 use lib.ListN.{length}
-use Rattle.syntax.specs.Token.{Lexeme, name, key, number, mark, lbrace, rbrace, lparen, rparen, semicolon, equals, dots, becomes, same, differs, below, at-most, above, at-least, plus, minus, bang, and-and, or-or, k-monitor, k-var, k-in, k-keep, k-method, k-waituntil, k-if, k-else, k-true, k-false, isMark, isKey, isName}
-use Rattle.syntax.specs.Tree.{Int, plain, negated, Atom, literal, variable, Sign, added, taken, Term, Expr, Comparison, eq, ne, lt, le, gt, ge, Cond, only, or, Conj, just, and, Simple, negation, bracketed, constant, compare, Block, end, then, Stmt, assign, if-then, if-else, Region, Some, Method, Var, Monitor}
+use Rattle.syntax.specs.Token.{Lexeme, name, key, number, mark, lbrace, rbrace, lparen, rparen, semicolon, equals}
+use Rattle.syntax.specs.Token.{dots, becomes, same, differs, below, at-most, above, at-least, plus, minus, bang}
+use Rattle.syntax.specs.Token.{and-and, or-or, k-monitor, k-var, k-in, k-keep, k-method, k-waituntil, k-if}
+use Rattle.syntax.specs.Token.{k-else, k-true, k-false, isMark, isKey, isName}
+use Rattle.syntax.specs.Tree.{Int, plain, negated, Atom, literal, variable, Sign, added, taken, Term, Expr}
+use Rattle.syntax.specs.Tree.{Comparison, eq, ne, lt, le, gt, ge, Cond, only, or, Conj, just, and, Simple}
+use Rattle.syntax.specs.Tree.{negation, bracketed, constant, compare, Block, end, then, Stmt, assign, if-then}
+use Rattle.syntax.specs.Tree.{if-else, Region, Some, Method, Var, Monitor}
 
 -- a reader answers what it read and what is left, or what is left where it stops
 pub data Got (A : Type 0) : Type 0 where

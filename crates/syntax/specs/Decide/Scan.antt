@@ -6,6 +6,7 @@ use mathlib.Core.List.{List, [], _∷_}
 use lib.ListN.{length, take}
 use lib.Dec.{leb}
 use Rattle.syntax.specs.Bytes.{bytes, blank, letter, digit, wordByte, leading, decimal, sameBytes, startsWith}
+use Rattle.syntax.specs.Limits.{mostWordBytes, mostDigits}
 use Rattle.syntax.specs.Token.{Keyword, Lexeme, Mark, Token, key, keywords, mark, marks, name, number}
 
 -- a word: a keyword of the list, or a name
@@ -31,9 +32,9 @@ unfoldable pub scan : List ℕ → Scan
 scan [] = nothing
 scan (b ∷ bs) =
     elim (letter b) [
-      | true ↦ atMost 16 (leading wordByte (b ∷ bs)) (wordOf keywords (take (leading wordByte (b ∷ bs)) (b ∷ bs)))
+      | true ↦ atMost mostWordBytes (leading wordByte (b ∷ bs)) (wordOf keywords (take (leading wordByte (b ∷ bs)) (b ∷ bs)))
       | false ↦ elim (digit b) [
-        | true ↦ atMost 3 (leading digit (b ∷ bs)) (number (decimal 0 (take (leading digit (b ∷ bs)) (b ∷ bs))))
+        | true ↦ atMost mostDigits (leading digit (b ∷ bs)) (number (decimal 0 (take (leading digit (b ∷ bs)) (b ∷ bs))))
         | false ↦ markOf marks (b ∷ bs)
       ]
     ]

@@ -3,6 +3,8 @@
 use native.Mathlib.Omega.{arith}
 use mathlib.Core.Path.{sym, _∙_}
 use borrow.Author.Needs.{needs}
+use Rattle.syntax.specs.Token.{markNumber}
+use Rattle.syntax.specs.Held.Kind.{kindOf}
 use Rattle.variables.proofs.Spelled.{minus-int, plain-int}
 use Rattle.variables.proofs.int_at.Statement.{statement}
 use Rattle.variables.proofs.int_at.Tie as tie
@@ -38,6 +40,7 @@ add-t15 : tie.Need-add-t15
 add-t15 c = search needs
 
 returns : tie.Need-returns
+unfolding kindOf markNumber
 returns c =
     let a = c .before .before .before .before .before .args in
     record {
@@ -48,6 +51,7 @@ returns c =
     }
 
 returns-2 : tie.Need-returns-2
+unfolding kindOf markNumber
 returns-2 c =
     let a = c .before .before .before .before .before .args in
     record {

@@ -8,6 +8,8 @@ use denote.Ref.{now}
 use lib.ListN.{length, getD}
 use borrow.Author.Needs.{needs}
 use borrow.Author.Tests.{not-true, not-false}
+use Rattle.syntax.specs.Token.{key, k-var, keywordNumber}
+use Rattle.syntax.specs.Held.Kind.{kindOf}
 use Rattle.meaning.specs.State.{count}
 use Rattle.variables.proofs.Indices.{inside}
 use Rattle.variables.proofs.Walk.{Walk, walk-start, walk-more, walk-bad, walk-end}
@@ -40,8 +42,9 @@ kind-at-requires c κs = search needs
 
 -- `var` stands at the place, which is inside the tokens
 var-there : (c : tie.Then1 Inv-loop μ-loop)
-    → (getD (now (c .before .before .before .before .before .before .args .kinds)) (c .before .before .loop .i) 0 ≡ 20)
+    → (getD (now (c .before .before .before .before .before .before .args .kinds)) (c .before .before .loop .i) 0 ≡ kindOf (key k-var))
     × (c .before .before .loop .i < length (now (c .before .before .before .before .before .before .args .kinds)))
+unfolding kindOf keywordNumber
 var-there c =
     let e = sym (c .before .kind-at .ensures) ∙ c .if1 .taken in
     (e, inside (now (c .before .before .before .before .before .before .args .kinds)) (c .before .before .loop .i) (omega arith))
@@ -82,6 +85,7 @@ weighed-requires : tie.Need-weighed-requires Inv-loop μ-loop
 weighed-requires c κs = search needs
 
 returns-2 : tie.Need-returns-2 Inv-loop μ-loop
+unfolding kindOf keywordNumber
 returns-2 c vs ls us held e ends few short =
     let g = c .before .before .before in
     let a = g .before .before .before .before .args in
