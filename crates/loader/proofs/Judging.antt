@@ -1,7 +1,7 @@
 -- What an answer of `judge` says of a file's check, by its number; and the byte at which the reading of a file stops.
-use Prim.Native.Nat.{ℕ, zero, suc, _≤_, _<_}
+use Prim.Native.Nat.{ℕ, suc, _≤_}
 use native.Mathlib.Omega.{arith}
-use mathlib.Core.Path.{_≡_, refl, sym, subst, ap, _∙_}
+use mathlib.Core.Path.{_≡_, sym, subst, ap, _∙_}
 use mathlib.Core.Bool.{true}
 use mathlib.Core.List.{List, [], _∷_}
 use mathlib.Core.Option.{none}
@@ -22,17 +22,12 @@ use Rattle.variables.specs.Bounded.{RangedBy}
 use Rattle.variables.specs.Places.{firstVar}
 use Rattle.variables.specs.declared.Declared.{Declared}
 use Rattle.answers.specs.Says.{Is, answerOf}
-use Rattle.loader.proofs.TokenSlices.{lexemes-length}
+use Rattle.layout.proofs.Closes.{getD-below}
+use Rattle.layout.proofs.Same.{lexemes-length}
 use Rattle.loader.proofs.Counts.{few-tokens}
 use Rattle.loader.proofs.Refusals.{says-4, says-4-end, no-7}
 use Rattle.loader.specs.Loading.{Past7, JudgedBy, Judges}
 use Rattle.loader.specs.declared.Judged.{Judged}
-
--- within a list an element is the same whatever stands for nothing
-pub within-getD : (l : List ℕ) (i d e : ℕ) → i < length l → getD l i d ≡ getD l i e
-within-getD [] i d e h = absurd (omega arith)
-within-getD (x ∷ l) zero d e h = refl
-within-getD (x ∷ l) (suc i) d e h = within-getD l i d e (omega arith)
 
 pub few-lexemes : (ts : List Token) → crowded 0 0 0 ts ≡ none → length (lexemes ts) ≤ 8192
 few-lexemes ts e = omega (arith, few-tokens ts e, lexemes-length ts)
@@ -57,7 +52,7 @@ module _ {file : List ℕ} {ts : List Token} {kinds values places : List ℕ} (w
         → check file ≡ refused (answer 4 (getD places i (length file)) 0)
     says-4-at i r = split (ltb i (length places))
         (λ h. let below = ltb-true i (length places) h in
-        says-4 w room i r below ∙ ap (λ (k : ℕ). refused (answer 4 k 0)) (within-getD places i 0 (length file) below))
+        says-4 w room i r below ∙ ap (λ (k : ℕ). refused (answer 4 k 0)) (getD-below places i 0 (length file) below))
         (λ h. let past = ltb-false i (length places) h in
         says-4-end w room i r past
         ∙ ap (λ (k : ℕ). refused (answer 4 k 0)) (sym (List·getD-eq-default places (length file) past)))

@@ -24,7 +24,7 @@ use Rattle.layout.specs.declared.Layout.{Layout}
 use Rattle.states.proofs.Holding.{held}
 use Rattle.answers.specs.Says.{Says, Is, answerOf}
 use Rattle.answers.specs.declared.Answer as code
-use Rattle.loader.proofs.TokenSlices.{lexemes-length}
+use Rattle.layout.proofs.Same.{lexemes-length}
 use Rattle.loader.proofs.Refusals.{kinds-of, says-8, says-9, says-0}
 use Rattle.loader.proofs.Counts.{few-tokens, few-parts}
 use Rattle.loader.proofs.Names.{codes}

@@ -27,7 +27,8 @@ use Rattle.passes.specs.declared.Found.the-variants.{At, Nothing}
 use Rattle.variables.specs.Bounded.{RangedBy}
 use Rattle.variables.specs.Places.{firstVar}
 use Rattle.variables.specs.declared.Declared.{Declared}
-use Rattle.loader.proofs.TokenSlices.{lexemes-length, lexemes-map}
+use Rattle.layout.proofs.Same.{lexemes-length}
+use Rattle.loader.proofs.TokenSlices.{lexemes-map}
 use Rattle.loader.proofs.TokensStand.{keep-byte, ill-ranged-byte, stuck-byte, stuck-end}
 
 -- a pass's answer

@@ -24,11 +24,6 @@ words short cut c = record { short = short; cut = cut; by-kind = c .by-kind; by-
 
 -- Lexemes and tokens by their places
 
-pub lexemes-length : (ts : List Token) → length (lexemes ts) ≡ length ts
-unfolding lexemes
-lexemes-length [] = refl
-lexemes-length (t ∷ ts) = ap suc (lexemes-length ts)
-
 pub lexemes-map : (f : Lexeme → ℕ) (ts : List Token) → map f (lexemes ts) ≡ map (λ t. f (t .lexeme)) ts
 unfolding lexemes
 lexemes-map f [] = refl

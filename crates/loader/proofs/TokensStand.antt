@@ -18,7 +18,7 @@ use Rattle.meaning.specs.Refusal.{Stands, upTo}
 use Rattle.meaning.proofs.KeywordPlaces.{behindKeep, spell-from, var-place, keep-place}
 use Rattle.variables.specs.Bounded.{EndsVars}
 use Rattle.variables.specs.Places.{firstVar}
-use Rattle.loader.proofs.TokenSlices.{lexemes-length}
+use Rattle.layout.proofs.Same.{lexemes-length}
 
 place-at : (front : List Token) (t : Token) (back : List Token)
     → getD (map (λ u. u .at) (front ++ (t ∷ back))) (length front) 0 ≡ t .at

@@ -4,14 +4,14 @@ use borrow.Author.Needs.{needs}
 use lib.ListN.{List·getD-eq-default}
 use mathlib.Core.Path.{sym, _∙_}
 use denote.Ref.{now}
-use Rattle.loader.proofs.Judging.{within-getD}
+use Rattle.layout.proofs.Closes.{getD-below}
 use Rattle.loader.proofs.place_of.Statement.{statement}
 use Rattle.loader.proofs.place_of.Tie as tie
 
 returns : tie.Need-returns
 returns c =
     let a = c .before .before .before .before .args in
-    c .wide .ensures ∙ within-getD (now (a .places)) (a .token) 0 (a .end) (c .before .before .if1 .taken)
+    c .wide .ensures ∙ getD-below (now (a .places)) (a .token) 0 (a .end) (c .before .before .if1 .taken)
 
 returns-2 : tie.Need-returns-2
 returns-2 c = let a = c .before .before .args in sym (List·getD-eq-default (now (a .places)) (a .end) (c .if1 .left))
