@@ -1,6 +1,6 @@
 -- `stepper::begin_wait` meets its contract: one thread's place is replaced.
-use mathlib.Core.Path.{_≡_, ap, _∙_}
-use Prim.Native.Nat.{ℕ, _%_}
+use mathlib.Core.Path.{ap, _∙_}
+use Prim.Native.Nat.{ℕ}
 use native.Mathlib.Nat.{mod-eq-of-lt}
 use borrow.Author.Needs.{needs}
 use Rattle.machine.specs.Monitor.{waiting, threads}
