@@ -161,7 +161,8 @@ module _ (m : Monitor) where
         let t = ok .keeps r (region m r) (stateAt (vars m) s) (region-numbered m r low) meets in (
           t .0,
           record { meets = meets; runs = t .1 },
-          rw (outcome-of-runs (region m r) (t .1)) (state-at-number (ok .ranges) (block-runs-state (t .1) (meets .state))),
+          rw (outcome-of-runs (region m r) (t .1))
+              (state-at-number (ok .ranges) (block-runs-state (t .1) (meets .state))),
         )
 
     -- and back
@@ -178,7 +179,8 @@ module _ (m : Monitor) where
             guard = holds-guard m one-cond r s ∙ rw e (q .guard);
           },
           e,
-          rw (e, outcome-of-runs (region m r) (h .runs)) (state-at-number (ok .ranges) (block-runs-state (h .runs) (q .state))),
+          rw (e, outcome-of-runs (region m r) (h .runs))
+              (state-at-number (ok .ranges) (block-runs-state (h .runs) (q .state))),
         )
 
     stands-iff : (r g : ℕ)

@@ -13,7 +13,8 @@ use Rattle.meaning.specs.Answer.{Answer, answer, Verdict}
 use Rattle.meaning.specs.Decide.Check.{check}
 use Rattle.meaning.specs.Model.{model}
 use Rattle.meaning.specs.Decide.Table.{tableOf}
-use Rattle.meaning.specs.Calls.{Startable, noticesOf, Placing, notPlaced, Machine, recordOf, Running, ran, refused-file, not-run}
+use Rattle.meaning.specs.Calls.{Startable, noticesOf, Placing, notPlaced, Machine, recordOf}
+use Rattle.meaning.specs.Calls.{Running, ran, refused-file, not-run}
 use Rattle.meaning.specs.Decide.Calls.{place, running}
 use Rattle.meaning.specs.Accepted.{Accepted}
 use Rattle.meaning.specs.Trace.{FrameRecords, linesOf}

@@ -133,5 +133,6 @@ module _ (m : Monitor) (place : ℕ) (r : Answer) (kept holds after : List ℕ) 
         record {
           fails = λ off. clash on (is ∙ off);
           breaks = λ _ i j h. different (cc);
-          passes = λ _ h. (record { number = p; first = q; second = s }, by-kept, by-holds, after-all m after outcomes h);
+          passes = λ _ h.
+              (record { number = p; first = q; second = s }, by-kept, by-holds, after-all m after outcomes h);
         }

@@ -17,7 +17,8 @@ use Rattle.meaning.specs.Value.{truth, outcome}
 use Rattle.meaning.specs.State.{count, stateAt, numberOf, starts}
 use Rattle.meaning.specs.Kept.{keptAt}
 use Rattle.meaning.specs.Answer.{answer, Verdict, accepted, refused}
-use Rattle.meaning.specs.Decide.Check.{placesOf, illRanged, keptAfter, breaks, firstFrom, brokenFrom, broken, checkMeaning}
+use Rattle.meaning.specs.Decide.Check.{placesOf, illRanged, keptAfter, breaks, firstFrom, brokenFrom, broken}
+use Rattle.meaning.specs.Decide.Check.{checkMeaning}
 use Rattle.meaning.specs.Accepted.{regionsOf}
 use Rattle.meaning.specs.Model.{vars}
 use Rattle.meaning.specs.Accepted.{GoodRanges, State, BlockRuns, Keeps, Meets, IsRegion, Sound}
@@ -110,11 +111,13 @@ module _ (vs : List Var) (kept : List ℤ → Bool) where
   abbrev FirstAt : Region → ℕ → Type 0
   FirstAt r n = FirstBelow (breaksAt r) (count vs) n
 
-  broken-step : (k : ℕ) (r : Region) (rs : List Region) → Quiet r → brokenFrom vs kept k (r ∷ rs) ≡ brokenFrom vs kept (k + 1) rs
+  broken-step : (k : ℕ) (r : Region) (rs : List Region) → Quiet r
+      → brokenFrom vs kept k (r ∷ rs) ≡ brokenFrom vs kept (k + 1) rs
   unfolding brokenFrom breaksAt
   broken-step k r rs q = cc (none-first (count vs) (breaksAt r) q)
 
-  broken-stop : (k : ℕ) (r : Region) (rs : List Region) (n : ℕ) → FirstAt r n → brokenFrom vs kept k (r ∷ rs) ≡ some (k, n)
+  broken-stop : (k : ℕ) (r : Region) (rs : List Region) (n : ℕ) → FirstAt r n
+      → brokenFrom vs kept k (r ∷ rs) ≡ some (k, n)
   unfolding brokenFrom breaksAt
   broken-stop k r rs n f = cc (some-first (count vs) (breaksAt r) n f)
 
@@ -168,7 +171,8 @@ module _ (vs : List Var) (kept : List ℤ → Bool) where
 
   pub broken-none-iff : (rs : List Region)
       → (brokenFrom vs kept 0 rs ≡ none)
-      ↔ ((j : ℕ) (q : Region) → getElem? rs j ≡ some q → (n : ℕ) → n < count vs → breaks vs kept q (stateAt vs n) ≡ false)
+      ↔ ((j : ℕ) (q : Region) → getElem? rs j ≡ some q → (n : ℕ) → n < count vs
+      → breaks vs kept q (stateAt vs n) ≡ false)
   unfolding breaksAt
   broken-none-iff rs =
       (λ e. ⊎-elim (λ h. h) (λ t. no-some (sym e ∙ some-broken rs (t .0) (t .1) (t .2))) (quiet-or-first rs), none-broken rs)
@@ -177,8 +181,10 @@ module _ (vs : List Var) (kept : List ℤ → Bool) where
   pub broken-some-iff : (rs : List Region) (i n : ℕ)
       → (brokenFrom vs kept 0 rs ≡ some (i, n))
       ↔ ((r : Region) × (getElem? rs i ≡ some r)
-      × ((n < count vs) × (breaks vs kept r (stateAt vs n) ≡ true) × ((k : ℕ) → k < n → breaks vs kept r (stateAt vs k) ≡ false))
-      × ((j : ℕ) (q : Region) → j < i → getElem? rs j ≡ some q → (k : ℕ) → k < count vs → breaks vs kept q (stateAt vs k) ≡ false))
+      × ((n < count vs) × (breaks vs kept r (stateAt vs n) ≡ true)
+      × ((k : ℕ) → k < n → breaks vs kept r (stateAt vs k) ≡ false))
+      × ((j : ℕ) (q : Region) → j < i → getElem? rs j ≡ some q → (k : ℕ) → k < count vs
+      → breaks vs kept q (stateAt vs k) ≡ false))
   unfolding breaksAt
   broken-some-iff rs i n = (
     λ e. ⊎-elim (λ h. no-some (sym (none-broken rs h) ∙ e))
@@ -213,11 +219,13 @@ module _ (m : Monitor) where
       let u = both (keptAt m as′) (truth (r .guard) vs as′) (t .0) in
       (record { state = s; kept = u .0; guard = u .1 }, λ k. clash (kept-after r as′ k) (not-true (t .1)))
 
-  breaks-true : (r : Region) (as′ : List ℤ) → Meets m r as′ → (Keeps m r as′ → ⊥) → breaks (vars m) (keptAt m) r as′ ≡ true
+  breaks-true : (r : Region) (as′ : List ℤ) → Meets m r as′ → (Keeps m r as′ → ⊥)
+      → breaks (vars m) (keptAt m) r as′ ≡ true
   unfolding breaks
   breaks-true r as′ q n = and (and (q .kept) (q .guard)) (true-not (is-false (λ h. n (keeps-of r as′ h))))
 
-  keeps-or-breaks : (r : Region) (as′ : List ℤ) → breaks (vars m) (keptAt m) r as′ ≡ false → Meets m r as′ → Keeps m r as′
+  keeps-or-breaks : (r : Region) (as′ : List ℤ) → breaks (vars m) (keptAt m) r as′ ≡ false → Meets m r as′
+      → Keeps m r as′
   keeps-or-breaks r as′ f q =
       split (keptAfter (keptAt m) (outcome r (vars m) as′)) (keeps-of r as′)
       (λ n. clash (breaks-true r as′ q (λ k. clash (kept-after r as′ k) n)) f)

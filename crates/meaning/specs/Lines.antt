@@ -11,7 +11,8 @@ use Rattle.meaning.specs.Decide.Check.{check}
 use Rattle.meaning.specs.Model.{vars, model}
 use Rattle.meaning.specs.Hex.{hex2}
 use Rattle.meaning.specs.Decide.Table.{tableOf}
-use Rattle.meaning.specs.Calls.{Machine, plain-machine, table-machine, Record, Running, ran, refused-file, not-run}
+use Rattle.meaning.specs.Calls.{Machine, plain-machine, table-machine, Record}
+use Rattle.meaning.specs.Calls.{Running, ran, refused-file, not-run}
 use Rattle.meaning.specs.Decide.Calls.{runFrom}
 
 unfoldable pub hex4 : ℕ → List ℕ

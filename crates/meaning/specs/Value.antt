@@ -5,7 +5,8 @@ use mathlib.Core.List.{List, [], _∷_}
 use mathlib.Core.Option.{Option, none, some}
 use lib.IntN.{ℤ, pos, negsuc, negℤ, _+ℤ_, _-ℤ_}
 use Rattle.syntax.specs.Bytes.{sameBytes}
-use Rattle.syntax.specs.Tree.{Int, plain, negated, Atom, literal, variable, Sign, added, taken, Term, Expr, Comparison, eq, ne, lt, le, gt, ge, Cond, only, or, Conj, just, and, Simple, negation, bracketed, constant, compare, Block, end, then, Stmt, assign, if-then, if-else, Region, Var}
+use Rattle.syntax.specs.Tree.{Int, plain, negated, Atom, literal, variable, Sign, added, taken, Term, Expr, Comparison, eq, ne, lt, le, gt, ge, Cond, only, or, Conj, just, and, Simple, negation, bracketed, constant, compare, Block, end, then, Stmt, assign, if-then, if-else, Var}
+use Rattle.syntax.specs.Tree.{Region}
 
 unfoldable pub intOf : Int → ℤ
 intOf (plain n) = pos n

@@ -50,8 +50,8 @@ module _ (file : List ℕ) (r : code.Answer) (is : Is r (check file)) where
 
 -- a run: the refusal with no record, or the run of the monitor
 module _ (file bytes : List ℕ) (start : ℕ) (w : Machine) where
-  pub not-loaded : (r : Running) → Is (r .answer) (check file) → (r .answer .number ≡ 0 → ⊥) → NoRecord (r .record) → r .«of_file» ≡ true
-      → Runs (running file bytes start w) r
+  pub not-loaded : (r : Running) → Is (r .answer) (check file) → (r .answer .number ≡ 0 → ⊥) → NoRecord (r .record)
+      → r .«of_file» ≡ true → Runs (running file bytes start w) r
   unfolding Is answerOf running Runs
   not-loaded r is other none whose =
       let (a, e) = refusal-of file (r .answer) is other in rw (e, running) (rw e at is, none, whose)

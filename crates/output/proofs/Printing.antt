@@ -16,7 +16,8 @@ use Rattle.meaning.proofs.Sizes.{sizes}
 use Rattle.meaning.specs.Calls.{Machine, plain-machine, table-machine, ran, refused-file, not-run}
 use Rattle.meaning.specs.Decide.Calls.{place, running}
 use Rattle.meaning.specs.Calls as calls
-use Rattle.demands.specs.Demand1.{PlacesAs, file-refused, too-short, placed, RunsAs, no-monitor, no-start, bad-line, frame-refused, all-allowed}
+use Rattle.demands.specs.Demand1.{PlacesAs, file-refused, too-short, placed}
+use Rattle.demands.specs.Demand1.{RunsAs, no-monitor, no-start, bad-line, frame-refused, all-allowed}
 use Rattle.meaning.specs.Refusal.{Refusal}
 use Rattle.demands.proofs.Demand1.{place-iff, accepted-writes-table, running-iff}
 use Rattle.meaning.specs.Lines.{refusalLine, recordLine, runLine, machineLine, placer, runner}
@@ -113,8 +114,8 @@ module _ (r : Running) {before after : List ℕ} {at n : ℕ} (room : at + 47 �
 -- ---- the runs
 
 -- whose refusal it is
-of-file-refused : {file bytes : List ℕ} {s : ℕ} {w : Machine} {x : calls.Running} → RunsAs file bytes s w x → (r : Running)
-    → Runs x r → r .«of_file» ≡ true → (a : Answer) × Refusal file a
+of-file-refused : {file bytes : List ℕ} {s : ℕ} {w : Machine} {x : calls.Running} → RunsAs file bytes s w x
+    → (r : Running) → Runs x r → r .«of_file» ≡ true → (a : Answer) × Refusal file a
 unfolding Runs
 of-file-refused (no-monitor {a} q) r s h = (a, q)
 of-file-refused (no-start a n) r s h = clash h (s .2)

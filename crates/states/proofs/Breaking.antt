@@ -1,4 +1,4 @@
--- Refusal 9 by the slices: what a look-up of the outcomes says of it, and what the outcomes are where it does not arise.
+-- Refusal 9 by the slices: what looking the outcomes up says of it, and what they are where it does not arise.
 use Prim.Native.Nat.{ℕ, zero, suc, _+_, _*_, _≤_, _<_}
 use native.Mathlib.Omega.{arith}
 use mathlib.Core.Path.{_≡_, refl, sym, ap, subst, _∙_}
@@ -26,7 +26,8 @@ use Rattle.meaning.proofs.ModelLaws.{region-numbered, holds-guard}
 use Rattle.meaning.proofs.Soundness.{broken-none-iff, broken-some-iff}
 use Rattle.meaning.proofs.StateLaws.{number-below, state-at-number}
 use Rattle.states.specs.declared.Broken.the-variants.{Never, At}
-use Rattle.states.specs.Rows.{TruthRow, GuardNumbers, KeptAll, HoldsAll, AfterAll, outcomeNumber, Moved, Outcomes, BrokenAs}
+use Rattle.states.specs.Rows.{TruthRow, GuardNumbers, KeptAll, HoldsAll, AfterAll}
+use Rattle.states.specs.Rows.{outcomeNumber, Moved, Outcomes, BrokenAs}
 use Rattle.states.specs.Promises.{Looked, runsBy, failsBy, breaksBy}
 use Rattle.states.proofs.Holding.{row-of-kept, kept-truth}
 use Rattle.states.proofs.Lanes.{bit-true, bit-one, outcome-state}
@@ -86,7 +87,8 @@ module _ {vs : List Var} {keep : List ℤ → Bool} {q : Region} {guard : ℕ} {
 -- All regions
 
 -- region g's row, lent
-pub part-at : (xs : List ℕ) (g n s : ℕ) → n ≡ 4096 → s < 4096 → getD (take n (drop (g * 4096) xs)) s 0 ≡ getD xs (g * 4096 + s) 0
+pub part-at : (xs : List ℕ) (g n s : ℕ) → n ≡ 4096 → s < 4096
+    → getD (take n (drop (g * 4096) xs)) s 0 ≡ getD xs (g * 4096 + s) 0
 part-at xs g n s w low = getD-take n (drop (g * 4096) xs) s 0 (omega arith) ∙ getD-drop (g * 4096) xs s 0
 
 numbered-below : {A : Type 0} (xs : List A) (i : ℕ) (a : A) → getElem? xs i ≡ some a → i < length xs
@@ -109,10 +111,11 @@ module _ (m : Monitor) (rows : List ℕ) (outcomes : Outcomes m (keptAt m) rows)
         let low = numbered-below (regions m) j q e in
         let same : region m j ≡ q = Option·some-injective _ _ (sym (region-numbered m j low) ∙ e) in
         subst (λ (u : Region). breaks (vars m) (keptAt m) u (stateAt (vars m) s) ≡ Breaks j s) same
-        (breaks-is (looked m (keptAt m) numbers kept′ holds′ by-number (row-of-kept m kept′ by-kept) by-holds j low) good few s h _
-        (outcomes j low .each s h))
+        (breaks-is (looked m (keptAt m) numbers kept′ holds′ by-number (row-of-kept m kept′ by-kept) by-holds j low)
+        good few s h _ (outcomes j low .each s h))
 
-    pub never : ((j : ℕ) → j < length (regions m) → (s : ℕ) → s < count (vars m) → Breaks j s ≡ false) → BrokenAs Never (broken m)
+    pub never : ((j : ℕ) → j < length (regions m) → (s : ℕ) → s < count (vars m) → Breaks j s ≡ false)
+        → BrokenAs Never (broken m)
     unfolding BrokenAs regions broken
     never quiet =
         let e = broken-none-iff (vars m) (keptAt m) (regions m) .1

@@ -1,4 +1,5 @@
--- Laws of rows: a Boolean as a number, a store behind what is done, lanes, a body's outcome from one state, and a region's row.
+-- Laws of rows: a Boolean as a number, a store behind what is done, lanes, a body's outcome from one state, and a
+-- region's row.
 use Prim.Native.Nat.{ℕ, _+_, _*_, _/_, _%_, _≤_, _<_}
 use native.Mathlib.Omega.{arith}
 use mathlib.Core.Path.{_≡_, refl, sym, ap, subst, _∙_}
@@ -112,8 +113,8 @@ pub outcome-state : {vs : List Var} → GoodRanges vs → (q : Region) (s : ℕ)
     → outcome q vs (stateAt vs s) ≡ some bs → State vs bs
 outcome-state {vs} good q s low bs e = block-runs-state (runs-of-outcome q (stateAt vs s) e) (state-at good s low)
 
-pub fault-marked : (vs : List Var) (ok : Bool) (values : List ℕ) (o : Option (List ℤ)) → RunAs vs ok values o → ok ≡ false
-    → faultMark ≡ outcomeNumber vs o
+pub fault-marked : (vs : List Var) (ok : Bool) (values : List ℕ) (o : Option (List ℤ)) → RunAs vs ok values o
+    → ok ≡ false → faultMark ≡ outcomeNumber vs o
 unfolding RunAs outcomeNumber
 fault-marked vs ok values none h e = refl
 fault-marked vs ok values (some bs) h e = clash (h .0) e

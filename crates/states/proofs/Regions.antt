@@ -62,11 +62,12 @@ looked m keep numbers kept′ holds′ ns k h r low =
     record {
       by-kept = k;
       by-guard = λ s below.
-          ap (member (getD holds′ s 0)) (ns r low) ∙ h (guardOf m r) s (guard-below m r low) below ∙ holds-guard m one-cond r s;
+          ap (member (getD holds′ s 0)) (ns r low) ∙ h (guardOf m r) s (guard-below m r low) below
+          ∙ holds-guard m one-cond r s;
     }
 
-pub record Filling (m : Monitor) (keep : List ℤ → Bool) (kinds values : List ℕ) (bounds : Bounds) (ats numbers : List ℕ) (n : ℕ) (kept′ holds′ : List ℕ)
-    : Type 0 where
+pub record Filling (m : Monitor) (keep : List ℤ → Bool) (kinds values : List ℕ) (bounds : Bounds) (ats numbers : List ℕ)
+    (n : ℕ) (kept′ holds′ : List ℕ) : Type 0 where
   pub ls : List Lexeme
   pub codes : Codes (vars m) ls kinds values
   pub bounded : Bounded (vars m) bounds
@@ -78,7 +79,8 @@ pub record Filling (m : Monitor) (keep : List ℤ → Bool) (kinds values : List
   pub by-kept : TruthRow (vars m) keep kept′
   pub by-holds : HoldsAll m holds′
 
-pub filling : (m : Monitor) (keep : List ℤ → Bool) (kinds values : List ℕ) (bounds : Bounds) (ats numbers : List ℕ) (n : ℕ) (kept′ holds′ : List ℕ) (ls : List Lexeme)
+pub filling : (m : Monitor) (keep : List ℤ → Bool) (kinds values : List ℕ) (bounds : Bounds) (ats numbers : List ℕ)
+    (n : ℕ) (kept′ holds′ : List ℕ) (ls : List Lexeme)
     → Codes (vars m) ls kinds values → Bounded (vars m) bounds → length ls ≤ 8192 → n ≡ length (regions m) → n ≤ 16 → BodiesAt m ls ats
     → GuardNumbers m numbers → TruthRow (vars m) keep kept′ → HoldsAll m holds′
     → Filling m keep kinds values bounds ats numbers n kept′ holds′
@@ -96,8 +98,8 @@ filling m keep kinds values bounds ats numbers n kept′ holds′ ls c b few cou
       by-holds = h;
     }
 
-module _ {m : Monitor} {keep : List ℤ → Bool} {kinds values : List ℕ} {bounds : Bounds} {ats numbers : List ℕ} {n : ℕ} {kept′ holds′ : List ℕ}
-    (f : Filling m keep kinds values bounds ats numbers n kept′ holds′) (r : ℕ) (low : r < n)
+module _ {m : Monitor} {keep : List ℤ → Bool} {kinds values : List ℕ} {bounds : Bounds} {ats numbers : List ℕ} {n : ℕ}
+    {kept′ holds′ : List ℕ} (f : Filling m keep kinds values bounds ats numbers n kept′ holds′) (r : ℕ) (low : r < n)
   where
     pub body-of : (at : ℕ) → at ≡ getD ats r 0
         → Body (vars m) keep (region m r) kinds values bounds at (getD numbers r 0) kept′ holds′
@@ -111,7 +113,9 @@ module _ {m : Monitor} {keep : List ℤ → Bool} {kinds values : List ℕ} {bou
           bounded = f .bounded;
           few = f .few;
           spelled = rw p (t .1);
-          looked = looked m keep numbers kept′ holds′ (f .by-number) (f .by-kept) (f .by-holds) r (omega (arith, f .counted));
+          looked =
+              looked m keep numbers kept′ holds′ (f .by-number) (f .by-kept) (f .by-holds) r
+              (omega (arith, f .counted));
         }
 
 -- a region's row is done

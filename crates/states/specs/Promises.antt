@@ -1,5 +1,5 @@
--- What the functions inside promise to each other: values and truths in lanes, a body's outcomes, and what the slices say of
--- refusal 9.
+-- What the functions inside promise to each other: values and truths in lanes, a body's outcomes, and what the slices
+-- say of refusal 9.
 use Prim.Native.Nat.{ℕ, _+_, _*_, _<_, _≤_}
 use mathlib.Core.Path.{_≡_}
 use mathlib.Core.Bool.{Bool, true, false, not, _&&_, _||_}
@@ -71,8 +71,8 @@ pub record Looked (vs : List Var) (keep : List ℤ → Bool) (q : Region) (guard
   pub by-guard : (s : ℕ) → s < count vs → member (getD holds s 0) guard ≡ truth (q .guard) vs (stateAt vs s)
 
 -- and its body begins at a token
-pub record Body (vs : List Var) (keep : List ℤ → Bool) (q : Region) (kinds values : List ℕ) (bounds : Bounds) (at guard : ℕ)
-    (kept holds : List ℕ) : Type 0 where
+pub record Body (vs : List Var) (keep : List ℤ → Bool) (q : Region) (kinds values : List ℕ) (bounds : Bounds)
+    (at guard : ℕ) (kept holds : List ℕ) : Type 0 where
   pub ls : List Lexeme
   pub us : List Lexeme
   pub codes : Codes vs ls kinds values

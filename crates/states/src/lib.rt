@@ -21,9 +21,11 @@ ghost use Rattle.meaning.specs.Held.{Biased};
 ghost use Rattle.meaning.specs.Decide.Check.{broken};
 ghost use Rattle.evaluator.specs.Coding.{Codes, EndsCond, RunAs, lane};
 ghost use Rattle.variables.specs.Bounded.{Bounded};
-ghost use Rattle.states.specs.Rows.{TruthRow, BodiesAt, HoldsAll, KeptAll, GuardNumbers, outcomeNumber, Moved, Row, Outcomes, BrokenAs};
+ghost use Rattle.states.specs.Rows.{TruthRow, BodiesAt, HoldsAll, KeptAll, GuardNumbers};
+ghost use Rattle.states.specs.Rows.{outcomeNumber, Moved, Row, Outcomes, BrokenAs};
 ghost use Rattle.variables.specs.declared.Bounds.{Bounds};
-ghost use Rattle.states.specs.Promises.{Put, Condition, Guards, Sixteen, Values, Truths, Body, Moves, runsBy, failsBy, breaksBy, Lowest};
+ghost use Rattle.states.specs.Promises.{Put, Condition, Guards, Sixteen, Values, Truths, Body, Moves};
+ghost use Rattle.states.specs.Promises.{runsBy, failsBy, breaksBy, Lowest};
 
 // The outcome of a body that leaves a range: no state's number.
 const FAULT: u16 = machine::STATE_END;
@@ -325,7 +327,8 @@ fn after_row(
     }
 }
 
-// The state after every region's body, at region * STATES + state; `ats` has the token at which each body begins.
+// The outcome of every region's body, at region * STATES + state, from each state where the test held in `kept` and the
+// guard are true; whether it is kept is not asked. `ats` has the token at which each body begins.
 pub fn fill_after(
     kinds: &[u8],
     values: &[u16],
@@ -395,7 +398,8 @@ fn breaks_at(kept: &[u8], holds: &[u16], guard: u8, s: usize, to: u16) -> bool
 
 // The lowest state at which a region breaks, by the outcomes of its body; the count of states where it never does.
 fn first_in_row(row: &[u16], states: usize, guard: u8, kept: &[u8], holds: &[u16]) -> usize
-    ensures { λ r. ⌜ Lowest (λ s. breaksBy (now (kept .entry)) (now (holds .entry)) guard s (getD (now (row .entry)) s 0)) states r ⌝ }
+    ensures { λ r. ⌜ Lowest
+        (λ s. breaksBy (now (kept .entry)) (now (holds .entry)) guard s (getD (now (row .entry)) s 0)) states r ⌝ }
 {
     let mut s: usize = 0;
     while s < states {
@@ -407,7 +411,7 @@ fn first_in_row(row: &[u16], states: usize, guard: u8, kept: &[u8], holds: &[u16
     states
 }
 
-// Every region keeps, or the lowest region and then the lowest state from which the outcome is a fault or is not kept (9).
+// Every region keeps, or the lowest region and then the lowest state from which the outcome is a fault or not kept (9).
 pub fn first_broken(
     bounds: Bounds,
     guard_of: [u8; machine::REGIONS],

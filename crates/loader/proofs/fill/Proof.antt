@@ -17,7 +17,8 @@ use Rattle.meaning.specs.Model.{vars, regions}
 use Rattle.states.specs.Rows.{KeptAll, HoldsAll, Outcomes, BrokenAs}
 use Rattle.states.proofs.Holding.{row-of-kept}
 use Rattle.loader.specs.Filling.{Filling}
-use Rattle.loader.proofs.Fills.{keeping, keep-is-kept, kept-row, guarding, bodies-of, numbers-of, failed, filled-8, filled-9, filled-0}
+use Rattle.loader.proofs.Fills.{keeping, keep-is-kept, kept-row, guarding, bodies-of, numbers-of}
+use Rattle.loader.proofs.Fills.{failed, filled-8, filled-9, filled-0}
 use Rattle.loader.proofs.fill.Statement.{statement}
 use Rattle.loader.proofs.fill.Tie as tie
 
@@ -65,8 +66,8 @@ module _ (c : At) {m : Monitor} {ls : List Lexeme} (f : Given (start-of c) m ls)
 
   outcomes : Outcomes m (keptAt m) (c .fill-after .last .1 .1 .1 .1 .1 .1 .1 .1 .0)
   outcomes =
-      c .fill-after .ensures m (keptAt m) ls (f .codes) (f .bounded) (f .few) (f .laid .region-count) few-regions (bodies-of f)
-      (numbers-of f) l₃ (row-of-kept m _ by-kept) by-holds
+      c .fill-after .ensures m (keptAt m) ls (f .codes) (f .bounded) (f .few) (f .laid .region-count) few-regions
+      (bodies-of f) (numbers-of f) l₃ (row-of-kept m _ by-kept) by-holds
 
 -- and have been looked through
 abbrev Through : Type 0
@@ -76,7 +77,8 @@ abbrev filled : Through → At
 filled c = c .before .before .before .before .before .before
 
 module _ (c : Through) {m : Monitor} {ls : List Lexeme} (f : Given (start-of (filled c)) m ls)
-    (l₁ : 4096 ≤ length (now (entry-of (filled c) .args .kept))) (l₂ : 4096 ≤ length (now (entry-of (filled c) .args .holds)))
+    (l₁ : 4096 ≤ length (now (entry-of (filled c) .args .kept)))
+    (l₂ : 4096 ≤ length (now (entry-of (filled c) .args .holds)))
     (l₃ : 65536 ≤ length (now (entry-of (filled c) .args .after))) where
   broken-as : BrokenAs (c .first-broken .result) (broken m)
   broken-as =
@@ -92,15 +94,17 @@ returns c m ls f l₁ l₂ l₃ =
 returns-2 : tie.Need-returns-2
 returns-2 c m ls f l₁ l₂ l₃ =
     let g = c .before .before .before .before in
-    filled-9 m _ _ _ _ _ (holds-at-start (start-of (filled g)) f) (failed (row-of (filled g) .before .before .if1 .left))
+    let row = row-of (filled g) in
+    filled-9 m _ _ _ _ _ (holds-at-start (start-of (filled g)) f) (failed (row .before .before .if1 .left))
     (broken-as g f l₁ l₂ l₃) _ _ (c .before .before .r .given .1) (c .say2 .ensures)
 
 returns-3 : tie.Need-returns-3
 returns-3 c m ls f l₁ l₂ l₃ =
     let g = c .before .before .before in
-    filled-0 m _ _ _ _ _ (holds-at-start (start-of (filled g)) f) (failed (row-of (filled g) .before .before .if1 .left))
-    (broken-as g f l₁ l₂ l₃) (c .before .enum-told .given .1) (by-kept (filled g) f l₁ l₂ l₃) (by-holds (filled g) f l₁ l₂ l₃)
-    (outcomes (filled g) f l₁ l₂ l₃) (c .say3 .ensures)
+    let row = row-of (filled g) in
+    filled-0 m _ _ _ _ _ (holds-at-start (start-of (filled g)) f) (failed (row .before .before .if1 .left))
+    (broken-as g f l₁ l₂ l₃) (c .before .enum-told .given .1) (by-kept (filled g) f l₁ l₂ l₃)
+    (by-holds (filled g) f l₁ l₂ l₃) (outcomes (filled g) f l₁ l₂ l₃) (c .say3 .ensures)
 
 pub fill-spec : {M : Type 1} → statement M
 fill-spec =

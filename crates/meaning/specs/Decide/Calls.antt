@@ -15,7 +15,8 @@ use Rattle.meaning.specs.Decide.Check.{check}
 use Rattle.meaning.specs.Model.{kept, model}
 use Rattle.meaning.specs.Decide.Table.{tableOf}
 use Rattle.meaning.specs.Decide.Frames.{Frames, frames, none-at, framesOf}
-use Rattle.meaning.specs.Calls.{Machine, Placing, Running, refused-file, not-run, notPlaced, plain-machine, ran, recordOf, table-machine}
+use Rattle.meaning.specs.Calls.{Machine, plain-machine, table-machine, Placing, notPlaced, recordOf}
+use Rattle.meaning.specs.Calls.{Running, ran, refused-file, not-run}
 
 -- "success writes the table from byte 0 and keeps the bytes behind it"
 unfoldable pub written : List ℕ → List ℕ → Placing

@@ -8,7 +8,8 @@ use Rattle.monitor.proofs.run_loaded.Statement.{statement}
 use Rattle.monitor.proofs.run_loaded.Tie as tie
 
 returns : tie.Need-returns
-returns c file loads entries = not-loaded file _ _ _ _ (loads .verdict) (c .before .if1 .taken) (c .no-record .ensures) refl
+returns c file loads entries =
+    not-loaded file _ _ _ _ (loads .verdict) (c .before .if1 .taken) (c .no-record .ensures) refl
 
 returns-2 : tie.Need-returns-2
 unfolding EntriesOf

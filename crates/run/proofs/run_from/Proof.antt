@@ -129,7 +129,8 @@ returns-5 c m b n h p t ok =
     let f = facts (e .before) m b n h p t ok in
     let s = c .before .say .ensures in
     ran-accepted m _ _ _ _ (f .0) (f .1) (f .2) (e .before .run-trace .result) (f .3) ok (e .if4 .left)
-    (λ d shows low. (record { number = s .0; first = s .1; second = s .2 }, c .record-of .ensures m d b shows low, refl))
+    (λ d shows low.
+    (record { number = s .0; first = s .1; second = s .2 }, c .record-of .ensures m d b shows low, refl))
 
 pub run-from-spec : {M : Type 1} → statement M
 run-from-spec =

@@ -12,15 +12,16 @@ use Rattle.meaning.specs.State.{count}
 use Rattle.meaning.specs.Model.{vars, region}
 use Rattle.states.specs.Rows.{Outcomes, Row}
 use Rattle.states.proofs.Lanes.{passed, row-same}
-use Rattle.states.proofs.Regions.{part-long, back, back-length, row-before, row-at, Filling, filling, body-of, Done}
+use Rattle.states.proofs.Regions.{part-long, back, back-length, row-before, row-at}
+use Rattle.states.proofs.Regions.{Filling, filling, body-of, Done}
 use Rattle.states.proofs.fill_after.Statement.{statement}
 use Rattle.states.proofs.fill_after.Tie as tie
 
 abbrev Inv-loop : tie.InvT-loop
 Inv-loop kinds values bounds count kept holds after₀ ats guard-of r₀ after r =
     (r ≤ count) × (length after ≡ length after₀)
-    × ((m : Monitor) (keep : List ℤ → Bool) → Filling m keep kinds values bounds ats guard-of count kept holds → (j : ℕ) → j < r
-    → Done m keep after j)
+    × ((m : Monitor) (keep : List ℤ → Bool) → Filling m keep kinds values bounds ats guard-of count kept holds
+    → (j : ℕ) → j < r → Done m keep after j)
 
 abbrev μ-loop : tie.MeasureT-loop
 μ-loop kinds values bounds count kept holds after₀ ats guard-of r₀ after r = count - r
@@ -35,7 +36,8 @@ loop-of c = c .before .before .before .before .before .before
 abbrev Fill : tie.At-loop Inv-loop μ-loop → Monitor → (List ℤ → Bool) → Type 0
 Fill c m keep =
     let a = c .before .before .before .before .before .before .before .before .before .before .args in
-    Filling m keep (now (a .kinds)) (now (a .values)) (a .bounds) (a .t4) (a .t5) (a .count) (now (a .kept)) (now (a .holds))
+    Filling m keep (now (a .kinds)) (now (a .values)) (a .bounds) (a .t4) (a .t5) (a .count) (now (a .kept))
+    (now (a .holds))
 
 abbrev R : At → ℕ
 R c = loop-of c .loop .r
@@ -68,10 +70,12 @@ row-done : (c : At) (m : Monitor) (keep : List ℤ → Bool) → Fill (loop-of c
     → Row (vars m) keep (region m (R c)) (count (vars m)) (λ k. getD (ys c) k 0)
 row-done c m keep f =
     let at = c .before .before .before .before .wide in
-    c .before .before .after-row .ensures (vars m) keep (region m (R c)) (body-of f (R c) (omega arith) (at .result) (at .ensures))
+    c .before .before .after-row .ensures (vars m) keep (region m (R c))
+    (body-of f (R c) (omega arith) (at .result) (at .ensures))
 
 -- the rows before it are as they were
-still : (c : At) (m : Monitor) (keep : List ℤ → Bool) → Fill (loop-of c) m keep → (j : ℕ) → j < R c → Done m keep (new c) j
+still : (c : At) (m : Monitor) (keep : List ℤ → Bool) → Fill (loop-of c) m keep → (j : ℕ) → j < R c
+    → Done m keep (new c) j
 still c m keep f j h =
     row-same (λ s. getD (new c) (j * 4096 + s) 0) (loop-of c .loop .inv .2 m keep f j h)
     (λ s low. row-before (xs c) (ys c) (R c) (size c) (is-size c) (room c) (whole c) j s h (omega (arith, f .bounded .few-states)))
@@ -95,13 +99,15 @@ loop-again b = (
   λ m keep f.
       passed (Done m keep (new b)) (R b) (still b m keep f)
       (row-same (λ s. getD (new b) (R b * 4096 + s) 0) (row-done b m keep f)
-      (λ s low. row-at (xs b) (ys b) (R b) (size b) (is-size b) (room b) (whole b) s (omega (arith, f .bounded .few-states)))),
+      (λ s low.
+      row-at (xs b) (ys b) (R b) (size b) (is-size b) (room b) (whole b) s (omega (arith, f .bounded .few-states)))),
 )
 
 returns-4 : tie.Need-returns-4 Inv-loop μ-loop
 unfolding Outcomes
 returns-4 c m keep ls codes bounded few counted small bodies numbers l k h =
-    let f : Fill (c .before) m keep = filling m keep _ _ _ _ _ _ _ _ ls codes bounded few counted small bodies numbers k h in
+    let f : Fill (c .before) m keep =
+    filling m keep _ _ _ _ _ _ _ _ ls codes bounded few counted small bodies numbers k h in
     λ r low. c .before .loop .inv .2 m keep f r (omega arith)
 
 pub fill-after-spec : {M : Type 1} → statement M

@@ -65,7 +65,8 @@ loop-again c =
 returns-4 : tie.Need-returns-4 Inv-loop μ-loop
 returns-4 c m b counted small numbers l k h o =
     never m _ o _ _ _ (b .good) (b .few-states) k h numbers
-    (λ j low s below. c .before .loop .inv .1 j (omega arith) s (omega (arith, b .states)) (omega (arith, b .few-states)))
+    (λ j low s below.
+    c .before .loop .inv .1 j (omega arith) s (omega (arith, b .states)) (omega (arith, b .few-states)))
 
 pub first-broken-spec : {M : Type 1} → statement M
 first-broken-spec =

@@ -27,7 +27,8 @@ returns c =
     let i = n .before .before .loop in
     record {
       within = omega arith;
-      passes = λ _. ap (breaksBy _ _ _ (i .s)) (sym (n .number-at .ensures)) ∙ sym (b .breaks-at .ensures) ∙ c .if1 .taken;
+      passes = λ _.
+          ap (breaksBy _ _ _ (i .s)) (sym (n .number-at .ensures)) ∙ sym (b .breaks-at .ensures) ∙ c .if1 .taken;
       lower = i .inv .1;
     }
 

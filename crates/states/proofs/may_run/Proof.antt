@@ -17,8 +17,9 @@ unfolding runsBy
 returns-2 c =
     let n = c .before in
     let b = n .before in
+    let a = b .before .before .before .before .args in
     rw (eq-eqb _ 1 (sym (b .before .byte-at .ensures) ∙ b .if1 .left))
-    (c .has .ensures ∙ ap (λ (k : ℕ). member k (b .before .before .before .before .args .guard)) (n .number-at .ensures))
+    (c .has .ensures ∙ ap (λ (k : ℕ). member k (a .guard)) (n .number-at .ensures))
 
 pub may-run-spec : {M : Type 1} → statement M
 may-run-spec =

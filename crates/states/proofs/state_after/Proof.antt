@@ -1,4 +1,4 @@
--- `states::state_after` meets its contract: a run that is not ok is a fault, and one that is reaches a state with a number.
+-- `states::state_after` meets its contract: a run that is not ok is a fault, and one that is ok reaches a state.
 use native.Mathlib.Omega.{arith}
 use Prim.Native.Nat.{ℕ, _<_}
 use mathlib.Core.Path.{_≡_, sym, _∙_}
@@ -27,8 +27,8 @@ at-number : (c : tie.After-number-of) {vs : List Var} (q : Region) (s : ℕ)
 at-number c {vs} q s b low run =
     let g = c .before in
     let has = g .before .before .has in
-    reached b q s low _ (g .lane-of .result) (c .number-of .result) (c .number-of .ensures vs) (rw (g .lane-of .ensures) run)
-    (sym (has .ensures) ∙ not-false (has .result) (g .before .if1 .left))
+    reached b q s low _ (g .lane-of .result) (c .number-of .result) (c .number-of .ensures vs)
+    (rw (g .lane-of .ensures) run) (sym (has .ensures) ∙ not-false (has .result) (g .before .if1 .left))
 
 returns : tie.Need-returns
 returns c vs q s b low run =
