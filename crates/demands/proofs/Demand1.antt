@@ -1,5 +1,5 @@
--- Demand 1 holds: each call's result, computed, is the one that the words give, and no other. By the verdict's theorems and those of the
--- rules.
+-- Demand 1 holds: each call's result, computed, is the one that the words give, and no other. By the verdict's theorems
+-- and those of the rules.
 use Rattle.machine.specs.Monitor as machine
 use Prim.Native.Nat.{ℕ}
 use native.Mathlib.Omega.{arith}
@@ -24,7 +24,8 @@ use Rattle.meaning.specs.Trace.{FrameRecords, linesOf}
 use Rattle.meaning.proofs.Frames.{frames-read, frames-stop}
 use Rattle.meaning.proofs.Verdicts.{refusal-number, accepted-iff, refused-iff, check-iff, one-verdict}
 use Rattle.meaning.proofs.ModelLaws.{startable-iff}
-use Rattle.demands.specs.Demand1.{PlacesAs, file-refused, too-short, placed, RunsAs, no-monitor, no-start, bad-line, frame-refused, all-allowed, Demand1}
+use Rattle.demands.specs.Demand1.{PlacesAs, file-refused, too-short, placed, RunsAs, no-monitor, no-start}
+use Rattle.demands.specs.Demand1.{bad-line, frame-refused, all-allowed, Demand1}
 use Rattle.demands.proofs.Demand2.{follows-rules}
 
 module _ (file buffer : List ℕ) where
@@ -71,7 +72,8 @@ module _ (file buffer : List ℕ) where
 
 module _ (file bytes : List ℕ) (s : ℕ) where
   -- an accepted file, a state that counts and a trace of frames: the run of the list
-  pub on-frames : {m : Monitor} {fs : List Frame} → Accepted file m → Startable m s → FrameRecords fs → bytes ≡ linesOf fs → (w : Machine)
+  pub on-frames : {m : Monitor} {fs : List Frame} → Accepted file m → Startable m s → FrameRecords fs
+      → bytes ≡ linesOf fs → (w : Machine)
       → running file bytes s w ≡ runningOf m (runList m w s fs)
   unfolding running runFrom runFrames
   on-frames {m} {fs} a k r e w = cc (accepted-iff file m .1 a, startable-iff m s .1 k, frames-read bytes fs .1 (r, e))
@@ -82,19 +84,23 @@ module _ (file bytes : List ℕ) (s : ℕ) where
     runs (no-monitor {a} r) = cc (refused-iff file a .1 r)
     runs (no-start {m} a n) = cc (accepted-iff file m .1 a, is-false {b = kept m s} (λ h. n (startable-iff m s .0 h)))
     runs (bad-line {m} {k} a h t) = cc (accepted-iff file m .1 a, startable-iff m s .1 h, frames-stop bytes k .1 t)
-    runs (frame-refused {m} {fs} {a = b} {k} a h r e t) = cc (on-frames a h r e w, follows-rules m w .stops s fs b k .1 t)
+    runs (frame-refused {m} {fs} {a = b} {k} a h r e t) =
+        cc (on-frames a h r e w, follows-rules m w .stops s fs b k .1 t)
     runs (all-allowed {m} {fs} {c} a h r e t) = cc (on-frames a h r e w, follows-rules m w .accepts s fs c .1 t)
 
     pub run-as : (x : Running) × RunsAs file bytes s w x
     run-as = go (check file) refl
       where
-        by-run : (m : Monitor) → Accepted file m → Startable m s → (fs : List Frame) → FrameRecords fs → bytes ≡ linesOf fs
+        by-run : (m : Monitor) → Accepted file m → Startable m s → (fs : List Frame) → FrameRecords fs
+            → bytes ≡ linesOf fs
             → (x : Run) → runList m w s fs ≡ x → (x : Running) × RunsAs file bytes s w x
         by-run m a k fs r e (machine.accepted c) h = (_, all-allowed a k r e (follows-rules m w .accepts s fs c .0 h))
         by-run m a k fs r e (stopped b j) h = (_, frame-refused a k r e (follows-rules m w .stops s fs b j .0 h))
 
-        by-trace : (m : Monitor) → Accepted file m → Startable m s → (x : Frames) → framesOf bytes ≡ x → (x : Running) × RunsAs file bytes s w x
-        by-trace m a k (frames fs) e = let t = frames-read bytes fs .0 e in by-run m a k fs (t .0) (t .1) (runList m w s fs) refl
+        by-trace : (m : Monitor) → Accepted file m → Startable m s → (x : Frames) → framesOf bytes ≡ x
+            → (x : Running) × RunsAs file bytes s w x
+        by-trace m a k (frames fs) e = let t = frames-read bytes fs .0 e in
+            by-run m a k fs (t .0) (t .1) (runList m w s fs) refl
         by-trace m a k (none-at j) e = (_, bad-line a k (frames-stop bytes j .0 e))
 
         go : (v : Verdict) → check file ≡ v → (x : Running) × RunsAs file bytes s w x

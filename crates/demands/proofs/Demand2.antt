@@ -1,5 +1,5 @@
--- Demand 2 holds. The table: from the entries' words and the lines' laws, and over values by the numbering of states. The machines: from
--- the step that decides the rules.
+-- Demand 2 holds. The table: from the entries' words and the lines' laws, and over values by the numbering of states.
+-- The machines: from the step that decides the rules.
 use Rattle.machine.specs.Monitor as machine
 use Prim.Native.Nat.{ℕ, _≤_, _<_}
 use native.Mathlib.Omega.{arith}
@@ -29,7 +29,8 @@ use Rattle.meaning.specs.Calls.{Machine, plain-machine, table-machine, Startabl
 use Rattle.meaning.specs.Decide.Calls.{place, toldBy, runList}
 use Rattle.meaning.specs.Accepted.{State, Keeps, Meets, Sound}
 use Rattle.meaning.proofs.StateLaws.{state-at, number-below, state-at-number}
-use Rattle.meaning.proofs.ModelLaws.{kept-below, keeps, outside, leaves, follows-below, region-numbered, holds-guard, startable-iff}
+use Rattle.meaning.proofs.ModelLaws.{kept-below, keeps, outside, leaves, follows-below, region-numbered, holds-guard}
+use Rattle.meaning.proofs.ModelLaws.{startable-iff}
 use Rattle.meaning.specs.Table.{Row, Small}
 use Rattle.meaning.proofs.TableLines.{rowsOf, table-lines, row-stands, rows-increasing, rows-decoded}
 use Rattle.meaning.proofs.Verdicts.{accepted-iff, refused-iff}
@@ -57,7 +58,8 @@ same-false true false f g = g refl
 same-false false b f g = sym (f refl)
 
 row-algorithm : (m : machine.Monitor) → Checked m → (w : Row)
-    → ((w .region < m .regions) × (w .guard < m .guards) × (entryOf m (w .region) (w .guard) ≡ entry (w .unconditional) (w .broadcast)))
+    → ((w .region < m .regions) × (w .guard < m .guards)
+    × (entryOf m (w .region) (w .guard) ≡ entry (w .unconditional) (w .broadcast)))
     ↔ IsEntry m w
 row-algorithm m ok w = (
   λ h. record {
@@ -73,12 +75,15 @@ row-algorithm m ok w = (
       let (a, b, e) = entry-stands m (ok .below) r g .1 (h .stands) in
       let u = entry-unconditional m (ok .below) r g a b e in
       let s = entry-signal m (ok .below) r g a b e in
-      let p : a ≡ w .unconditional = tests-equal a (w .unconditional) (λ x. h .unconditional .1 (u .0 x)) (λ x. u .1 (h .unconditional .0 x)) in
-      let q : b ≡ w .broadcast = same-false b (w .broadcast) (λ x. h .signal .1 (s .0 x)) (λ x. s .1 (h .signal .0 x)) in
+      let p : a ≡ w .unconditional = tests-equal a (w .unconditional) (λ x. h .unconditional .1 (u .0 x))
+      (λ x. u .1 (h .unconditional .0 x)) in
+      let q : b ≡ w .broadcast = same-false b (w .broadcast) (λ x. h .signal .1 (s .0 x)) (λ x. s .1 (h .signal .0 x))
+      in
       (h .region, h .guard, cc),
 )
 
-rows-small : (file : List ℕ) (m : Monitor) → check file ≡ accepted m → (w : Row) → List·Memᴰ w (rowsOf (model m)) → Small w
+rows-small : (file : List ℕ) (m : Monitor) → check file ≡ accepted m → (w : Row) → List·Memᴰ w (rowsOf (model m))
+    → Small w
 unfolding Small model
 rows-small file m e w h =
     let n = sizes (accepted-iff file m .0 e) in
@@ -114,29 +119,34 @@ pub record StopsWithin (fs : List Frame) (a k : ℕ) : Type 0 where
   pub high : a ≤ 14
   pub frame : k < length fs
 
-pub stops-within : {m : machine.Monitor} {n : Notices} {c : Config} {fs : List Frame} {a k : ℕ} → Stops m n 0 c fs a k → StopsWithin fs a k
+pub stops-within : {m : machine.Monitor} {n : Notices} {c : Config} {fs : List Frame} {a k : ℕ} → Stops m n 0 c fs a k
+    → StopsWithin fs a k
 stops-within t =
     let n = refuses-number (t .refuse) in
     let l = length-append (t .front) (t .frame ∷ t .more) in
     let p = t .place in
     record { low = n .0; high = n .1; frame = rw (t .splits) (omega arith) }
 
-pub run-stops : (m : Monitor) (w : Machine) (s : ℕ) (fs : List Frame) (a k : ℕ) → runList m w s fs ≡ stopped a k → StopsWithin fs a k
+pub run-stops : (m : Monitor) (w : Machine) (s : ℕ) (fs : List Frame) (a k : ℕ) → runList m w s fs ≡ stopped a k
+    → StopsWithin fs a k
 run-stops m w s fs a k h = stops-within (follows-rules m w .stops s fs a k .0 h)
 
 -- a run from a kept state ends in one, with each waiting or due thread at a region of the file
-pub run-reached : (m : Monitor) → Checked (model m) → (s : ℕ) → kept m s ≡ true → (fs : List Frame) (w : Machine) (c : Config)
+pub run-reached : (m : Monitor) → Checked (model m) → (s : ℕ) → kept m s ≡ true
+    → (fs : List Frame) (w : Machine) (c : Config)
     → runList m w s fs ≡ machine.accepted c → Reached (model m) c
 unfolding model
 run-reached m ok s k fs w c h =
     rules-reached (model m) ok (noticesOf m w) (follows-rules m w .accepts s fs c .0 h) (start-reached (model m) s k)
 
 -- a run from a state that counts ends in one, in which each value is in its range
-pub runs-keep : (file : List ℕ) (m : Monitor) → check file ≡ accepted m → (s : ℕ) → Startable m s → (fs : List Frame) (w : Machine) (c : Config)
+pub runs-keep : (file : List ℕ) (m : Monitor) → check file ≡ accepted m → (s : ℕ) → Startable m s
+    → (fs : List Frame) (w : Machine) (c : Config)
     → runList m w s fs ≡ machine.accepted c → Startable m (c .state) × State (vars m) (stateAt (vars m) (c .state))
 unfolding model
 runs-keep file m e s k fs w c h =
-    let t = startable-iff m (c .state) .0 (run-reached m (checked file m e) s (startable-iff m s .1 k) fs w c h .is-kept) in
+    let t =
+    startable-iff m (c .state) .0 (run-reached m (checked file m e) s (startable-iff m s .1 k) fs w c h .is-kept) in
     (t, state-at (accepted-iff file m .0 e .sound .ranges) (c .state) (t .below))
 
 -- The table by values
@@ -175,7 +185,8 @@ module _ (m : Monitor) where
         let e : stateAt (vars m) s ≡ as′ = state-at-number (ok .ranges) (q .state) in (
           s,
           record {
-            is-kept = startable-iff m s .1 (record { below = number-below (ok .ranges) (q .state); keeps = rw e (q .kept) });
+            is-kept =
+                startable-iff m s .1 (record { below = number-below (ok .ranges) (q .state); keeps = rw e (q .kept) });
             guard = holds-guard m one-cond r s ∙ rw e (q .guard);
           },
           e,
@@ -188,12 +199,14 @@ module _ (m : Monitor) where
         ↔ ((as′ bs : List ℤ) × Moves m (region m r) as′ bs × (truthOf m g as′ ≡ false) × (truthOf m g bs ≡ true))
     unfolding Holds Fails model holds truthOf
     stands-iff r g = (
-      λ h. let t = to-values r (h .from) (h .may-run) in (stateAt (vars m) (h .from), t .0, t .1, h .before, rw (t .2) at (h .after)),
+      λ h. let t = to-values r (h .from) (h .may-run) in
+          (stateAt (vars m) (h .from), t .0, t .1, h .before, rw (t .2) at (h .after)),
       λ h. let t = from-values r (h .0) (h .1) (h .2) in
           record { from = t .0; may-run = t .1; before = rw (t .2) (h .3); after = rw (t .3) (h .4) },
     )
 
-    makes-iff : (r g : ℕ) (p q : Bool) → Triple (model m) r (λ s. holds m g s ≡ p) (λ s. holds m g s ≡ q) ↔ Makes m r g p q
+    makes-iff : (r g : ℕ) (p q : Bool) → Triple (model m) r (λ s. holds m g s ≡ p) (λ s. holds m g s ≡ q)
+        ↔ Makes m r g p q
     unfolding Triple model holds truthOf Makes
     makes-iff r g p q = (
       λ h as′ bs v a. let t = from-values r as′ bs v in rw (t .3) at (h (t .0) (t .1) (rw (t .2) a)),
@@ -211,14 +224,20 @@ module _ (m : Monitor) where
             has-guard = h .guard;
             stands = stands-iff r g .0 (h .stands);
             unconditional = Iff·trans (h .unconditional) u;
-            signal = Iff·trans (h .signal) (λ x k l e. makes-iff k g true false .0 (x k l e), λ x k l e. makes-iff k g true false .1 (x k l e));
+            signal = Iff·trans (h .signal) (
+              λ x k l e. makes-iff k g true false .0 (x k l e),
+              λ x k l e. makes-iff k g true false .1 (x k l e),
+            );
           },
           λ h. record {
             region = h .has-region;
             guard = h .has-guard;
             stands = stands-iff r g .1 (h .stands);
             unconditional = Iff·trans (h .unconditional) (u .1, u .0);
-            signal = Iff·trans (h .signal) (λ x k l e. makes-iff k g true false .1 (x k l e), λ x k l e. makes-iff k g true false .0 (x k l e));
+            signal = Iff·trans (h .signal) (
+              λ x k l e. makes-iff k g true false .1 (x k l e),
+              λ x k l e. makes-iff k g true false .0 (x k l e),
+            );
           },
         )
 

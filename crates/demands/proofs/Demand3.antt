@@ -37,24 +37,26 @@ use Rattle.demands.specs.Demand3.{Demand3, runAnswer, SameRunning, First
 use Rattle.demands.proofs.Demand1.{runs, run-as, on-frames, running-iff}
 use Rattle.demands.proofs.Demand2.{checked, follows-rules}
 
--- Demand 3: "every state that meets the kept condition and every list of frames", "run from there with all threads idle"
+-- Demand 3: "every state that meets the kept condition and every list of frames", "run from there with all threads
+-- idle"
 
 pub demand-3 : Demand3
 unfolding Agrees plainRun tableRun runList toldBy model
 demand-3 = record { agree = λ file m e s k fs. agrees (model m) (checked file m e) s k fs }
 
-module _ (file : List ℕ) (m : Monitor) (e : check file ≡ accepted m) (s : ℕ) (k : kept m s ≡ true) (fs : List Frame) where
-  -- without rechecks the answers are always equal
-  pub no-rechecks : ((j : ℕ) → Recheck fs j → ⊥)
-      → agreement.answer (runList m plain-machine s fs) ≡ agreement.answer (runList m table-machine s fs)
-  unfolding plainRun tableRun runList toldBy model
-  no-rechecks = same-without-rechecks (model m) (checked file m e) s k fs
+module _ (file : List ℕ) (m : Monitor) (e : check file ≡ accepted m) (s : ℕ) (k : kept m s ≡ true) (fs : List Frame)
+  where
+    -- without rechecks the answers are always equal
+    pub no-rechecks : ((j : ℕ) → Recheck fs j → ⊥)
+        → agreement.answer (runList m plain-machine s fs) ≡ agreement.answer (runList m table-machine s fs)
+    unfolding plainRun tableRun runList toldBy model
+    no-rechecks = same-without-rechecks (model m) (checked file m e) s k fs
 
-  -- what the table's machine accepts the plain one accepts, with the same values and places
-  pub accepted-by-table : (c : Config) → runList m table-machine s fs ≡ machine.accepted c
-      → (d : Config) × (runList m plain-machine s fs ≡ machine.accepted d) × SamePoint (model m) d c
-  unfolding plainRun tableRun runList toldBy model
-  accepted-by-table = table-accepts (model m) (checked file m e) s k fs
+    -- what the table's machine accepts the plain one accepts, with the same values and places
+    pub accepted-by-table : (c : Config) → runList m table-machine s fs ≡ machine.accepted c
+        → (d : Config) × (runList m plain-machine s fs ≡ machine.accepted d) × SamePoint (model m) d c
+    unfolding plainRun tableRun runList toldBy model
+    accepted-by-table = table-accepts (model m) (checked file m e) s k fs
 
 -- the number is 0 exactly where a trace is accepted
 pub zero-iff-ran : (file bytes : List ℕ) (s : ℕ) (w : Machine)
@@ -70,7 +72,8 @@ zero-iff-ran file bytes s w =
     go (frame-refused a h r e t) z = let n = refuses-number (t .refuse) in absurd (omega arith)
     go (all-allowed a h r e t) z = (_, refl)
 
-answer-of : (m : Monitor) (x : Run) → runAnswer (runningOf m x) ≡ answer (agreement.answer x .0) (agreement.answer x .1) 0
+answer-of : (m : Monitor) (x : Run) → runAnswer (runningOf m x)
+    ≡ answer (agreement.answer x .0) (agreement.answer x .1) 0
 unfolding runAnswer runningOf agreement.answer
 answer-of m (machine.accepted c) = refl
 answer-of m (stopped a k) = refl
@@ -95,18 +98,22 @@ module _ (file bytes : List ℕ) (s : ℕ) where
       (runAnswer plain ≡ runAnswer table)
       ⊎ ((fs : List Frame) × (k : ℕ) × (bytes ≡ linesOf fs) × (table ≡ not-run (answer 14 k 0)) × Recheck fs k)
 
-  on-frames-agree : {m : Monitor} {fs : List Frame} → Accepted file m → Startable m s → FrameRecords fs → bytes ≡ linesOf fs → Answers
+  on-frames-agree : {m : Monitor} {fs : List Frame} → Accepted file m → Startable m s → FrameRecords fs
+      → bytes ≡ linesOf fs → Answers
   unfolding runningOf
   on-frames-agree {m} {fs} a k r e =
       let p = on-frames file bytes s a k r e plain-machine in
       let t = on-frames file bytes s a k r e table-machine in
       ⊎-elim
-      (λ h. inl (ap runAnswer p ∙ answer-of m _ ∙ ap (λ (x : ℕ × ℕ). answer (x .0) (x .1) 0) h ∙ sym (answer-of m _) ∙ sym (ap runAnswer t)))
+      (λ h. inl (ap runAnswer p ∙ answer-of m _ ∙ ap (λ (x : ℕ × ℕ). answer (x .0) (x .1) 0) h ∙ sym (answer-of m _)
+      ∙ sym (ap runAnswer t)))
       (λ x. inr (fs, x .0, e, t ∙ ap (runningOf m) (x .1), x .2))
       (demand-3 .agree file m (accepted-iff file m .1 a) s (startable-iff m s .1 k) fs .same-answer)
 
   alike : {x : Running} → ((w : Machine) → RunsAs file bytes s w x) → Answers
-  alike f = inl (ap runAnswer (runs file bytes s plain-machine (f plain-machine) ∙ sym (runs file bytes s table-machine (f table-machine))))
+  alike f =
+      inl (ap runAnswer (runs file bytes s plain-machine (f plain-machine)
+      ∙ sym (runs file bytes s table-machine (f table-machine))))
 
   same-answers : {x : Running} → RunsAs file bytes s table-machine x → Answers
   same-answers (no-monitor r) = alike (λ w. no-monitor r)
@@ -118,9 +125,15 @@ module _ (file bytes : List ℕ) (s : ℕ) where
   records : {b : Record} → RunsAs file bytes s table-machine (ran b)
       → (a : Record) × (plain ≡ ran a) × (a .values ≡ b .values) × (a .places ≡ b .places)
   records (all-allowed {m} {fs} {c} a h r e t) =
-      let x = accepted-by-table file m (accepted-iff file m .1 a) s (startable-iff m s .1 h) fs c (follows-rules m table-machine .accepts s fs c .1 t) in
-      let same = same-records m c (x .0) (x .2) in
-      (recordOf m (x .0), runs file bytes s plain-machine (all-allowed a h r e (follows-rules m plain-machine .accepts s fs (x .0) .0 (x .1))), same .0, same .1)
+      let x = accepted-by-table file m (accepted-iff file m .1 a) s (startable-iff m s .1 h) fs c
+      (follows-rules m table-machine .accepts s fs c .1 t) in
+      let same = same-records m c (x .0) (x .2) in (
+        recordOf m (x .0),
+        runs file bytes s plain-machine
+            (all-allowed a h r e (follows-rules m plain-machine .accepts s fs (x .0) .0 (x .1))),
+        same .0,
+        same .1,
+      )
 
   pub same-running : SameRunning file bytes s
   same-running =
@@ -143,7 +156,8 @@ each-at zero t f u h = absurd (omega arith)
 each-at (suc n) t f zero h = ap some (ap f (omega arith))
 each-at (suc n) t f (suc u) h = each-at n (t + 1) f u (omega arith) ∙ ap some (ap f (omega arith))
 
-each-is : {A : Type 0} (n t : ℕ) (f : ℕ → A) (u : ℕ) (a : A) → getElem? (eachThread n t f) u ≡ some a → (u < n) × (f (t + u) ≡ a)
+each-is : {A : Type 0} (n t : ℕ) (f : ℕ → A) (u : ℕ) (a : A) → getElem? (eachThread n t f) u ≡ some a
+    → (u < n) × (f (t + u) ≡ a)
 unfolding eachThread
 each-is zero t f u a e = no-some e
 each-is (suc n) t f zero a e = (omega arith, ap f (omega arith) ∙ Option·some-injective _ _ e)
@@ -211,13 +225,15 @@ module _ (m : Monitor) (c : Config) where
       )
 
 module _ (file bytes : List ℕ) (s : ℕ) where
-  notified-by : {b : Record} → RunsAs file bytes s table-machine (ran b) → (m : Monitor) → check file ≡ accepted m → (u r : ℕ)
+  notified-by : {b : Record} → RunsAs file bytes s table-machine (ran b) → (m : Monitor) → check file ≡ accepted m
+      → (u r : ℕ)
       → FirstWaiter m b u r → member (b .notified) u ≡ true
   unfolding model
   notified-by (all-allowed {m = m₀} {fs} {c} a h f e t) m q u r w =
       let p = accepted-iff file m₀ .1 a in
       let same : m ≡ m₀ = cc in
-      let y = accepted-by-table file m₀ p s (startable-iff m₀ s .1 h) fs c (follows-rules m₀ table-machine .accepts s fs c .1 t) in
+      let y = accepted-by-table file m₀ p s (startable-iff m₀ s .1 h) fs c
+      (follows-rules m₀ table-machine .accepts s fs c .1 t) in
       let x = is-next m₀ c u r (subst (λ (n : Monitor). FirstWaiter n (recordOf m₀ c) u r) same w) in
       in-set m₀ c u (x .0) ∙ y .2 .next-notified (guardOf m₀ r) u (x .3) (x .1) (x .2)
 

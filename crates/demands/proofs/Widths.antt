@@ -25,7 +25,8 @@ use Rattle.meaning.specs.Hex.{hex2}
 use Rattle.meaning.specs.Decide.Table.{entryLine, forEach, tableOf}
 use Rattle.meaning.specs.Calls.{Machine, eachThread, recordOf, Running, ran, refused-file, not-run}
 use Rattle.meaning.specs.Lines.{hex4, refusalLine, valueDigits, placeDigits, recordLine, runLine}
-use Rattle.meaning.specs.Accepted.{FirstOffends, Crowded, PastLimit, Misnamed, IsRegion, AtMost, GoodRange, GoodRanges, one-var, State, no-values, one-value}
+use Rattle.meaning.specs.Accepted.{FirstOffends, Crowded, PastLimit, Misnamed, IsRegion, AtMost, GoodRange, GoodRanges}
+use Rattle.meaning.specs.Accepted.{one-var, State, no-values, one-value}
 use Rattle.logic.proofs.Bools.{both, and, not-true, true-not}
 use Rattle.meaning.proofs.Digits.{bit-digits}
 use Rattle.meaning.proofs.Integers.{not-less-trans, distance-in-range}
@@ -34,7 +35,8 @@ use Rattle.meaning.proofs.ModelLaws.{element-below}
 use Rattle.meaning.specs.Trace.{linesOf}
 use Rattle.meaning.proofs.Frames.{lines-seven}
 use Rattle.meaning.specs.Accepted.{Accepted}
-use Rattle.meaning.specs.Refusal.{Past2, Refusal, too-long, no-token, too-many, no-file, ends-early, past-limit, wrong-name, ill-ranged, start-not-kept, broken}
+use Rattle.meaning.specs.Refusal.{Past2, Refusal, too-long, no-token, too-many, no-file, ends-early, past-limit}
+use Rattle.meaning.specs.Refusal.{wrong-name, ill-ranged, start-not-kept, broken}
 use Rattle.meaning.proofs.Verdicts.{refusal-number, accepted-iff}
 use Rattle.meaning.proofs.Sizes.{sizes-of, sizes}
 use Rattle.meaning.proofs.ModelLaws.{startable-iff}
@@ -47,7 +49,8 @@ use Rattle.demands.specs.Widths.{AnswerFits, RecordFits, RunFits}
 module _ {file : List ℕ} {ts : List Token} (p : Past2 file ts) where
   token-place : (front back : List Token) (t : Token) (k : ℕ) → ts ≡ front ++ (t ∷ back) → t .at ≡ k → k < 65536
   token-place front back t k e at =
-      let s = token-stands file ts t (tokenize-tokens file ts .1 (p .cut)) (rw e (Memᴰ·append-right front (List·Memᴰ·head refl))) in
+      let s = token-stands file ts t (tokenize-tokens file ts .1 (p .cut))
+      (rw e (Memᴰ·append-right front (List·Memᴰ·head refl))) in
       let low = s .1 in
       let short = p .short in
       omega arith
@@ -59,7 +62,8 @@ module _ {file : List ℕ} {ts : List Token} (p : Past2 file ts) where
 pub refusal-places : {file : List ℕ} {a : Answer} → Refusal file a → (a .first < 65536) × (a .second < 65536)
 unfolding IsRegion regions
 refusal-places (too-long h) = (omega arith, omega arith)
-refusal-places {file} (no-token {k = k} h s) = let p = none-place file k (tokenize-none file k .1 s) .0 in (omega arith, omega arith)
+refusal-places {file} (no-token {k = k} h s) = let p = none-place file k (tokenize-none file k .1 s) .0 in
+    (omega arith, omega arith)
 refusal-places (too-many {k = k} p f) = (offends-place p Crowded k f, omega arith)
 refusal-places (no-file {k = k} p f) = (offends-place (p .past) NoFile k f, omega arith)
 refusal-places (ends-early p v n) = let short = p .past .short in (omega arith, omega arith)
@@ -116,13 +120,15 @@ unfolding eachThread
 each-length zero t f = refl
 each-length (suc n) t f = ap suc (each-length n (t + 1) f)
 
-each-has : (P : Place → Type 0) (n t : ℕ) (f : ℕ → Place) → P idle → ((u : ℕ) → P (f u)) → (k : ℕ) → P (getD (eachThread n t f) k idle)
+each-has : (P : Place → Type 0) (n t : ℕ) (f : ℕ → Place) → P idle → ((u : ℕ) → P (f u)) → (k : ℕ)
+    → P (getD (eachThread n t f) k idle)
 unfolding eachThread
 each-has P zero t f none h k = none
 each-has P (suc n) t f none h zero = h t
 each-has P (suc n) t f none h (suc k) = each-has P n (t + 1) f none h k
 
-record-fits : {file : List ℕ} {m : Monitor} {c : Config} → Accepted file m → State (vars m) (stateAt (vars m) (c .state))
+record-fits : {file : List ℕ} {m : Monitor} {c : Config} → Accepted file m
+    → State (vars m) (stateAt (vars m) (c .state))
     → Reached (model m) c → RecordFits (recordOf m c)
 unfolding recordOf threads PlaceWithin model
 record-fits {file} {m} {c} a s x =
@@ -149,7 +155,13 @@ module _ {file bytes : List ℕ} {s : ℕ} {w : Machine} where
   pub running-fits : {x : Running} → RunsAs file bytes s w x → length bytes ≤ 65536 → RunFits x
   unfolding RunFits
   running-fits (no-monitor r) l = refusal-fits r
-  running-fits (no-start a n) l = record { refuses = omega arith; number = omega arith; first = omega arith; second = omega arith }
+  running-fits (no-start a n) l = record {
+    refuses = omega arith;
+    number = omega arith;
+    first = omega arith;
+    second =
+        omega arith;
+  }
   running-fits (bad-line a h t) l =
       let whole = ap length (t .whole) ∙ length-append (linesOf (t .before)) (t .rest) in
       let seven = lines-seven (t .before) in
@@ -204,5 +216,6 @@ pub table-short : (m : machine.Monitor) → m .regions ≤ 16 → m .guards ≤ 
 unfolding tableOf
 table-short m few-regions few-guards =
     let all = each-short (m .regions) 0 144 (λ r. forEach (m .guards) 0 (λ g. entryLine r g (entryOf m r g)))
-    (λ r. let line = each-short (m .guards) 0 9 (λ g. entryLine r g (entryOf m r g)) (λ g. entry-short r g (entryOf m r g)) in omega arith) in
+    (λ r. let line = each-short (m .guards) 0 9 (λ g. entryLine r g (entryOf m r g))
+    (λ g. entry-short r g (entryOf m r g)) in omega arith) in
     omega arith

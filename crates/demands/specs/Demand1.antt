@@ -1,5 +1,5 @@
--- Demand 1: a file or trace of any bytes gets a verdict or a numbered refusal with its place, and a refused hand-in writes to no
--- buffer. The claim is `Demand1`; what each call's verdict is stands above it.
+-- Demand 1: a file or trace of any bytes gets a verdict or a numbered refusal with its place, and a refused hand-in
+-- writes to no buffer. The claim is `Demand1`; what each call's verdict is stands above it.
 use Rattle.meaning.specs.Trace as trace
 use Prim.Native.Nat.{ℕ, _≤_, _<_}
 use mathlib.Core.Path.{_≡_}
@@ -26,7 +26,8 @@ pub data PlacesAs (file buffer : List ℕ) : Placing → Type 0 where
   -- 1 to 9
   file-refused : {a : Answer} → Refusal file a → PlacesAs file buffer (notPlaced a buffer)
   -- 10: "table buffer shorter than the table"
-  too-short : {m : Monitor} → Accepted file m → length buffer < length (tableOf (model m)) → PlacesAs file buffer (notPlaced (answer 10 0 0) buffer)
+  too-short : {m : Monitor} → Accepted file m → length buffer < length (tableOf (model m))
+      → PlacesAs file buffer (notPlaced (answer 10 0 0) buffer)
   -- "success writes the table from byte 0 and keeps the bytes behind it"
   placed :
       {m : Monitor} → Accepted file m → length (tableOf (model m)) ≤ length buffer
@@ -46,14 +47,16 @@ pub data RunsAs (file bytes : List ℕ) (s : ℕ) (w : Machine) : Running → Ty
   no-start : {m : Monitor} → Accepted file m → (Startable m s → ⊥) → RunsAs file bytes s w (not-run (answer 11 0 0))
   -- 12: "first line that is no frame"
   bad-line :
-      {m : Monitor} {k : ℕ} → Accepted file m → Startable m s → trace.Stops bytes k → RunsAs file bytes s w (not-run (answer 12 k 0))
+      {m : Monitor} {k : ℕ} → Accepted file m → Startable m s → trace.Stops bytes k
+      → RunsAs file bytes s w (not-run (answer 12 k 0))
   -- 13 and 14, "frame by frame, 13 first"
   frame-refused :
       {m : Monitor} {fs : List Frame} {a k : ℕ} → Accepted file m → Startable m s → FrameRecords fs → bytes ≡ linesOf fs
       → Stops (model m) (noticesOf m w) 0 (allIdle s) fs a k → RunsAs file bytes s w (not-run (answer a k 0))
   -- the rules allow every frame
   all-allowed :
-      {m : Monitor} {fs : List Frame} {c : Config} → Accepted file m → Startable m s → FrameRecords fs → bytes ≡ linesOf fs
+      {m : Monitor} {fs : List Frame} {c : Config} → Accepted file m → Startable m s → FrameRecords fs
+      → bytes ≡ linesOf fs
       → Rules (model m) (noticesOf m w) (allIdle s) fs c → RunsAs file bytes s w (ran (recordOf m c))
 
 pub record Demand1 : Type 0 where
@@ -62,7 +65,8 @@ pub record Demand1 : Type 0 where
   pub checks : (file : List ℕ) (v : Verdict) → (check file ≡ v) ↔ HasVerdict file v
   -- placing and running give what is said above, for every input, and nothing else
   pub places : (file buffer : List ℕ) (p : Placing) → (place file buffer ≡ p) ↔ PlacesAs file buffer p
-  pub runs : (file bytes : List ℕ) (s : ℕ) (w : Machine) (x : Running) → (running file bytes s w ≡ x) ↔ RunsAs file bytes s w x
+  pub runs : (file bytes : List ℕ) (s : ℕ) (w : Machine) (x : Running)
+      → (running file bytes s w ≡ x) ↔ RunsAs file bytes s w x
   -- "a refused hand-in writes to no buffer"
   pub writes-nothing :
       (file buffer : List ℕ) → (place file buffer .answer .number ≡ 0 → ⊥) → place file buffer .buffer ≡ buffer

@@ -1,6 +1,6 @@
--- Demand 2: a file is accepted exactly when it is within the grammar and limits, its kept condition holds at the start, and every
--- region keeps it and every range; the table has the entries of Algorithm 1, no more, no fewer; each machine accepts exactly the
--- traces that its step rules allow. The claim is `Demand2`.
+-- Demand 2: a file is accepted exactly when it is within the grammar and limits, its kept condition holds at the start,
+-- and every region keeps it and every range; the table has the entries of Algorithm 1, no more, no fewer; each machine
+-- accepts exactly the traces that its step rules allow. The claim is `Demand2`.
 use Rattle.machine.specs.Monitor as machine
 use Prim.Native.Nat.{ℕ, _<_}
 use mathlib.Core.Path.{_≡_}
@@ -49,11 +49,14 @@ pub record IsTable (m : machine.Monitor) (rows : List Row) : Type 0 where
 
 pub record FollowsRules (m : Monitor) (w : Machine) : Type 0 where
   pub accepts :
-      (s : ℕ) (fs : List Frame) (c : Config) → (runList m w s fs ≡ machine.accepted c) ↔ Rules (model m) (noticesOf m w) (allIdle s) fs c
+      (s : ℕ) (fs : List Frame) (c : Config) → (runList m w s fs ≡ machine.accepted c) ↔ Rules (model m) (noticesOf m w)
+      (allIdle s) fs c
   pub stops :
-      (s : ℕ) (fs : List Frame) (a k : ℕ) → (runList m w s fs ≡ stopped a k) ↔ Stops (model m) (noticesOf m w) 0 (allIdle s) fs a k
+      (s : ℕ) (fs : List Frame) (a k : ℕ) → (runList m w s fs ≡ stopped a k) ↔ Stops (model m) (noticesOf m w) 0
+      (allIdle s) fs a k
 
--- The table in the file's own words: over each variable's values and over runs of bodies, freed from the numbers of states
+-- The table in the file's own words: over each variable's values and over runs of bodies, freed from the numbers of
+-- states
 
 -- the body of a region leads from values to values; the first are a state and meet kept condition and guard
 pub record Moves (m : Monitor) (r : Region) (as′ bs : List ℤ) : Type 0 where
@@ -75,12 +78,14 @@ module _ (m : Monitor) where
     pub has-guard : w .guard < length (guards m)
     -- "from some state with the region's guard true and the other guard false, the body makes the other guard true"
     pub stands :
-        (as′ bs : List ℤ) × Moves m (region m (w .region)) as′ bs × (truthOf (w .guard) as′ ≡ false) × (truthOf (w .guard) bs ≡ true)
+        (as′ bs : List ℤ) × Moves m (region m (w .region)) as′ bs × (truthOf (w .guard) as′ ≡ false)
+        × (truthOf (w .guard) bs ≡ true)
     -- "unconditional when the body makes it true from every such state"
     pub unconditional : (w .unconditional ≡ true) ↔ Makes (w .region) (w .guard) false true
     -- "a signal when every region having that guard leaves it false from every state where it was true"
     pub signal :
-        (w .broadcast ≡ false) ↔ ((r : ℕ) → r < length (regions m) → guardOf m r ≡ w .guard → Makes r (w .guard) true false)
+        (w .broadcast ≡ false) ↔ ((r : ℕ) → r < length (regions m) → guardOf m r ≡ w .guard
+        → Makes r (w .guard) true false)
 
 pub record Demand2 : Type 0 where
   pub accepts : (file : List ℕ) (m : Monitor) → (check file ≡ accepted m) ↔ Accepted file m

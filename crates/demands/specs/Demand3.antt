@@ -1,7 +1,7 @@
--- Demand 3: for every accepted monitor, every state that meets the kept condition and every list of frames, run from there with
--- all threads idle, both machines agree: the same answer, unless the table's answers 14 at a recheck, and at every point up to which the
--- table's machine accepts the same values and places, and under the table the first waiter on any guard that holds is notified. The
--- claim is `Demand3`; `AgreeOn` says what agreeing is.
+-- Demand 3: for every accepted monitor, every state that meets the kept condition and every list of frames, run from
+-- there with all threads idle, both machines agree: the same answer, unless the table's answers 14 at a recheck, and at
+-- every point up to which the table's machine accepts the same values and places, and under the table the first waiter
+-- on any guard that holds is notified. The claim is `Demand3`; `AgreeOn` says what agreeing is.
 use Prim.Native.Nat.{ℕ}
 use mathlib.Core.Path.{_≡_}
 use mathlib.Core.Bool.{true}
@@ -27,8 +27,8 @@ pub record Demand3 : Type 0 where
       (file : List ℕ) (m : Monitor) → check file ≡ accepted m → (s : ℕ) → kept m s ≡ true → (fs : List Frame)
       → AgreeOn (model m) (runList m plain-machine s) (runList m table-machine s) Recheck fs
 
--- What it says of the calls' results, for every file, trace and state number. A point of a list is a trace itself, so what is said of a
--- trace is said of each of its points.
+-- What it says of the calls' results, for every file, trace and state number. A point of a list is a trace itself, so
+-- what is said of a trace is said of each of its points.
 
 -- "An answer is the number (0 for accepted) and two places"
 unfoldable pub runAnswer : Running → Answer
@@ -39,7 +39,8 @@ runAnswer (not-run a) = a
 pub record SameRunning (file bytes : List ℕ) (s : ℕ) : Type 0 where
   pub same-answer :
       (runAnswer (running file bytes s plain-machine) ≡ runAnswer (running file bytes s table-machine))
-      ⊎ ((fs : List Frame) × (k : ℕ) × (bytes ≡ linesOf fs) × (running file bytes s table-machine ≡ not-run (answer 14 k 0)) × Recheck fs k)
+      ⊎ ((fs : List Frame) × (k : ℕ) × (bytes ≡ linesOf fs)
+      × (running file bytes s table-machine ≡ not-run (answer 14 k 0)) × Recheck fs k)
   -- each variable's value and the place of each of the sixteen threads
   pub same-record :
       (b : Record) → running file bytes s table-machine ≡ ran b

@@ -27,7 +27,8 @@ module _ {A : Type 0} {d : A} {Right : ℕ → A → Type 0} where
     each = λ k h. absurd (omega arith);
   }
 
-  pub fill-more : {xs : List A} {j : ℕ} (v : A) → Filled d Right xs j → j < 16 → Right j v → Filled d Right (set xs j v) (j + 1)
+  pub fill-more : {xs : List A} {j : ℕ} (v : A) → Filled d Right xs j → j < 16 → Right j v
+      → Filled d Right (set xs j v) (j + 1)
   fill-more {xs} {j} v filled h e = record {
     long = length-set xs j v ∙ filled .long;
     most = omega arith;
@@ -36,7 +37,8 @@ module _ {A : Type 0} {d : A} {Right : ℕ → A → Type 0} where
     where
       at : (k : ℕ) → k < j + 1 → (t : Bool) → eqb k j ≡ t → Right k (getD (set xs j v) k d)
       at k l true t = rw (eqb-true k j t, getD-set-same xs j v d (omega (arith, filled .long))) e
-      at k l false t = rw (getD-set-other xs j k v d (eqb-false k j t)) (filled .each k (omega (arith, eqb-false k j t)))
+      at k l false t =
+          rw (getD-set-other xs j k v d (eqb-false k j t)) (filled .each k (omega (arith, eqb-false k j t)))
 
   pub all-filled : {xs : List A} {j : ℕ} → Filled d Right xs j → 16 ≤ j → (k : ℕ) → k < 16 → Right k (getD xs k d)
   all-filled filled h k l = filled .each k (omega arith)
@@ -66,9 +68,14 @@ module _ (xs : List ℕ) (slot j v : ℕ) (long : length xs ≡ 96) (s : slot < 
       (length-lane (set xs (slot * 16 + j) v) j ∙ sym (length-set (lane xs j) slot v ∙ length-lane xs j))
       (λ k h. at k (omega (arith, length-lane (set xs (slot * 16 + j) v) j)) (eqb k slot) refl)
     where
-      at : (k : ℕ) → k < 6 → (t : Bool) → eqb k slot ≡ t → getD (lane (set xs (slot * 16 + j) v) j) k 0 ≡ getD (set (lane xs j) slot v) k 0
+      at : (k : ℕ) → k < 6 → (t : Bool) → eqb k slot ≡ t → getD (lane (set xs (slot * 16 + j) v) j) k 0
+          ≡ getD (set (lane xs j) slot v) k 0
       at k h true t =
-          rw (eqb-true k slot t, lane-at (set xs (slot * 16 + j) v) j slot s, getD-set-same xs (slot * 16 + j) v 0 (omega arith))
+          rw (
+            eqb-true k slot t,
+            lane-at (set xs (slot * 16 + j) v) j slot s,
+            getD-set-same xs (slot * 16 + j) v 0 (omega arith),
+          )
           (sym (getD-set-same (lane xs j) slot v 0 (omega (arith, length-lane xs j))))
       at k h false t =
           lane-at (set xs (slot * 16 + j) v) j k h
@@ -105,7 +112,8 @@ module _ {slot : ℕ} {new : ℕ → ℕ} {from : List ℕ} where
     left = λ k h l. refl;
   }
 
-  pub put-more : {xs : List ℕ} {j : ℕ} → Put slot new from xs j → slot < 6 → j < 16 → Put slot new from (set xs (slot * 16 + j) (new j)) (j + 1)
+  pub put-more : {xs : List ℕ} {j : ℕ} → Put slot new from xs j → slot < 6 → j < 16
+      → Put slot new from (set xs (slot * 16 + j) (new j)) (j + 1)
   put-more {xs} {j} put s l = record {
     long = length-set xs (slot * 16 + j) (new j) ∙ put .long;
     most = omega arith;
@@ -113,7 +121,8 @@ module _ {slot : ℕ} {new : ℕ → ℕ} {from : List ℕ} where
     left = λ k h m. lane-kept xs slot j (new j) (put .long) s l k h (λ e. omega arith) ∙ put .left k h (omega arith);
   }
     where
-      at : (k : ℕ) → k < j + 1 → (t : Bool) → eqb k j ≡ t → lane (set xs (slot * 16 + j) (new j)) k ≡ set (lane from k) slot (new k)
+      at : (k : ℕ) → k < j + 1 → (t : Bool) → eqb k j ≡ t → lane (set xs (slot * 16 + j) (new j)) k
+          ≡ set (lane from k) slot (new k)
       at k h true t =
           rw (eqb-true k j t, lane-stored xs slot j (new j) (put .long) s l)
           (ap (λ ys. set ys slot (new j)) (put .left j l (omega arith)))
@@ -134,7 +143,8 @@ gather-none lanes = record {
 
 module _ {lanes : List Bool} {s j : ℕ} (gathered : Gathered lanes s j) (l : j < 16) where
   -- one lane more, which is a member where it is true
-  gather : (t : ℕ) (b : Bool) → getD lanes j false ≡ b → ((k : ℕ) → member t k ≡ (eqb k j && b) || member s k) → Gathered lanes t (j + 1)
+  gather : (t : ℕ) (b : Bool) → getD lanes j false ≡ b → ((k : ℕ) → member t k ≡ (eqb k j && b) || member s k)
+      → Gathered lanes t (j + 1)
   gather t b e more = record {
     most = omega arith;
     each = λ k. more k ∙ at k (eqb k j) refl;
@@ -149,10 +159,12 @@ module _ {lanes : List Bool} {s j : ℕ} (gathered : Gathered lanes s j) (l : j 
       here false = refl
 
       at : (k : ℕ) (x : Bool) → eqb k j ≡ x → (x && b) || member s k ≡ ltb k (j + 1) && getD lanes k false
-      at k true h = rw (eqb-true k j h, gathered .each j, le-ltb j j (omega arith), lt-ltb j (j + 1) (omega arith), e) (here b)
+      at k true h = rw (eqb-true k j h, gathered .each j, le-ltb j j (omega arith), lt-ltb j (j + 1) (omega arith), e)
+          (here b)
       at k false h = rw (gathered .each k, same k (eqb-false k j h) (ltb k j) refl)
 
-  pub gather-true : {t : ℕ} → getD lanes j false ≡ true → ((k : ℕ) → member t k ≡ (eqb k j && ltb j 16) || member s k) → Gathered lanes t (j + 1)
+  pub gather-true : {t : ℕ} → getD lanes j false ≡ true → ((k : ℕ) → member t k ≡ (eqb k j && ltb j 16) || member s k)
+      → Gathered lanes t (j + 1)
   gather-true {t} e more = gather t true e (λ k. more k ∙ ap (λ x. (eqb k j && x) || member s k) (lt-ltb j 16 l))
 
   pub gather-false : getD lanes j false ≡ false → Gathered lanes s (j + 1)

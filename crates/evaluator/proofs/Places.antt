@@ -84,5 +84,6 @@ kind-here ks at other = elim (decLt at (length ks)) [
 -- what is spelled at a place with something behind it begins at a token
 pub not-past : (ls xs ys : List Lexeme) (l : Lexeme) (at : ℕ) → drop at ls ≡ xs ++ (l ∷ ys) → at < length ls
 not-past ls xs ys l at e =
-    let whole : length ls - at ≡ length xs + suc (length ys) = sym (length-drop at ls) ∙ ap length e ∙ length-append xs (l ∷ ys) in
+    let whole : length ls - at ≡ length xs + suc (length ys) = sym (length-drop at ls) ∙ ap length e
+    ∙ length-append xs (l ∷ ys) in
     omega arith

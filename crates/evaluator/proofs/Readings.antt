@@ -1,4 +1,5 @@
--- Readings of expressions and conditions, one law for each way that the code goes: what is read at a place from what was read at its parts.
+-- Readings of expressions and conditions, one law for each way that the code goes: what is read at a place from what
+-- was read at its parts.
 use Prim.Native.Nat.{ℕ, suc, _+_, _-_, _≤_, _<_}
 use native.Mathlib.Omega.{arith}
 use native.Mathlib.Nat.{add-zero}
@@ -40,7 +41,8 @@ atomKind (literal (negated n)) = kindOf (mark token.minus)
 atomKind (variable x) = nameKind
 
 module _ {ks values : List ℕ} where
-  pub atom-name : {at n slot : ℕ} → getD ks at noKind ≡ nameKind → Next ks at n → slot ≡ getD values at 0 → AtomRead ks values at slot 128 128 n
+  pub atom-name : {at n slot : ℕ} → getD ks at noKind ≡ nameKind → Next ks at n → slot ≡ getD values at 0
+      → AtomRead ks values at slot 128 128 n
   unfolding frontKind spellAtom spellInt kindOf markNumber atomValue
   atom-name {at} {n} {slot} kind next value = record {
     from = next .from;
@@ -50,18 +52,21 @@ module _ {ks values : List ℕ} where
     reads = λ vs as′ vars ls us a codes biased e. go vs as′ vars ls us a codes biased e (front-is codes at kind e);
   }
     where
-      go : (vs : List Var) (as′ : List ℤ) (vars : List ℕ) (ls us : List Lexeme) (a : Atom) → Codes vs ls ks values → Biased vs as′ vars
+      go : (vs : List Var) (as′ : List ℤ) (vars : List ℕ) (ls us : List Lexeme) (a : Atom) → Codes vs ls ks values
+          → Biased vs as′ vars
           → drop at ls ≡ spellAtom a ++ us → frontKind (spellAtom a ++ us) ≡ nameKind
           → (atomValue vs as′ a ≡ pos (operand vars slot 128) -ℤ pos 128) × (drop n ls ≡ us)
       go vs as′ vars ls us (literal (plain k)) codes biased e f = apart numberKind nameKind refl refl f
-      go vs as′ vars ls us (literal (negated k)) codes biased e f = apart (kindOf (mark token.minus)) nameKind refl refl f
+      go vs as′ vars ls us (literal (negated k)) codes biased e f =
+          apart (kindOf (mark token.minus)) nameKind refl refl f
       go vs as′ vars ls us (variable x) codes biased e f = (
         slot-value vs as′ x (biased .each-value)
             ∙ ap (λ (k : ℕ). getD as′ k (pos 0)) (sym (value ∙ name-at codes at x e)) ∙ slot-held biased slot,
         behind codes next e,
       )
 
-  pub atom-minus : {at r n m : ℕ} → getD ks at noKind ≡ kindOf (mark token.minus) → Next ks at r → Next ks r n → m ≤ 65535 → m ≡ getD values r 0
+  pub atom-minus : {at r n m : ℕ} → getD ks at noKind ≡ kindOf (mark token.minus) → Next ks at r → Next ks r n
+      → m ≤ 65535 → m ≡ getD values r 0
       → AtomRead ks values at 6 0 m n
   unfolding frontKind spellAtom spellInt kindOf markNumber atomValue intOf operand
   atom-minus {at} {r} {n} {m} kind one two small value = record {
@@ -77,12 +82,14 @@ module _ {ks values : List ℕ} where
           → (atomValue vs as′ a ≡ pos 0 -ℤ pos m) × (drop n ls ≡ us)
       go vs as′ ls us (literal (plain k)) codes e f = apart numberKind (kindOf (mark token.minus)) refl refl f
       go vs as′ ls us (literal (negated k)) codes e f = (
-        sym (+ℤ-idl (negℤ (pos k))) ∙ ap (λ (j : ℕ). pos 0 -ℤ pos j) (sym (number-at codes r k (behind codes one e)) ∙ sym value),
+        sym (+ℤ-idl (negℤ (pos k))) ∙ ap (λ (j : ℕ). pos 0 -ℤ pos j) (sym (number-at codes r k (behind codes one e))
+            ∙ sym value),
         behind codes two (behind codes one e),
       )
       go vs as′ ls us (variable x) codes e f = apart nameKind (kindOf (mark token.minus)) refl refl f
 
-  pub atom-number : {at n p : ℕ} → (getD ks at noKind ≡ nameKind → ⊥) → (getD ks at noKind ≡ kindOf (mark token.minus) → ⊥) → Next ks at n
+  pub atom-number : {at n p : ℕ} → (getD ks at noKind ≡ nameKind → ⊥)
+      → (getD ks at noKind ≡ kindOf (mark token.minus) → ⊥) → Next ks at n
       → p ≤ 65535 → p ≡ getD values at 0 → AtomRead ks values at 6 p 0 n
   unfolding frontKind spellAtom spellInt kindOf markNumber atomValue intOf operand
   atom-number {at} {n} {p} no-name no-minus next small value = record {
@@ -110,13 +117,15 @@ sign-same added taken e = apart (kindOf (mark plus)) (kindOf (mark token.minus))
 sign-same taken added e = apart (kindOf (mark token.minus)) (kindOf (mark plus)) refl refl e
 sign-same taken taken e = refl
 
-sign-ends : {A : Type 0} (s : Sign) (k : ℕ) → (k ≡ kindOf (mark plus) → ⊥) → (k ≡ kindOf (mark token.minus) → ⊥) → k ≡ kindOf (mark (signMark s)) → A
+sign-ends : {A : Type 0} (s : Sign) (k : ℕ) → (k ≡ kindOf (mark plus) → ⊥) → (k ≡ kindOf (mark token.minus) → ⊥)
+    → k ≡ kindOf (mark (signMark s)) → A
 unfolding markNumber signMark
 sign-ends added k f g e = absurd (f e)
 sign-ends taken k f g e = absurd (g e)
 
 -- a sign is a token
-pub past-sign : {ks : List ℕ} {at r : ℕ} (s : Sign) → Next ks at r → getD ks at noKind ≡ kindOf (mark (signMark s)) → r ≡ suc at
+pub past-sign : {ks : List ℕ} {at r : ℕ} (s : Sign) → Next ks at r → getD ks at noKind ≡ kindOf (mark (signMark s))
+    → r ≡ suc at
 unfolding markNumber signMark kindOf keywordNumber
 past-sign added next e = kind-within (kindOf (mark plus)) next e refl .1
 past-sign taken next e = kind-within (kindOf (mark token.minus)) next e refl .1
@@ -126,26 +135,32 @@ small true x y h k = h
 small false x y h k = k
 
 -- an operand added to a sum in each lane, or taken away
-module _ {ks values lanes : List ℕ} {at slot a b n : ℕ} (atom : AtomRead ks values at slot a b n) (near : Near at lanes) (short : at ≤ 8192)
-    (vars one : List ℕ) (ones : (j : ℕ) → j < 16 → (getD one j 0 ≡ operand (lane vars j) slot a) × (a ≤ 65535 → getD one j 0 ≤ 65535))
+module _ {ks values lanes : List ℕ} {at slot a b n : ℕ} (atom : AtomRead ks values at slot a b n) (near : Near at lanes)
+    (short : at ≤ 8192)
+    (vars one : List ℕ) (ones : (j : ℕ) → j < 16 → (getD one j 0 ≡ operand (lane vars j) slot a)
+    × (a ≤ 65535 → getD one j 0 ≤ 65535))
     (minus : Bool) where
   two : (j : ℕ) → j < 16 → getD (replicate 16 b) j 0 ≡ b
   two j l = getD-replicate {A = ℕ} 16 j b 0 l
 
   up : (j : ℕ) → j < 16 → cond minus (getD (replicate 16 b) j 0) (getD one j 0) ≤ 65535
-  up j l = small minus (getD (replicate 16 b) j 0) (getD one j 0) (omega (arith, two j l, atom .minus-small)) (ones j l .1 (atom .plus-small))
+  up j l = small minus (getD (replicate 16 b) j 0) (getD one j 0) (omega (arith, two j l, atom .minus-small))
+      (ones j l .1 (atom .plus-small))
 
   down : (j : ℕ) → j < 16 → cond minus (getD one j 0) (getD (replicate 16 b) j 0) ≤ 65535
-  down j l = small minus (getD one j 0) (getD (replicate 16 b) j 0) (ones j l .1 (atom .plus-small)) (omega (arith, two j l, atom .minus-small))
+  down j l = small minus (getD one j 0) (getD (replicate 16 b) j 0) (ones j l .1 (atom .plus-small))
+      (omega (arith, two j l, atom .minus-small))
 
   pub term-fits : (j : ℕ) → j < 16
       → (getD lanes j 0 + cond minus (getD (replicate 16 b) j 0) (getD one j 0) < 4294967296)
-      × (cond minus (getD one j 0) (getD (replicate 16 b) j 0) ≤ getD lanes j 0 + cond minus (getD (replicate 16 b) j 0) (getD one j 0))
+      × (cond minus (getD one j 0) (getD (replicate 16 b) j 0) ≤ getD lanes j 0 + cond minus (getD (replicate 16 b) j 0)
+      (getD one j 0))
   term-fits j l = (omega (arith, up j l, near .most j l), omega (arith, down j l, near .least j l))
 
   pub term-reads : {sums : List ℕ}
       → ((j : ℕ) → j < 16
-      → getD sums j 0 ≡ getD lanes j 0 + cond minus (getD (replicate 16 b) j 0) (getD one j 0) - cond minus (getD one j 0) (getD (replicate 16 b) j 0))
+      → getD sums j 0 ≡ getD lanes j 0 + cond minus (getD (replicate 16 b) j 0) (getD one j 0) - cond minus
+      (getD one j 0) (getD (replicate 16 b) j 0))
       → TermRead ks values vars minus lanes at sums n
   term-reads {sums} sum = record {
     from = atom .from;
@@ -157,7 +172,8 @@ module _ {ks values lanes : List ℕ} {at slot a b n : ℕ} (atom : AtomRead ks 
     reads = λ j l vs as′ ls us x codes biased e ends.
         let t = atom .reads vs as′ (lane vars j) ls us x codes biased e in (
           ap (λ z. joined (signOf minus) (worth (getD lanes j 0)) z)
-              (t .0 ∙ ap (λ (k : ℕ). pos k -ℤ pos b) (sym (ones j l .0)) ∙ ap (λ (k : ℕ). pos (getD one j 0) -ℤ pos k) (sym (two j l)))
+              (t .0 ∙ ap (λ (k : ℕ). pos k -ℤ pos b) (sym (ones j l .0)) ∙ ap (λ (k : ℕ). pos (getD one j 0) -ℤ pos k)
+              (sym (two j l)))
               ∙ joined-parts minus (getD lanes j 0) (getD one j 0) (getD (replicate 16 b) j 0) (term-fits j l .1)
               ∙ ap worth (sym (sum j l)),
           t .1,
@@ -168,12 +184,15 @@ module _ {ks values lanes : List ℕ} {at slot a b n : ℕ} (atom : AtomRead ks 
 abbrev RestRead : List ℕ → List ℕ → List ℕ → Bool → List ℕ → ℕ → List ℕ → ℕ → Type 0
 RestRead ks values vars minus lanes at sums n =
     Sums spellExpr EndsExpr
-    (λ j vs as′ x. termsValue vs as′ (joined (signOf minus) (worth (getD lanes j 0)) (atomValue vs as′ (x .first))) (x .more))
+    (λ j vs as′ x. termsValue vs as′ (joined (signOf minus) (worth (getD lanes j 0)) (atomValue vs as′ (x .first)))
+    (x .more))
     ks values vars at sums n
 
-module _ {ks values vars : List ℕ} (minus : Bool) (lanes : List ℕ) {at n : ℕ} {sums : List ℕ} (term : TermRead ks values vars minus lanes at sums n) where
+module _ {ks values vars : List ℕ} (minus : Bool) (lanes : List ℕ) {at n : ℕ} {sums : List ℕ}
+    (term : TermRead ks values vars minus lanes at sums n) where
   -- the first atom of an expression, and what stands behind it
-  first : (j : ℕ) → j < 16 → (vs : List Var) (as′ : List ℤ) (ls us : List Lexeme) (x : Expr) → Codes vs ls ks values → Biased vs as′ (lane vars j)
+  first : (j : ℕ) → j < 16 → (vs : List Var) (as′ : List ℤ) (ls us : List Lexeme) (x : Expr) → Codes vs ls ks values
+      → Biased vs as′ (lane vars j)
       → drop at ls ≡ spellExpr x ++ us
       → (joined (signOf minus) (worth (getD lanes j 0)) (atomValue vs as′ (x .first)) ≡ worth (getD sums j 0))
       × (drop n ls ≡ each spellTerm (x .more) ++ us)
@@ -183,7 +202,8 @@ module _ {ks values vars : List ℕ} (minus : Bool) (lanes : List ℕ) {at n : �
       (e ∙ append-assoc (spellAtom (x .first)) (each spellTerm (x .more)) us) tt
 
   -- no further term
-  rest-end : (getD ks n noKind ≡ kindOf (mark plus) → ⊥) → (getD ks n noKind ≡ kindOf (mark token.minus) → ⊥) → RestRead ks values vars minus lanes at sums n
+  rest-end : (getD ks n noKind ≡ kindOf (mark plus) → ⊥) → (getD ks n noKind ≡ kindOf (mark token.minus) → ⊥)
+      → RestRead ks values vars minus lanes at sums n
   unfolding frontKind each spellTerm kindOf termsValue markNumber keywordNumber
   rest-end no-plus no-minus = record {
     from = term .from;
@@ -201,7 +221,8 @@ module _ {ks values vars : List ℕ} (minus : Bool) (lanes : List ℕ) {at n : �
       go vs as′ ls us (t ∷ ts) z y h e f = sign-ends (t .sign) (getD ks n noKind) no-plus no-minus (sym f)
 
   -- a term more
-  rest-more : (minus′ : Bool) {r n′ : ℕ} {sums′ : List ℕ} → getD ks n noKind ≡ kindOf (mark (signMark (signOf minus′))) → Next ks n r
+  rest-more : (minus′ : Bool) {r n′ : ℕ} {sums′ : List ℕ} → getD ks n noKind ≡ kindOf (mark (signMark (signOf minus′)))
+      → Next ks n r
       → RestRead ks values vars minus′ sums r sums′ n′ → RestRead ks values vars minus lanes at sums′ n′
   unfolding frontKind spellExpr each spellTerm kindOf termsValue EndsExpr markNumber keywordNumber
   rest-more minus′ {r} {n′} {sums′} kind next rest = record {
@@ -213,13 +234,16 @@ module _ {ks values vars : List ℕ} (minus : Bool) (lanes : List ℕ) {at n : �
         go j l vs as′ ls us (x .more) codes biased _ (t .0) (t .1) ends (front-is codes n kind (t .1));
   }
     where
-      go : (j : ℕ) → j < 16 → (vs : List Var) (as′ : List ℤ) (ls us : List Lexeme) (ts : List Term) → Codes vs ls ks values
+      go : (j : ℕ) → j < 16 → (vs : List Var) (as′ : List ℤ) (ls us : List Lexeme) (ts : List Term)
+          → Codes vs ls ks values
           → Biased vs as′ (lane vars j) → (z : ℤ) → z ≡ worth (getD sums j 0)
-          → drop n ls ≡ each spellTerm ts ++ us → EndsExpr us → frontKind (each spellTerm ts ++ us) ≡ kindOf (mark (signMark (signOf minus′)))
+          → drop n ls ≡ each spellTerm ts ++ us → EndsExpr us → frontKind (each spellTerm ts ++ us)
+          ≡ kindOf (mark (signMark (signOf minus′)))
           → (termsValue vs as′ z ts ≡ worth (getD sums′ j 0)) × (drop n′ ls ≡ us)
       go j l vs as′ ls us [] codes biased z h e ends f = sign-ends (signOf minus′) (frontKind us) (ends .0) (ends .1) f
       go j l vs as′ ls us (t ∷ ts) codes biased z h e ends f =
-          let s = rest .reads j l vs as′ ls us (record { first = t .atom; more = ts }) codes biased (behind codes next e) ends in (
+          let s = rest .reads j l vs as′ ls us (record { first = t .atom; more = ts }) codes biased
+          (behind codes next e) ends in (
             ap (λ y. termsValue vs as′ (joined (t .sign) y (atomValue vs as′ (t .atom))) ts) h
                 ∙ ap (λ g. termsValue vs as′ (joined g (worth (getD sums j 0)) (atomValue vs as′ (t .atom))) ts)
                 (sign-same (t .sign) (signOf minus′) f)
@@ -237,7 +261,8 @@ near-more near h = record {
 pub record Open (ks values vars : List ℕ) (at : ℕ) (lanes : List ℕ) (minus : Bool) (place : ℕ) : Type 0 where
   pub to : place ≤ length ks
   pub near : Near place lanes
-  pub whole : (sums : List ℕ) (n : ℕ) → RestRead ks values vars minus lanes place sums n → ExprRead ks values vars at sums n
+  pub whole : (sums : List ℕ) (n : ℕ) → RestRead ks values vars minus lanes place sums n
+      → ExprRead ks values vars at sums n
 
 module _ {ks values vars : List ℕ} {at : ℕ} where
   pub open-first : at ≤ length ks → Open ks values vars at (replicate 16 1073741824) false at
@@ -255,7 +280,8 @@ module _ {ks values vars : List ℕ} {at : ℕ} where
       reads = λ j l vs as′ ls us x codes biased e ends.
           let t = rest .reads j l vs as′ ls us x codes biased e ends in (
             ap (λ z. termsValue vs as′ z (x .more))
-                (sym (ap (λ (k : ℕ). joined (signOf false) (worth k) (atomValue vs as′ (x .first))) (zero j l) ∙ joined-zero (atomValue vs as′ (x .first))))
+                (sym (ap (λ (k : ℕ). joined (signOf false) (worth k) (atomValue vs as′ (x .first))) (zero j l)
+                ∙ joined-zero (atomValue vs as′ (x .first))))
                 ∙ t .0,
             t .1,
           );
@@ -267,7 +293,8 @@ module _ {ks values vars : List ℕ} {at : ℕ} where
 
   module _ {lanes sums : List ℕ} {minus : Bool} {place n : ℕ} (open′ : Open ks values vars at lanes minus place)
       (term : TermRead ks values vars minus lanes place sums n) where
-    pub open-last : (getD ks n noKind ≡ kindOf (mark plus) → ⊥) → (getD ks n noKind ≡ kindOf (mark token.minus) → ⊥) → ExprRead ks values vars at sums n
+    pub open-last : (getD ks n noKind ≡ kindOf (mark plus) → ⊥) → (getD ks n noKind ≡ kindOf (mark token.minus) → ⊥)
+        → ExprRead ks values vars at sums n
     open-last no-plus no-minus = open′ .whole sums n (rest-end minus lanes term no-plus no-minus)
 
     pub open-more : (minus′ : Bool) {r : ℕ} → getD ks n noKind ≡ kindOf (mark (signMark (signOf minus′))) → Next ks n r
@@ -304,7 +331,8 @@ semicolon-ends us = (eqb-false _ _ refl, eqb-false _ _ refl)
 -- a kind that continues a condition
 abbrev continues : ℕ → Bool
 continues k =
-    eqb k (kindOf (mark plus)) || eqb k (kindOf (mark token.minus)) || eqb k (kindOf (mark and-and)) || eqb k (kindOf (mark or-or))
+    eqb k (kindOf (mark plus)) || eqb k (kindOf (mark token.minus)) || eqb k (kindOf (mark and-and)) || eqb k
+    (kindOf (mark or-or))
 
 -- any other ends it
 whole-ends : (us : List Lexeme) (k : ℕ) → frontKind us ≡ k → continues k ≡ false → EndsWhole us
@@ -321,7 +349,8 @@ rparen-ends us = whole-ends (mark rparen ∷ us) (kindOf (mark rparen)) refl ref
 -- Conditions
 
 module _ {ks values vars : List ℕ} where
-  pub compare-reads : {at k r n kind : ℕ} {a b : List ℕ} {holds : List Bool} → ExprRead ks values vars at a k → kind ≡ getD ks k noKind → Next ks k r
+  pub compare-reads : {at k r n kind : ℕ} {a b : List ℕ} {holds : List Bool} → ExprRead ks values vars at a k
+      → kind ≡ getD ks k noKind → Next ks k r
       → ExprRead ks values vars r b n → ((j : ℕ) → j < 16 → getD holds j false ≡ testOf kind (getD a j 0) (getD b j 0))
       → CompareRead ks values vars at holds n
   unfolding spellCompared comparedTruth frontKind kindOf
@@ -330,7 +359,8 @@ module _ {ks values vars : List ℕ} where
     to = two .to;
     reads = λ j l vs as′ ls us x codes biased e ends.
         let at-one = e ∙ append-assoc (spellExpr (x .one)) (mark (comparisonMark (x .by)) ∷ spellExpr (x .two)) us in
-        let p = one .reads j l vs as′ ls (mark (comparisonMark (x .by)) ∷ (spellExpr (x .two) ++ us)) (x .one) codes biased at-one
+        let p = one .reads j l vs as′ ls (mark (comparisonMark (x .by)) ∷ (spellExpr (x .two) ++ us)) (x .one) codes
+        biased at-one
         (comparison-ends (x .by) (spellExpr (x .two) ++ us)) in
         let q = two .reads j l vs as′ ls us (x .two) codes biased (behind codes next (p .1)) ends in (
           tests j l ∙ ap (λ (m : ℕ). testOf m (getD a j 0) (getD b j 0)) (is ∙ sym (front-is codes k refl (p .1)))
@@ -367,13 +397,15 @@ simple-front (constant false) us = refl
 simple-front (compare e o f) us =
     compare-front (e .first) (each spellTerm (e .more)) (mark (comparisonMark o) ∷ spellExpr f) us
 
-not-atom : {A : Type 0} (a : Atom) (k : ℕ) → eqb numberKind k ≡ false → eqb (kindOf (mark token.minus)) k ≡ false → eqb nameKind k ≡ false → atomKind a ≡ k → A
+not-atom : {A : Type 0} (a : Atom) (k : ℕ) → eqb numberKind k ≡ false → eqb (kindOf (mark token.minus)) k ≡ false
+    → eqb nameKind k ≡ false → atomKind a ≡ k → A
 unfolding atomKind
 not-atom (literal (plain n)) k d e f h = apart numberKind k d refl h
 not-atom (literal (negated n)) k d e f h = apart (kindOf (mark token.minus)) k e refl h
 not-atom (variable x) k d e f h = apart nameKind k f refl h
 
-not-constant : {A : Type 0} (b : Bool) (k : ℕ) → eqb (kindOf (key k-true)) k ≡ false → eqb (kindOf (key k-false)) k ≡ false → constantKind b ≡ k → A
+not-constant : {A : Type 0} (b : Bool) (k : ℕ) → eqb (kindOf (key k-true)) k ≡ false → eqb (kindOf (key k-false)) k
+    ≡ false → constantKind b ≡ k → A
 unfolding constantKind
 not-constant true k d e h = apart (kindOf (key k-true)) k d refl h
 not-constant false k d e h = apart (kindOf (key k-false)) k e refl h
@@ -385,7 +417,8 @@ constant-same true false e = apart (kindOf (key k-true)) (kindOf (key k-false)) 
 constant-same false true e = apart (kindOf (key k-false)) (kindOf (key k-true)) refl refl e
 constant-same false false e = refl
 
-constant-apart : {A : Type 0} (b : Bool) (k : ℕ) → eqb k (kindOf (key k-true)) ≡ false → eqb k (kindOf (key k-false)) ≡ false → k ≡ constantKind b → A
+constant-apart : {A : Type 0} (b : Bool) (k : ℕ) → eqb k (kindOf (key k-true)) ≡ false → eqb k (kindOf (key k-false))
+    ≡ false → k ≡ constantKind b → A
 unfolding constantKind
 constant-apart true k d e h = apart k (kindOf (key k-true)) d refl h
 constant-apart false k d e h = apart k (kindOf (key k-false)) e refl h
@@ -401,36 +434,45 @@ constant-spelled true us = (key k-true, refl)
 constant-spelled false us = (key k-false, refl)
 
 module _ {ks values vars : List ℕ} where
-  pub simple-not : {at r n : ℕ} {holds turned : List Bool} → getD ks at noKind ≡ kindOf (mark bang) → Next ks at r → SimpleRead ks values vars r holds n
+  pub simple-not : {at r n : ℕ} {holds turned : List Bool} → getD ks at noKind ≡ kindOf (mark bang) → Next ks at r
+      → SimpleRead ks values vars r holds n
       → ((j : ℕ) → j < 16 → getD turned j false ≡ not (getD holds j false)) → SimpleRead ks values vars at turned n
   unfolding spellSimple simpleTruth simpleKind kindOf markNumber keywordNumber
   simple-not {at} {r} {n} {holds} {turned} kind next simple turns = record {
     from = omega (arith, next .from, simple .from);
     to = simple .to;
-    reads = λ j l vs as′ ls us x codes biased e ends. go j l vs as′ ls us x codes biased e ends (sym (simple-front x us) ∙ front-is codes at kind e);
+    reads = λ j l vs as′ ls us x codes biased e ends. go j l vs as′ ls us x codes biased e ends
+        (sym (simple-front x us) ∙ front-is codes at kind e);
   }
     where
-      go : (j : ℕ) → j < 16 → (vs : List Var) (as′ : List ℤ) (ls us : List Lexeme) (x : Simple) → Codes vs ls ks values → Biased vs as′ (lane vars j)
+      go : (j : ℕ) → j < 16 → (vs : List Var) (as′ : List ℤ) (ls us : List Lexeme) (x : Simple) → Codes vs ls ks values
+          → Biased vs as′ (lane vars j)
           → drop at ls ≡ spellSimple x ++ us → EndsExpr us → simpleKind x ≡ kindOf (mark bang)
           → (getD turned j false ≡ simpleTruth x vs as′) × (drop n ls ≡ us)
       go j l vs as′ ls us (negation s) codes biased e ends f =
           let t = simple .reads j l vs as′ ls us s codes biased (behind codes next e) ends in
           (turns j l ∙ ap not (t .0), t .1)
-      go j l vs as′ ls us (bracketed c) codes biased e ends f = apart (kindOf (mark lparen)) (kindOf (mark bang)) refl refl f
+      go j l vs as′ ls us (bracketed c) codes biased e ends f =
+          apart (kindOf (mark lparen)) (kindOf (mark bang)) refl refl f
       go j l vs as′ ls us (constant b) codes biased e ends f = not-constant b (kindOf (mark bang)) refl refl f
-      go j l vs as′ ls us (compare a o b) codes biased e ends f = not-atom (a .first) (kindOf (mark bang)) refl refl refl f
+      go j l vs as′ ls us (compare a o b) codes biased e ends f =
+          not-atom (a .first) (kindOf (mark bang)) refl refl refl f
 
-  pub simple-bracketed : {at r k n : ℕ} {holds : List Bool} → getD ks at noKind ≡ kindOf (mark lparen) → Next ks at r → CondRead ks values vars r holds k → Next ks k n
+  pub simple-bracketed : {at r k n : ℕ} {holds : List Bool} → getD ks at noKind ≡ kindOf (mark lparen) → Next ks at r
+      → CondRead ks values vars r holds k → Next ks k n
       → SimpleRead ks values vars at holds n
   unfolding spellSimple simpleTruth simpleKind kindOf markNumber keywordNumber
   simple-bracketed {at} {r} {k} {n} {holds} kind next whole last = record {
     from = omega (arith, next .from, whole .from, last .from);
     to = last .to;
-    reads = λ j l vs as′ ls us x codes biased e ends. go j l vs as′ ls us x codes biased e (sym (simple-front x us) ∙ front-is codes at kind e);
+    reads = λ j l vs as′ ls us x codes biased e ends. go j l vs as′ ls us x codes biased e
+        (sym (simple-front x us) ∙ front-is codes at kind e);
   }
     where
-      go : (j : ℕ) → j < 16 → (vs : List Var) (as′ : List ℤ) (ls us : List Lexeme) (x : Simple) → Codes vs ls ks values → Biased vs as′ (lane vars j)
-          → drop at ls ≡ spellSimple x ++ us → simpleKind x ≡ kindOf (mark lparen) → (getD holds j false ≡ simpleTruth x vs as′) × (drop n ls ≡ us)
+      go : (j : ℕ) → j < 16 → (vs : List Var) (as′ : List ℤ) (ls us : List Lexeme) (x : Simple) → Codes vs ls ks values
+          → Biased vs as′ (lane vars j)
+          → drop at ls ≡ spellSimple x ++ us → simpleKind x ≡ kindOf (mark lparen)
+          → (getD holds j false ≡ simpleTruth x vs as′) × (drop n ls ≡ us)
       go j l vs as′ ls us (negation s) codes biased e f = apart (kindOf (mark bang)) (kindOf (mark lparen)) refl refl f
       go j l vs as′ ls us (bracketed c) codes biased e f =
           let t = whole .reads j l vs as′ ls (mark rparen ∷ us) c codes biased
@@ -439,7 +481,8 @@ module _ {ks values vars : List ℕ} where
       go j l vs as′ ls us (constant b) codes biased e f = not-constant b (kindOf (mark lparen)) refl refl f
       go j l vs as′ ls us (compare a o b) codes biased e f = not-atom (a .first) (kindOf (mark lparen)) refl refl refl f
 
-  pub simple-constant : (h : Bool) {at n : ℕ} → getD ks at noKind ≡ constantKind h → Next ks at n → SimpleRead ks values vars at (replicate 16 h) n
+  pub simple-constant : (h : Bool) {at n : ℕ} → getD ks at noKind ≡ constantKind h → Next ks at n
+      → SimpleRead ks values vars at (replicate 16 h) n
   unfolding spellSimple simpleTruth simpleKind kindOf markNumber keywordNumber
   simple-constant h {at} {n} kind next = record {
     from = next .from;
@@ -450,23 +493,28 @@ module _ {ks values vars : List ℕ} where
   }
     where
       go : (vs : List Var) (as′ : List ℤ) (ls us : List Lexeme) (x : Simple) → Codes vs ls ks values
-          → drop at ls ≡ spellSimple x ++ us → simpleKind x ≡ constantKind h → (h ≡ simpleTruth x vs as′) × (drop n ls ≡ us)
+          → drop at ls ≡ spellSimple x ++ us → simpleKind x ≡ constantKind h
+          → (h ≡ simpleTruth x vs as′) × (drop n ls ≡ us)
       go vs as′ ls us (negation s) codes e f = constant-apart h (kindOf (mark bang)) refl refl f
       go vs as′ ls us (bracketed c) codes e f = constant-apart h (kindOf (mark lparen)) refl refl f
       go vs as′ ls us (constant b) codes e f =
           (sym (constant-same b h f), behind codes next (e ∙ constant-spelled b us .1))
       go vs as′ ls us (compare a o b) codes e f = atom-constant (a .first) h f
 
-  pub simple-compare : {at n : ℕ} {holds : List Bool} → (getD ks at noKind ≡ kindOf (mark bang) → ⊥) → (getD ks at noKind ≡ kindOf (mark lparen) → ⊥) → (getD ks at noKind ≡ kindOf (key k-true) → ⊥)
-      → (getD ks at noKind ≡ kindOf (key k-false) → ⊥) → CompareRead ks values vars at holds n → SimpleRead ks values vars at holds n
+  pub simple-compare : {at n : ℕ} {holds : List Bool} → (getD ks at noKind ≡ kindOf (mark bang) → ⊥)
+      → (getD ks at noKind ≡ kindOf (mark lparen) → ⊥) → (getD ks at noKind ≡ kindOf (key k-true) → ⊥)
+      → (getD ks at noKind ≡ kindOf (key k-false) → ⊥) → CompareRead ks values vars at holds n
+      → SimpleRead ks values vars at holds n
   unfolding spellSimple simpleTruth simpleKind constantKind spellCompared comparedTruth
   simple-compare {at} {n} {holds} no-not no-bracket no-true no-false two = record {
     from = two .from;
     to = two .to;
-    reads = λ j l vs as′ ls us x codes biased e ends. go j l vs as′ ls us x codes biased e ends (sym (front-is codes at refl e) ∙ simple-front x us);
+    reads = λ j l vs as′ ls us x codes biased e ends. go j l vs as′ ls us x codes biased e ends
+        (sym (front-is codes at refl e) ∙ simple-front x us);
   }
     where
-      go : (j : ℕ) → j < 16 → (vs : List Var) (as′ : List ℤ) (ls us : List Lexeme) (x : Simple) → Codes vs ls ks values → Biased vs as′ (lane vars j)
+      go : (j : ℕ) → j < 16 → (vs : List Var) (as′ : List ℤ) (ls us : List Lexeme) (x : Simple) → Codes vs ls ks values
+          → Biased vs as′ (lane vars j)
           → drop at ls ≡ spellSimple x ++ us → EndsExpr us → getD ks at noKind ≡ simpleKind x
           → (getD holds j false ≡ simpleTruth x vs as′) × (drop n ls ≡ us)
       go j l vs as′ ls us (negation s) codes biased e ends f = absurd (no-not f)
@@ -478,7 +526,8 @@ module _ {ks values vars : List ℕ} where
 
 -- Conjunctions and conditions are chains: items joined by a mark
 
-record Chain {X Y : Type 0} (spellX : X → List Lexeme) (EndsX : List Lexeme → Type 0) (meansX : X → List Var → List ℤ → Bool)
+record Chain {X Y : Type 0} (spellX : X → List Lexeme) (EndsX : List Lexeme → Type 0) (meansX : X → List Var → List ℤ
+    → Bool)
     (spellY : Y → List Lexeme) (EndsY : List Lexeme → Type 0) (meansY : Y → List Var → List ℤ → Bool)
     (m : Mark) (op : Bool → Bool → Bool) : Type 0 where
   -- one item, or an item, the mark and a chain
@@ -509,11 +558,14 @@ cond-chain = record {
   mark-ends = or-ends;
 }
 
-module _ {X Y : Type 0} {spellX : X → List Lexeme} {EndsX : List Lexeme → Type 0} {meansX : X → List Var → List ℤ → Bool}
-    {spellY : Y → List Lexeme} {EndsY : List Lexeme → Type 0} {meansY : Y → List Var → List ℤ → Bool} {m : Mark} {op : Bool → Bool → Bool}
+module _ {X Y : Type 0} {spellX : X → List Lexeme} {EndsX : List Lexeme → Type 0} {meansX : X → List Var → List ℤ
+    → Bool}
+    {spellY : Y → List Lexeme} {EndsY : List Lexeme → Type 0} {meansY : Y → List Var → List ℤ → Bool} {m : Mark}
+    {op : Bool → Bool → Bool}
     (chain : Chain spellX EndsX meansX spellY EndsY meansY m op) {ks values vars : List ℕ} where
   -- no mark behind the item
-  chain-one : {at n : ℕ} {holds : List Bool} → Truths spellX EndsX meansX ks values vars at holds n → (getD ks n noKind ≡ kindOf (mark m) → ⊥)
+  chain-one : {at n : ℕ} {holds : List Bool} → Truths spellX EndsX meansX ks values vars at holds n
+      → (getD ks n noKind ≡ kindOf (mark m) → ⊥)
       → Truths spellY EndsY meansY ks values vars at holds n
   unfolding frontKind kindOf
   chain-one {at} {n} {holds} item none = record {
@@ -521,7 +573,8 @@ module _ {X Y : Type 0} {spellX : X → List Lexeme} {EndsX : List Lexeme → Ty
     to = item .to;
     reads = λ j l vs as′ ls us y codes biased e ends.
         ⊎-elim
-        (λ t. let one = item .reads j l vs as′ ls us (t .0) codes biased (e ∙ ap (λ z. z ++ us) (t .1)) (chain .item-ends us ends) in
+        (λ t. let one = item .reads j l vs as′ ls us (t .0) codes biased (e ∙ ap (λ z. z ++ us) (t .1))
+        (chain .item-ends us ends) in
         (one .0 ∙ ap (λ f. f vs as′) (sym (t .2)), one .1))
         (λ t. let one = item .reads j l vs as′ ls (mark m ∷ (spellY (t .1) ++ us)) (t .0) codes biased
         (e ∙ ap (λ z. z ++ us) (t .2) ∙ append-assoc (spellX (t .0)) (mark m ∷ spellY (t .1)) us)
@@ -540,35 +593,43 @@ module _ {X Y : Type 0} {spellX : X → List Lexeme} {EndsX : List Lexeme → Ty
     to = more .to;
     reads = λ j l vs as′ ls us y codes biased e ends.
         ⊎-elim
-        (λ t. let one = item .reads j l vs as′ ls us (t .0) codes biased (e ∙ ap (λ z. z ++ us) (t .1)) (chain .item-ends us ends) in
+        (λ t. let one = item .reads j l vs as′ ls us (t .0) codes biased (e ∙ ap (λ z. z ++ us) (t .1))
+        (chain .item-ends us ends) in
         absurd (chain .no-mark us ends (front-is codes n kind (one .1))))
         (λ t. let one = item .reads j l vs as′ ls (mark m ∷ (spellY (t .1) ++ us)) (t .0) codes biased
         (e ∙ ap (λ z. z ++ us) (t .2) ∙ append-assoc (spellX (t .0)) (mark m ∷ spellY (t .1)) us)
         (chain .mark-ends (spellY (t .1) ++ us)) in
         let two = more .reads j l vs as′ ls us (t .1) codes biased (behind codes next (one .1)) ends in (
-          joins j l ∙ ap (λ b. op b (getD holds′ j false)) (one .0) ∙ ap (λ b. op (meansX (t .0) vs as′) b) (two .0) ∙ sym (t .3 vs as′),
+          joins j l ∙ ap (λ b. op b (getD holds′ j false)) (one .0) ∙ ap (λ b. op (meansX (t .0) vs as′) b) (two .0)
+              ∙ sym (t .3 vs as′),
           two .1,
         ))
         (chain .split y);
   }
 
 module _ {ks values vars : List ℕ} where
-  pub conj-one : {at n : ℕ} {holds : List Bool} → SimpleRead ks values vars at holds n → (getD ks n noKind ≡ kindOf (mark and-and) → ⊥) → ConjRead ks values vars at holds n
+  pub conj-one : {at n : ℕ} {holds : List Bool} → SimpleRead ks values vars at holds n
+      → (getD ks n noKind ≡ kindOf (mark and-and) → ⊥) → ConjRead ks values vars at holds n
   unfolding markNumber
   conj-one item none = chain-one conj-chain item none
 
-  pub conj-more : {at n r n′ : ℕ} {holds holds′ both : List Bool} → SimpleRead ks values vars at holds n → getD ks n noKind ≡ kindOf (mark and-and) → Next ks n r
-      → ConjRead ks values vars r holds′ n′ → ((j : ℕ) → j < 16 → getD both j false ≡ getD holds j false && getD holds′ j false)
+  pub conj-more : {at n r n′ : ℕ} {holds holds′ both : List Bool} → SimpleRead ks values vars at holds n
+      → getD ks n noKind ≡ kindOf (mark and-and) → Next ks n r
+      → ConjRead ks values vars r holds′ n′
+      → ((j : ℕ) → j < 16 → getD both j false ≡ getD holds j false && getD holds′ j false)
       → ConjRead ks values vars at both n′
   unfolding markNumber
   conj-more item kind next more joins = chain-more conj-chain item kind next more joins
 
-  pub cond-one : {at n : ℕ} {holds : List Bool} → ConjRead ks values vars at holds n → (getD ks n noKind ≡ kindOf (mark or-or) → ⊥) → CondRead ks values vars at holds n
+  pub cond-one : {at n : ℕ} {holds : List Bool} → ConjRead ks values vars at holds n
+      → (getD ks n noKind ≡ kindOf (mark or-or) → ⊥) → CondRead ks values vars at holds n
   unfolding markNumber
   cond-one item none = chain-one cond-chain item none
 
-  pub cond-more : {at n r n′ : ℕ} {holds holds′ both : List Bool} → ConjRead ks values vars at holds n → getD ks n noKind ≡ kindOf (mark or-or) → Next ks n r
-      → CondRead ks values vars r holds′ n′ → ((j : ℕ) → j < 16 → getD both j false ≡ getD holds j false || getD holds′ j false)
+  pub cond-more : {at n r n′ : ℕ} {holds holds′ both : List Bool} → ConjRead ks values vars at holds n
+      → getD ks n noKind ≡ kindOf (mark or-or) → Next ks n r
+      → CondRead ks values vars r holds′ n′
+      → ((j : ℕ) → j < 16 → getD both j false ≡ getD holds j false || getD holds′ j false)
       → CondRead ks values vars at both n′
   unfolding markNumber
   cond-more item kind next more joins = chain-more cond-chain item kind next more joins

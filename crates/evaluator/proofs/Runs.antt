@@ -1,4 +1,5 @@
--- Runs of blocks and statements in the lanes of a set, one law for each way that the code goes: what is run from a place from what was read and run at its parts.
+-- Runs of blocks and statements in the lanes of a set, one law for each way that the code goes: what is run from a
+-- place from what was read and run at its parts.
 use Prim.Native.Nat.{ℕ, suc, _+_, _-_, _<_}
 use native.Mathlib.Omega.{arith}
 use mathlib.Core.Path.{_≡_, refl, sym, ap, _∙_, subst}
@@ -39,7 +40,8 @@ not-stmt (if-then c b) f g h = absurd (g h)
 not-stmt (if-else c a b) f g h = absurd (g h)
 
 -- a block's first statement, and what stands behind it
-split : (s : Stmt) (b : Block) (us : List Lexeme) → (spellStmt s ++ spellBlock b) ++ us ≡ spellStmt s ++ (spellBlock b ++ us)
+split : (s : Stmt) (b : Block) (us : List Lexeme) → (spellStmt s ++ spellBlock b) ++ us
+    ≡ spellStmt s ++ (spellBlock b ++ us)
 split s b us = append-assoc (spellStmt s) (spellBlock b) us
 
 -- no `else` stands where a block goes on
@@ -47,12 +49,14 @@ no-else : (b : Block) (us : List Lexeme) → frontKind (spellBlock b ++ (mark rb
 unfolding frontKind spellBlock kindOf markNumber keywordNumber
 no-else end us h = apart (kindOf (mark rbrace)) (kindOf (key k-else)) refl refl h
 no-else (then s b) us h =
-    not-stmt s (λ e. apart (kindOf (key k-else)) nameKind refl refl e) (λ e. apart (kindOf (key k-else)) (kindOf (key k-if)) refl refl e)
+    not-stmt s (λ e. apart (kindOf (key k-else)) nameKind refl refl e)
+    (λ e. apart (kindOf (key k-else)) (kindOf (key k-if)) refl refl e)
     (sym h ∙ ap frontKind (split s b (mark rbrace ∷ us)) ∙ stmt-front s (spellBlock b ++ (mark rbrace ∷ us)))
 
 -- Runs one after the other, where a fault stays one
 
-then-runs : (vs : List Var) (ok ok′ : Bool) {both : Bool} (held held′ : List ℕ) (o : Option (List ℤ)) (f : List ℤ → Option (List ℤ))
+then-runs : (vs : List Var) (ok ok′ : Bool) {both : Bool} (held held′ : List ℕ) (o : Option (List ℤ)) (f : List ℤ
+    → Option (List ℤ))
     → RunAs vs ok held o → ((bs : List ℤ) → Biased vs bs held → RunAs vs ok′ held′ (f bs)) → both ≡ ok && ok′
     → RunAs vs both held′ (andThen o f)
 unfolding RunAs andThen
@@ -74,7 +78,8 @@ whole (some bs) = refl
 
 -- a lane goes through the block of its side
 sides : (on h : Bool) (o : Option (List ℤ)) (f : List ℤ → Option (List ℤ)) (as′ : List ℤ)
-    → andThen (cond (on && h) o (some as′)) (λ bs. cond (on && not h) (f bs) (some bs)) ≡ cond on (cond h o (f as′)) (some as′)
+    → andThen (cond (on && h) o (some as′)) (λ bs. cond (on && not h) (f bs) (some bs))
+    ≡ cond on (cond h o (f as′)) (some as′)
 unfolding andThen
 sides true true o f as′ = whole o
 sides true false o f as′ = refl
@@ -88,40 +93,51 @@ side false h o p = refl
 
 module _ {ks values lows highs vars : List ℕ} {on : List Bool} where
   -- no statement
-  pub block-end : (at : ℕ) → length vars ≡ 96 → (getD ks at noKind ≡ nameKind → ⊥) → (getD ks at noKind ≡ kindOf (key k-if) → ⊥)
+  pub block-end : (at : ℕ) → length vars ≡ 96 → (getD ks at noKind ≡ nameKind → ⊥)
+      → (getD ks at noKind ≡ kindOf (key k-if) → ⊥)
       → BlockRun ks values lows highs vars on at (replicate 16 true) vars
   unfolding spellBlock runBlock RunAs
   block-end at long no-name no-if = record {
     long = long;
-    runs = λ j l vs as′ ls us b codes biased ranges e. rw (getD-replicate 16 j true false l) (go (lane vars j) (getD on j false) vs as′ ls us b codes biased e);
+    runs = λ j l vs as′ ls us b codes biased ranges e. rw (getD-replicate 16 j true false l)
+        (go (lane vars j) (getD on j false) vs as′ ls us b codes biased e);
   }
     where
-      go : (held : List ℕ) (h : Bool) (vs : List Var) (as′ : List ℤ) (ls us : List Lexeme) (b : Block) → Codes vs ls ks values → Biased vs as′ held
+      go : (held : List ℕ) (h : Bool) (vs : List Var) (as′ : List ℤ) (ls us : List Lexeme) (b : Block)
+          → Codes vs ls ks values → Biased vs as′ held
           → drop at ls ≡ spellBlock b ++ (mark rbrace ∷ us) → RunAs vs true held (cond h (runBlock b vs as′) (some as′))
       go held true vs as′ ls us end codes biased e = (refl, biased)
       go held false vs as′ ls us end codes biased e = (refl, biased)
       go held h vs as′ ls us (then s b) codes biased e =
           not-stmt s no-name no-if
-          (sym (front-is codes at refl (e ∙ split s b (mark rbrace ∷ us))) ∙ stmt-front s (spellBlock b ++ (mark rbrace ∷ us)))
+          (sym (front-is codes at refl (e ∙ split s b (mark rbrace ∷ us)))
+          ∙ stmt-front s (spellBlock b ++ (mark rbrace ∷ us)))
 
   -- the statements behind the first go on from its values
-  pub block-more : {at n : ℕ} {held held′ : List ℕ} {ok ok′ both : List Bool} → StmtRun ks values lows highs vars on at ok held n
+  pub block-more : {at n : ℕ} {held held′ : List ℕ} {ok ok′ both : List Bool}
+      → StmtRun ks values lows highs vars on at ok held n
       → (getD ks at noKind ≡ kindOf (mark rbrace) → ⊥) → BlockRun ks values lows highs held on n ok′ held′
-      → ((j : ℕ) → j < 16 → getD both j false ≡ getD ok j false && getD ok′ j false) → BlockRun ks values lows highs vars on at both held′
+      → ((j : ℕ) → j < 16 → getD both j false ≡ getD ok j false && getD ok′ j false)
+      → BlockRun ks values lows highs vars on at both held′
   unfolding spellBlock runBlock frontKind kindOf markNumber
   block-more {at} {n} {held} {held′} {ok} {ok′} {both} stmt more rest joins = record {
     long = rest .long;
     runs = λ j l vs as′ ls us b codes biased ranges e. go j l vs as′ ls us b codes biased ranges e;
   }
     where
-      go : (j : ℕ) → j < 16 → (vs : List Var) (as′ : List ℤ) (ls us : List Lexeme) (b : Block) → Codes vs ls ks values → Biased vs as′ (lane vars j)
+      go : (j : ℕ) → j < 16 → (vs : List Var) (as′ : List ℤ) (ls us : List Lexeme) (b : Block) → Codes vs ls ks values
+          → Biased vs as′ (lane vars j)
           → Ranges vs lows highs → drop at ls ≡ spellBlock b ++ (mark rbrace ∷ us)
           → RunIn vs on both held′ j as′ (runBlock b vs as′)
       go j l vs as′ ls us end codes biased ranges e = absurd (more (sym (front-is codes at refl e)))
       go j l vs as′ ls us (then s b) codes biased ranges e =
-          let t = stmt .runs j l vs as′ ls (spellBlock b ++ (mark rbrace ∷ us)) s codes biased ranges (e ∙ split s b (mark rbrace ∷ us)) (no-else b us) in
-          subst (RunAs vs (getD both j false) (lane held′ j)) (steps (getD on j false) (runStmt s vs as′) (λ bs. runBlock b vs bs) as′)
-          (then-runs vs (getD ok j false) (getD ok′ j false) (lane held j) (lane held′ j) (cond (getD on j false) (runStmt s vs as′) (some as′)) (λ bs. cond (getD on j false) (runBlock b vs bs) (some bs)) (t .0)
+          let t = stmt .runs j l vs as′ ls (spellBlock b ++ (mark rbrace ∷ us)) s codes biased ranges
+          (e ∙ split s b (mark rbrace ∷ us)) (no-else b us) in
+          subst (RunAs vs (getD both j false) (lane held′ j))
+          (steps (getD on j false) (runStmt s vs as′) (λ bs. runBlock b vs bs) as′)
+          (then-runs vs (getD ok j false) (getD ok′ j false) (lane held j) (lane held′ j)
+          (cond (getD on j false) (runStmt s vs as′) (some as′))
+          (λ bs. cond (getD on j false) (runBlock b vs bs) (some bs)) (t .0)
           (λ bs held-so. rest .runs j l vs bs ls us b codes held-so ranges (t .1)) (joins j l))
 
 -- Statements
@@ -139,8 +155,10 @@ if-else-runs c a b vs as′ true h = cc
 if-else-runs c a b vs as′ false h = cc
 
 module _ {ks values lows highs vars : List ℕ} {on ok : List Bool} {held : List ℕ} where
-  pub stmt-assign : {at a b k n slot : ℕ} {sums : List ℕ} → (getD ks at noKind ≡ kindOf (key k-if) → ⊥) → at < length ks → Next ks at a → Next ks a b
-      → ExprRead ks values vars b sums k → Next ks k n → slot ≡ getD values at 0 → Stored lows highs vars on slot sums ok held
+  pub stmt-assign : {at a b k n slot : ℕ} {sums : List ℕ} → (getD ks at noKind ≡ kindOf (key k-if) → ⊥) → at < length ks
+      → Next ks at a → Next ks a b
+      → ExprRead ks values vars b sums k → Next ks k n → slot ≡ getD values at 0
+      → Stored lows highs vars on slot sums ok held
       → StmtRun ks values lows highs vars on at ok held n
   unfolding spellStmt runStmt frontKind kindOf keywordNumber
   stmt-assign {at} {a} {b} {k} {n} {slot} {sums} no-if within one two expr last value stored = record {
@@ -150,11 +168,14 @@ module _ {ks values lows highs vars : List ℕ} {on ok : List Bool} {held : List
     runs = λ j l vs as′ ls us s codes biased ranges e no-else. go j l vs as′ ls us s codes biased ranges e;
   }
     where
-      go : (j : ℕ) → j < 16 → (vs : List Var) (as′ : List ℤ) (ls us : List Lexeme) (s : Stmt) → Codes vs ls ks values → Biased vs as′ (lane vars j)
-          → Ranges vs lows highs → drop at ls ≡ spellStmt s ++ us → RunIn vs on ok held j as′ (runStmt s vs as′) × (drop n ls ≡ us)
+      go : (j : ℕ) → j < 16 → (vs : List Var) (as′ : List ℤ) (ls us : List Lexeme) (s : Stmt) → Codes vs ls ks values
+          → Biased vs as′ (lane vars j)
+          → Ranges vs lows highs → drop at ls ≡ spellStmt s ++ us → RunIn vs on ok held j as′ (runStmt s vs as′)
+          × (drop n ls ≡ us)
       go j l vs as′ ls us (assign x e) codes biased ranges h =
           let t = expr .reads j l vs as′ ls (mark semicolon ∷ us) e codes biased
-          (behind codes two (behind codes one h) ∙ append-assoc (spellExpr e) (mark semicolon ∷ []) us) (semicolon-ends us) in (
+          (behind codes two (behind codes one h) ∙ append-assoc (spellExpr e) (mark semicolon ∷ []) us)
+          (semicolon-ends us) in (
             subst (λ z. RunIn vs on ok held j as′ (assigned vs as′ x z)) (sym (t .0))
                 (stored .stores j l vs as′ x biased ranges (value ∙ name-at codes at x h)),
             behind codes last (t .1),
@@ -162,8 +183,10 @@ module _ {ks values lows highs vars : List ℕ} {on ok : List Bool} {held : List
       go j l vs as′ ls us (if-then c d) codes biased ranges h = absurd (no-if (sym (front-is codes at refl h)))
       go j l vs as′ ls us (if-else c d d′) codes biased ranges h = absurd (no-if (sym (front-is codes at refl h)))
 
-  pub stmt-if : {at a b k open′ n : ℕ} {holds : List Bool} → getD ks at noKind ≡ kindOf (key k-if) → at < length ks → Next ks at a → Next ks a b
-      → CondRead ks values vars b holds k → Next ks k open′ → BranchRun ks values lows highs vars on open′ holds ok held n
+  pub stmt-if : {at a b k open′ n : ℕ} {holds : List Bool} → getD ks at noKind ≡ kindOf (key k-if) → at < length ks
+      → Next ks at a → Next ks a b
+      → CondRead ks values vars b holds k → Next ks k open′
+      → BranchRun ks values lows highs vars on open′ holds ok held n
       → StmtRun ks values lows highs vars on at ok held n
   unfolding spellStmt runStmt frontKind kindOf keywordNumber oneBlock
   stmt-if {at} {a} {b} {k} {open′} {n} {holds} kind within one two test last branch = record {
@@ -173,10 +196,12 @@ module _ {ks values lows highs vars : List ℕ} {on ok : List Bool} {held : List
     runs = λ j l vs as′ ls us s codes biased ranges e no-else. go j l vs as′ ls us s codes biased ranges e no-else;
   }
     where
-      go : (j : ℕ) → j < 16 → (vs : List Var) (as′ : List ℤ) (ls us : List Lexeme) (s : Stmt) → Codes vs ls ks values → Biased vs as′ (lane vars j)
+      go : (j : ℕ) → j < 16 → (vs : List Var) (as′ : List ℤ) (ls us : List Lexeme) (s : Stmt) → Codes vs ls ks values
+          → Biased vs as′ (lane vars j)
           → Ranges vs lows highs → drop at ls ≡ spellStmt s ++ us → (frontKind us ≡ kindOf (key k-else) → ⊥)
           → RunIn vs on ok held j as′ (runStmt s vs as′) × (drop n ls ≡ us)
-      go j l vs as′ ls us (assign x e) codes biased ranges d f = apart nameKind (kindOf (key k-if)) refl refl (front-is codes at kind d)
+      go j l vs as′ ls us (assign x e) codes biased ranges d f =
+          apart nameKind (kindOf (key k-if)) refl refl (front-is codes at kind d)
       go j l vs as′ ls us (if-then c b) codes biased ranges d f =
           let t = test .reads j l vs as′ ls (mark rparen ∷ oneBlock b us) c codes biased
           (behind codes two (behind codes one d) ∙ simp append-assoc) (rparen-ends (oneBlock b us)) in
@@ -184,7 +209,8 @@ module _ {ks values lows highs vars : List ℕ} {on ok : List Bool} {held : List
           (subst (RunIn vs on ok held j as′) (if-runs c b vs as′ (getD holds j false) (t .0)) (u .0), u .1)
       go j l vs as′ ls us (if-else c a b) codes biased ranges d f =
           let t = test .reads j l vs as′ ls (mark rparen ∷ oneBlock a (key k-else ∷ oneBlock b us)) c codes biased
-          (behind codes two (behind codes one d) ∙ simp append-assoc) (rparen-ends (oneBlock a (key k-else ∷ oneBlock b us))) in
+          (behind codes two (behind codes one d) ∙ simp append-assoc)
+          (rparen-ends (oneBlock a (key k-else ∷ oneBlock b us))) in
           let u = branch .runs-two j l vs as′ ls us a b codes biased ranges (behind codes last (t .1)) in
           (subst (RunIn vs on ok held j as′) (if-else-runs c a b vs as′ (getD holds j false) (t .0)) (u .0), u .1)
 
@@ -192,7 +218,8 @@ module _ {ks values lows highs vars : List ℕ} {on ok : List Bool} {held : List
 
 -- the place held for a brace that opens a block is that of the one that closes it
 closed : {vs : List Var} {ls : List Lexeme} {ks values : List ℕ} {open′ close : ℕ} (b : Block) (us : List Lexeme)
-    → Codes vs ls ks values → Closes ks values open′ close → drop open′ ls ≡ oneBlock b us → drop close ls ≡ mark rbrace ∷ us
+    → Codes vs ls ks values → Closes ks values open′ close → drop open′ ls ≡ oneBlock b us → drop close ls
+    ≡ mark rbrace ∷ us
 unfolding oneBlock
 closed {vs} {ls} {ks} {values} {open′} {close} b us codes closes e =
     let j = getD values open′ 0 in
@@ -204,57 +231,69 @@ closed {vs} {ls} {ks} {values} {open′} {close} b us codes closes e =
 
 module _ {ks values lows highs vars : List ℕ} (on holds : List Bool) {on₁ : List Bool} {open′ close next first : ℕ}
     (closes : Closes ks values open′ close) (past : Next ks close next) (enter : Next ks open′ first)
-    (taken : (j : ℕ) → j < 16 → getD on₁ j false ≡ getD on j false && getD holds j false) {ok₁ : List Bool} {held₁ : List ℕ}
+    (taken : (j : ℕ) → j < 16 → getD on₁ j false ≡ getD on j false && getD holds j false) {ok₁ : List Bool}
+    {held₁ : List ℕ}
     (run : BlockRun ks values lows highs vars on₁ first ok₁ held₁) where
   -- the block of the lanes in which the condition holds
   one-side : (j : ℕ) → j < 16 → (vs : List Var) (as′ : List ℤ) (ls us : List Lexeme) (b : Block) → Codes vs ls ks values
       → Biased vs as′ (lane vars j) → Ranges vs lows highs → drop open′ ls ≡ oneBlock b us
-      → RunAs vs (getD ok₁ j false) (lane held₁ j) (cond (getD on j false && getD holds j false) (runBlock b vs as′) (some as′))
+      → RunAs vs (getD ok₁ j false) (lane held₁ j) (cond (getD on j false && getD holds j false) (runBlock b vs as′)
+      (some as′))
   unfolding oneBlock
   one-side j l vs as′ ls us b codes biased ranges e =
       subst (λ z. RunAs vs (getD ok₁ j false) (lane held₁ j) (cond z (runBlock b vs as′) (some as′))) (taken j l)
       (run .runs j l vs as′ ls us b codes biased ranges (behind codes enter e))
 
   -- one block
-  pub branch-one : (getD ks next noKind ≡ kindOf (key k-else) → ⊥) → BranchRun ks values lows highs vars on open′ holds ok₁ held₁ next
+  pub branch-one : (getD ks next noKind ≡ kindOf (key k-else) → ⊥)
+      → BranchRun ks values lows highs vars on open′ holds ok₁ held₁ next
   unfolding oneBlock frontKind kindOf keywordNumber
   branch-one no-else = record {
     long = run .long;
     from = omega (arith, closes .from, past .from);
     to = past .to;
     runs-one = λ j l vs as′ ls us b codes biased ranges e f. (
-      subst (RunAs vs (getD ok₁ j false) (lane held₁ j)) (side (getD on j false) (getD holds j false) (runBlock b vs as′) (some as′))
+      subst (RunAs vs (getD ok₁ j false) (lane held₁ j))
+          (side (getD on j false) (getD holds j false) (runBlock b vs as′) (some as′))
           (one-side j l vs as′ ls us b codes biased ranges e),
       behind codes past (closed b us codes closes e),
     );
     runs-two = λ j l vs as′ ls us a b codes biased ranges e.
-        absurd (no-else (sym (front-is codes next refl (behind codes past (closed a (key k-else ∷ oneBlock b us) codes closes e)))));
+        absurd
+        (no-else
+        (sym (front-is codes next refl
+        (behind codes past (closed a (key k-else ∷ oneBlock b us) codes closes e)))));
   }
 
   -- two blocks
-  pub branch-two : {other last final second : ℕ} {on₂ ok₂ both : List Bool} {held₂ : List ℕ} → getD ks next noKind ≡ kindOf (key k-else) → Next ks next other
+  pub branch-two : {other last final second : ℕ} {on₂ ok₂ both : List Bool} {held₂ : List ℕ} → getD ks next noKind
+      ≡ kindOf (key k-else) → Next ks next other
       → Closes ks values other last → Next ks last final → Next ks other second
       → ((j : ℕ) → j < 16 → getD on₂ j false ≡ getD on j false && not (getD holds j false))
       → BlockRun ks values lows highs held₁ on₂ second ok₂ held₂
       → ((j : ℕ) → j < 16 → getD both j false ≡ getD ok₁ j false && getD ok₂ j false)
       → BranchRun ks values lows highs vars on open′ holds both held₂ final
   unfolding oneBlock
-  branch-two {on₂ = on₂} {ok₂ = ok₂} {both = both} {held₂ = held₂} kind step closes′ end′ enter′ left more joins = record {
-    long = more .long;
-    from = omega (arith, closes .from, past .from, step .from, closes′ .from, end′ .from);
-    to = end′ .to;
-    runs-one = λ j l vs as′ ls us b codes biased ranges e f.
-        absurd (f (front-is codes next kind (behind codes past (closed b us codes closes e))));
-    runs-two = λ j l vs as′ ls us a b codes biased ranges e.
-        let second-at = behind codes step (behind codes past (closed a (key k-else ∷ oneBlock b us) codes closes e)) in
-        let h = getD holds j false in (
-          subst (RunAs vs (getD both j false) (lane held₂ j)) (sides (getD on j false) h (runBlock a vs as′) (λ bs. runBlock b vs bs) as′)
-              (then-runs vs (getD ok₁ j false) (getD ok₂ j false) (lane held₁ j) (lane held₂ j) (cond (getD on j false && h) (runBlock a vs as′) (some as′))
-              (λ bs. cond (getD on j false && not h) (runBlock b vs bs) (some bs))
-              (one-side j l vs as′ ls (key k-else ∷ oneBlock b us) a codes biased ranges e)
-              (λ bs held. subst (λ z. RunAs vs (getD ok₂ j false) (lane held₂ j) (cond z (runBlock b vs bs) (some bs))) (left j l)
-              (more .runs j l vs bs ls us b codes held ranges (behind codes enter′ second-at)))
-              (joins j l)),
-          behind codes end′ (closed b us codes closes′ second-at),
-        );
-  }
+  branch-two {on₂ = on₂} {ok₂ = ok₂} {both = both} {held₂ = held₂} kind step closes′ end′ enter′ left more joins =
+      record {
+        long = more .long;
+        from = omega (arith, closes .from, past .from, step .from, closes′ .from, end′ .from);
+        to = end′ .to;
+        runs-one = λ j l vs as′ ls us b codes biased ranges e f.
+            absurd (f (front-is codes next kind (behind codes past (closed b us codes closes e))));
+        runs-two = λ j l vs as′ ls us a b codes biased ranges e.
+            let second-at = behind codes step (behind codes past (closed a (key k-else ∷ oneBlock b us) codes closes e)) in
+            let h = getD holds j false in (
+              subst (RunAs vs (getD both j false) (lane held₂ j))
+                  (sides (getD on j false) h (runBlock a vs as′) (λ bs. runBlock b vs bs) as′)
+                  (then-runs vs (getD ok₁ j false) (getD ok₂ j false) (lane held₁ j) (lane held₂ j)
+                  (cond (getD on j false && h) (runBlock a vs as′) (some as′))
+                  (λ bs. cond (getD on j false && not h) (runBlock b vs bs) (some bs))
+                  (one-side j l vs as′ ls (key k-else ∷ oneBlock b us) a codes biased ranges e)
+                  (λ bs held. subst (λ z. RunAs vs (getD ok₂ j false) (lane held₂ j) (cond z (runBlock b vs bs) (some bs)))
+                  (left j l)
+                  (more .runs j l vs bs ls us b codes held ranges (behind codes enter′ second-at)))
+                  (joins j l)),
+              behind codes end′ (closed b us codes closes′ second-at),
+            );
+      }

@@ -51,7 +51,8 @@ unfolding assignAt
 chosen true v vs a as′ b k o h = refl
 chosen false v vs a as′ b k o h = rw h
 
-assigned-slot : (vs : List Var) (as′ : List ℤ) (x : List ℕ) (b : ℤ) → assigned vs as′ x b ≡ assignAt vs as′ (slotOf vs x) b
+assigned-slot : (vs : List Var) (as′ : List ℤ) (x : List ℕ) (b : ℤ) → assigned vs as′ x b
+    ≡ assignAt vs as′ (slotOf vs x) b
 unfolding assigned slotOf assignAt
 assigned-slot [] as′ x b = refl
 assigned-slot (v ∷ vs) [] x b = refl
@@ -115,7 +116,8 @@ module _ {vs : List Var} {as′ : List ℤ} {vars : List ℕ} (biased : Biased v
   pub slot-held : (k : ℕ) → getD as′ k (pos 0) ≡ pos (operand vars k 128) -ℤ pos 128
   unfolding Offset operand
   slot-held k = elim (decLt k (length vs)) [
-    | yes i ↦ biased .held k i ∙ ap (λ b. pos (cond b (getD vars k 0) 128) -ℤ pos 128) (sym (lt-ltb k 6 (omega (arith, biased .few))))
+    | yes i ↦ biased .held k i ∙ ap (λ b. pos (cond b (getD vars k 0) 128) -ℤ pos 128)
+        (sym (lt-ltb k 6 (omega (arith, biased .few))))
     | no o ↦ List·getD-eq-default as′ (pos 0) (omega (arith, biased .each-value))
         ∙ ap (λ (n : ℕ). pos n -ℤ pos 128) (sym (past (ltb k 6) refl (omega arith)))
   ]
@@ -129,18 +131,22 @@ module _ {vs : List Var} {as′ : List ℤ} {vars : List ℕ} (biased : Biased v
     by-slot : assigned vs as′ x (pos p -ℤ pos m) ≡ assignAt vs as′ k (pos p -ℤ pos m)
     by-slot = assigned-slot vs as′ x (pos p -ℤ pos m) ∙ ap (λ (n : ℕ). assignAt vs as′ n (pos p -ℤ pos m)) (sym slot)
 
-    no-slot : (ok : Bool) (held : List ℕ) → ok ≡ false → length vs ≤ k → RunAs vs ok held (assigned vs as′ x (pos p -ℤ pos m))
+    no-slot : (ok : Bool) (held : List ℕ) → ok ≡ false → length vs ≤ k
+        → RunAs vs ok held (assigned vs as′ x (pos p -ℤ pos m))
     unfolding RunAs
     no-slot ok held f h = rw (by-slot ∙ assign-past vs as′ k (pos p -ℤ pos m) h) f
 
-    out : (v : Var) → getElem? vs k ≡ some v → (t : Bool) → inRange v (pos p -ℤ pos m) ≡ t → t ≡ false → (ok : Bool) (held : List ℕ) → ok ≡ false
+    out : (v : Var) → getElem? vs k ≡ some v → (t : Bool) → inRange v (pos p -ℤ pos m) ≡ t → t ≡ false
+        → (ok : Bool) (held : List ℕ) → ok ≡ false
         → RunAs vs ok held (assigned vs as′ x (pos p -ℤ pos m))
     unfolding RunAs
     out v e t h f ok held g = rw (by-slot ∙ assign-out vs as′ k (pos p -ℤ pos m) v e (h ∙ f)) g
 
     in-parts : (v : Var) → getElem? vs k ≡ some v
-        → inRange v (pos p -ℤ pos m) ≡ (not (ltb (p + 128) (getD lows k 0 + m)) && not (ltb (getD highs k 0 + m) (p + 128)))
-    in-parts v e = range-parts v (getD lows k 0) (getD highs k 0) p m (ranges .lows-held k v e) (ranges .highs-held k v e)
+        → inRange v (pos p -ℤ pos m)
+        ≡ (not (ltb (p + 128) (getD lows k 0 + m)) && not (ltb (getD highs k 0 + m) (p + 128)))
+    in-parts v e = range-parts v (getD lows k 0) (getD highs k 0) p m (ranges .lows-held k v e)
+        (ranges .highs-held k v e)
 
     too-low : p + 128 < getD lows k 0 + m → (ok : Bool) (held : List ℕ) → ok ≡ false
         → RunAs vs ok held (assigned vs as′ x (pos p -ℤ pos m))
@@ -165,14 +171,18 @@ module _ {vs : List Var} {as′ : List ℤ} {vars : List ℕ} (biased : Biased v
       new-held =
           getD-set-same as′ k (pos p -ℤ pos m) (pos 0) (omega (arith, biased .each-value))
           ∙ same-difference p m (p + 128 - m) 128 (omega arith)
-          ∙ ap (λ (n : ℕ). pos n -ℤ pos 128) (sym (getD-set-same vars k (p + 128 - m) 0 (omega (arith, biased .slots, biased .few))))
+          ∙ ap (λ (n : ℕ). pos n -ℤ pos 128)
+          (sym (getD-set-same vars k (p + 128 - m) 0 (omega (arith, biased .slots, biased .few))))
 
       held-after : (j : ℕ) → j < length vs → (t : Bool) → eqb j k ≡ t
           → Offset (getD (set as′ k (pos p -ℤ pos m)) j (pos 0)) (getD (set vars k (p + 128 - m)) j 0)
       unfolding Offset
       held-after j h true e = rw (eqb-true j k e) new-held
       held-after j h false e =
-          rw (getD-set-other as′ k j (pos p -ℤ pos m) (pos 0) (eqb-false j k e), getD-set-other vars k j (p + 128 - m) 0 (eqb-false j k e))
+          rw (
+            getD-set-other as′ k j (pos p -ℤ pos m) (pos 0) (eqb-false j k e),
+            getD-set-other vars k j (p + 128 - m) 0 (eqb-false j k e),
+          )
           (biased .held j h)
 
       small-after : (j : ℕ) (t : Bool) → eqb j k ≡ t → getD (set vars k (p + 128 - m)) j 0 ≤ 255
@@ -198,7 +208,10 @@ module _ {vs : List Var} {as′ : List ℤ} {vars : List ℕ} (biased : Biased v
       | yes i ↦ let t = var-at vs k i in
           rw (by-slot
           ∙ assign-in vs as′ k (pos p -ℤ pos m) (t .0) (biased .each-value) (t .1)
-          (in-parts (t .0) (t .1) ∙ rw (le-ltb (p + 128) (getD lows k 0 + m) low, le-ltb (getD highs k 0 + m) (p + 128) high)))
+          (in-parts (t .0) (t .1) ∙ rw (
+            le-ltb (p + 128) (getD lows k 0 + m) low,
+            le-ltb (getD highs k 0 + m) (p + 128) high,
+          )))
           (refl, stored i high (omega arith))
       | no o ↦ absurd (omega (arith, ranges .unused-range k s (omega arith)))
     ]
@@ -206,7 +219,8 @@ module _ {vs : List Var} {as′ : List ℤ} {vars : List ℕ} (biased : Biased v
 -- An assignment of sums, in lanes that are on or off
 
 module _ {lows highs : List ℕ} {slot : ℕ} where
-  stored-in : slot < 6 → {vs : List Var} {as′ : List ℤ} {vars : List ℕ} (p : ℕ) → Biased vs as′ vars → Ranges vs lows highs
+  stored-in : slot < 6 → {vs : List Var} {as′ : List ℤ} {vars : List ℕ} (p : ℕ) → Biased vs as′ vars
+      → Ranges vs lows highs
       → (x : List ℕ) → slot ≡ slotOf vs x → (on low high : Bool)
       → ltb p (getD lows slot 0 + 1073741696) ≡ low → ltb (getD highs slot 0 + 1073741696) p ≡ high
       → RunAs vs (not (on && (low || high))) (set vars slot (cond on (p + 128) (getD vars slot 0) % 65536))
@@ -216,9 +230,11 @@ module _ {lows highs : List ℕ} {slot : ℕ} where
       let e : getD vars slot 0 % 65536 ≡ getD vars slot 0 = omega (arith, biased .small slot) in
       (refl, rw (e, set-getD vars slot 0) biased)
   stored-in s p biased ranges x at true true high l h =
-      too-low biased ranges slot p 1073741824 x at (omega (arith, ltb-true p (getD lows slot 0 + 1073741696) l)) false _ refl
+      too-low biased ranges slot p 1073741824 x at (omega (arith, ltb-true p (getD lows slot 0 + 1073741696) l)) false _
+      refl
   stored-in s p biased ranges x at true false true l h =
-      too-high biased ranges slot p 1073741824 x at (omega (arith, ltb-true (getD highs slot 0 + 1073741696) p h)) false _ refl
+      too-high biased ranges slot p 1073741824 x at (omega (arith, ltb-true (getD highs slot 0 + 1073741696) p h)) false
+      _ refl
   stored-in s p biased ranges x at true false false l h =
       let low = ltb-false p (getD lows slot 0 + 1073741696) l in
       let high = ltb-false (getD highs slot 0 + 1073741696) p h in
@@ -228,13 +244,17 @@ module _ {lows highs : List ℕ} {slot : ℕ} where
   module _ {vars sums : List ℕ} {on ok : List Bool} where
     pub in-slot : {held : List ℕ} → slot < 6 → length held ≡ 96
         → ((j : ℕ) → j < 16 → getD ok j false ≡ not (getD on j false
-        && (ltb (getD sums j 0) (getD lows slot 0 + 1073741696) || ltb (getD highs slot 0 + 1073741696) (getD sums j 0))))
+        && (ltb (getD sums j 0) (getD lows slot 0 + 1073741696) || ltb (getD highs slot 0 + 1073741696)
+        (getD sums j 0))))
         → ((j : ℕ) → j < 16
-        → lane held j ≡ set (lane vars j) slot (cond (getD on j false) (getD sums j 0 + 128) (getD (lane vars j) slot 0) % 65536))
+        → lane held j
+        ≡ set (lane vars j) slot (cond (getD on j false) (getD sums j 0 + 128) (getD (lane vars j) slot 0) % 65536))
         → Stored lows highs vars on slot sums ok held
     in-slot s long right new = record {
       long = long;
-      stores = λ j l vs as′ x biased ranges at. rw (right j l, new j l) (stored-in s (getD sums j 0) biased ranges x at (getD on j false) _ _ refl refl);
+      stores =
+          λ j l vs as′ x biased ranges at. rw (right j l, new j l)
+          (stored-in s (getD sums j 0) biased ranges x at (getD on j false) _ _ refl refl);
     }
 
     pub past-slots : 6 ≤ slot → length vars ≡ 96 → ((j : ℕ) → j < 16 → getD ok j false ≡ not (getD on j false))
@@ -242,10 +262,13 @@ module _ {lows highs : List ℕ} {slot : ℕ} where
     unfolding RunAs
     past-slots s long right = record {
       long = long;
-      stores = λ j l vs as′ x biased ranges at. rw (right j l) (go (getD sums j 0) biased ranges x at (getD on j false));
+      stores =
+          λ j l vs as′ x biased ranges at. rw (right j l) (go (getD sums j 0) biased ranges x at (getD on j false));
     }
       where
-        go : {vs : List Var} {as′ : List ℤ} {held : List ℕ} (p : ℕ) → Biased vs as′ held → Ranges vs lows highs → (x : List ℕ) → slot ≡ slotOf vs x
+        go : {vs : List Var} {as′ : List ℤ} {held : List ℕ} (p : ℕ) → Biased vs as′ held → Ranges vs lows highs
+            → (x : List ℕ) → slot ≡ slotOf vs x
             → (b : Bool) → RunAs vs (not b) held (cond b (assigned vs as′ x (worth p)) (some as′))
-        go {held = held} p biased ranges x at true = no-slot biased ranges slot p 1073741824 x at false held refl (omega (arith, biased .few))
+        go {held = held} p biased ranges x at true = no-slot biased ranges slot p 1073741824 x at false held refl
+            (omega (arith, biased .few))
         go p biased ranges x at false = (refl, biased)

@@ -1,4 +1,5 @@
--- What the evaluator's inner functions promise: bounds on places and sums for any tokens, and in each lane, for tokens that a tree spells, its meaning and the place behind it.
+-- What the evaluator's inner functions promise: bounds on places and sums for any tokens, and in each lane, for tokens
+-- that a tree spells, its meaning and the place behind it.
 use Prim.Native.Nat.{ℕ, suc, _+_, _*_, _<_, _≤_}
 use mathlib.Core.Path.{_≡_}
 use mathlib.Core.Bool.{Bool, true, false, not, _||_, cond}
@@ -41,7 +42,8 @@ unfoldable pub frontKind : List Lexeme → ℕ
 frontKind [] = noKind
 frontKind (l ∷ ls) = kindOf l
 
--- what may stand behind an atom, an expression or simple condition, a conjunction, a condition: nothing that would continue it
+-- what may stand behind an atom, an expression or simple condition, a conjunction, a condition: nothing that would
+-- continue it
 unfoldable pub EndsAtom : List Lexeme → Type 0
 EndsAtom us = Unit {0}
 
@@ -65,7 +67,8 @@ pub record AtomRead (ks values : List ℕ) (at slot p m n : ℕ) : Type 0 where
   pub plus-small : p ≤ 65535
   pub minus-small : m ≤ 65535
   pub reads :
-      (vs : List Var) (as′ : List ℤ) (vars : List ℕ) (ls us : List Lexeme) (a : Atom) → Codes vs ls ks values → Biased vs as′ vars
+      (vs : List Var) (as′ : List ℤ) (vars : List ℕ) (ls us : List Lexeme) (a : Atom) → Codes vs ls ks values
+      → Biased vs as′ vars
       → drop at ls ≡ spellAtom a ++ us → (atomValue vs as′ a ≡ pos (operand vars slot p) -ℤ pos m) × (drop n ls ≡ us)
 
 -- the value that a sum holds, 2 ^ 30 being its zero
@@ -78,13 +81,15 @@ pub record Near (tokens : ℕ) (lanes : List ℕ) : Type 0 where
   pub least : (j : ℕ) → j < 16 → 1073741824 ≤ getD lanes j 0 + 65536 * tokens
 
 -- a sum in each lane, read from a place: it holds the value of the tree that is spelled there
-pub record Sums {X : Type 0} (spell : X → List Lexeme) (Ends : List Lexeme → Type 0) (value : ℕ → List Var → List ℤ → X → ℤ)
+pub record Sums {X : Type 0} (spell : X → List Lexeme) (Ends : List Lexeme → Type 0) (value : ℕ → List Var → List ℤ → X
+    → ℤ)
     (ks values vars : List ℕ) (at : ℕ) (lanes : List ℕ) (n : ℕ) : Type 0 where
   pub from : at ≤ n
   pub to : n ≤ length ks
   pub near : Near (n + 1) lanes
   pub reads :
-      (j : ℕ) → j < 16 → (vs : List Var) (as′ : List ℤ) (ls us : List Lexeme) (x : X) → Codes vs ls ks values → Biased vs as′ (lane vars j)
+      (j : ℕ) → j < 16 → (vs : List Var) (as′ : List ℤ) (ls us : List Lexeme) (x : X) → Codes vs ls ks values
+      → Biased vs as′ (lane vars j)
       → drop at ls ≡ spell x ++ us → Ends us → (value j vs as′ x ≡ worth (getD lanes j 0)) × (drop n ls ≡ us)
 
 unfoldable pub signOf : Bool → Sign
@@ -94,7 +99,8 @@ signOf false = added
 -- an atom behind sums and a sign
 abbrev pub TermRead : List ℕ → List ℕ → List ℕ → Bool → List ℕ → ℕ → List ℕ → ℕ → Type 0
 TermRead ks values vars minus lanes at sums n =
-    Sums spellAtom EndsAtom (λ j vs as′ a. joined (signOf minus) (worth (getD lanes j 0)) (atomValue vs as′ a)) ks values vars at sums n
+    Sums spellAtom EndsAtom (λ j vs as′ a. joined (signOf minus) (worth (getD lanes j 0)) (atomValue vs as′ a)) ks
+    values vars at sums n
 
 abbrev pub ExprRead : List ℕ → List ℕ → List ℕ → ℕ → List ℕ → ℕ → Type 0
 ExprRead ks values vars at sums n = Sums spellExpr EndsExpr (λ j. exprValue) ks values vars at sums n
@@ -109,12 +115,14 @@ testOf k a b =
     (cond (eqb k (kindOf (mark differs))) (ltb a b || ltb b a) (not (ltb a b || ltb b a))))))
 
 -- a truth in each lane, read from a place
-pub record Truths {X : Type 0} (spell : X → List Lexeme) (Ends : List Lexeme → Type 0) (means : X → List Var → List ℤ → Bool)
+pub record Truths {X : Type 0} (spell : X → List Lexeme) (Ends : List Lexeme → Type 0) (means : X → List Var → List ℤ
+    → Bool)
     (ks values vars : List ℕ) (at : ℕ) (holds : List Bool) (n : ℕ) : Type 0 where
   pub from : at ≤ n
   pub to : n ≤ length ks
   pub reads :
-      (j : ℕ) → j < 16 → (vs : List Var) (as′ : List ℤ) (ls us : List Lexeme) (x : X) → Codes vs ls ks values → Biased vs as′ (lane vars j)
+      (j : ℕ) → j < 16 → (vs : List Var) (as′ : List ℤ) (ls us : List Lexeme) (x : X) → Codes vs ls ks values
+      → Biased vs as′ (lane vars j)
       → drop at ls ≡ spell x ++ us → Ends us → (getD holds j false ≡ means x vs as′) × (drop n ls ≡ us)
 
 pub record Compared : Type 0 where
@@ -145,27 +153,33 @@ abbrev pub RunIn : List Var → List Bool → List Bool → List ℕ → ℕ →
 RunIn vs on ok held j as′ o = RunAs vs (getD ok j false) (lane held j) (cond (getD on j false) o (some as′))
 
 -- an assignment of sums to the variable of a slot
-pub record Stored (lows highs vars : List ℕ) (on : List Bool) (slot : ℕ) (sums : List ℕ) (ok : List Bool) (held : List ℕ) : Type 0 where
+pub record Stored (lows highs vars : List ℕ) (on : List Bool) (slot : ℕ) (sums : List ℕ) (ok : List Bool)
+    (held : List ℕ) : Type 0 where
   pub long : length held ≡ 96
   pub stores :
-      (j : ℕ) → j < 16 → (vs : List Var) (as′ : List ℤ) (x : List ℕ) → Biased vs as′ (lane vars j) → Ranges vs lows highs → slot ≡ slotOf vs x
+      (j : ℕ) → j < 16 → (vs : List Var) (as′ : List ℤ) (x : List ℕ) → Biased vs as′ (lane vars j)
+      → Ranges vs lows highs → slot ≡ slotOf vs x
       → RunIn vs on ok held j as′ (assigned vs as′ x (worth (getD sums j 0)))
 
 -- a block, run from a place
-pub record BlockRun (ks values lows highs vars : List ℕ) (on : List Bool) (at : ℕ) (ok : List Bool) (held : List ℕ) : Type 0 where
+pub record BlockRun (ks values lows highs vars : List ℕ) (on : List Bool) (at : ℕ) (ok : List Bool) (held : List ℕ) :
+    Type 0 where
   pub long : length held ≡ 96
   pub runs :
-      (j : ℕ) → j < 16 → (vs : List Var) (as′ : List ℤ) (ls us : List Lexeme) (b : Block) → Codes vs ls ks values → Biased vs as′ (lane vars j)
+      (j : ℕ) → j < 16 → (vs : List Var) (as′ : List ℤ) (ls us : List Lexeme) (b : Block) → Codes vs ls ks values
+      → Biased vs as′ (lane vars j)
       → Ranges vs lows highs → drop at ls ≡ spellBlock b ++ (mark rbrace ∷ us)
       → RunIn vs on ok held j as′ (runBlock b vs as′)
 
 -- a statement, run from a place
-pub record StmtRun (ks values lows highs vars : List ℕ) (on : List Bool) (at : ℕ) (ok : List Bool) (held : List ℕ) (n : ℕ) : Type 0 where
+pub record StmtRun (ks values lows highs vars : List ℕ) (on : List Bool) (at : ℕ) (ok : List Bool) (held : List ℕ)
+    (n : ℕ) : Type 0 where
   pub long : length held ≡ 96
   pub from : at < n
   pub to : n ≤ length ks
   pub runs :
-      (j : ℕ) → j < 16 → (vs : List Var) (as′ : List ℤ) (ls us : List Lexeme) (s : Stmt) → Codes vs ls ks values → Biased vs as′ (lane vars j)
+      (j : ℕ) → j < 16 → (vs : List Var) (as′ : List ℤ) (ls us : List Lexeme) (s : Stmt) → Codes vs ls ks values
+      → Biased vs as′ (lane vars j)
       → Ranges vs lows highs → drop at ls ≡ spellStmt s ++ us → (frontKind us ≡ kindOf (key k-else) → ⊥)
       → RunIn vs on ok held j as′ (runStmt s vs as′) × (drop n ls ≡ us)
 
@@ -173,17 +187,21 @@ pub record StmtRun (ks values lows highs vars : List ℕ) (on : List Bool) (at :
 unfoldable pub oneBlock : Block → List Lexeme → List Lexeme
 oneBlock b us = mark lbrace ∷ (spellBlock b ++ (mark rbrace ∷ us))
 
--- the blocks behind an if's condition, run from the brace that opens the first: one block, or a block, `else` and a block
-pub record BranchRun (ks values lows highs vars : List ℕ) (on : List Bool) (open′ : ℕ) (holds ok : List Bool) (held : List ℕ) (n : ℕ)
+-- the blocks behind an if's condition, run from the brace that opens the first: one block, or a block, `else` and a
+-- block
+pub record BranchRun (ks values lows highs vars : List ℕ) (on : List Bool) (open′ : ℕ) (holds ok : List Bool)
+    (held : List ℕ) (n : ℕ)
     : Type 0 where
   pub long : length held ≡ 96
   pub from : open′ ≤ n
   pub to : n ≤ length ks
   pub runs-one :
-      (j : ℕ) → j < 16 → (vs : List Var) (as′ : List ℤ) (ls us : List Lexeme) (b : Block) → Codes vs ls ks values → Biased vs as′ (lane vars j)
+      (j : ℕ) → j < 16 → (vs : List Var) (as′ : List ℤ) (ls us : List Lexeme) (b : Block) → Codes vs ls ks values
+      → Biased vs as′ (lane vars j)
       → Ranges vs lows highs → drop open′ ls ≡ oneBlock b us → (frontKind us ≡ kindOf (key k-else) → ⊥)
       → RunIn vs on ok held j as′ (cond (getD holds j false) (runBlock b vs as′) (some as′)) × (drop n ls ≡ us)
   pub runs-two :
-      (j : ℕ) → j < 16 → (vs : List Var) (as′ : List ℤ) (ls us : List Lexeme) (a b : Block) → Codes vs ls ks values → Biased vs as′ (lane vars j)
+      (j : ℕ) → j < 16 → (vs : List Var) (as′ : List ℤ) (ls us : List Lexeme) (a b : Block) → Codes vs ls ks values
+      → Biased vs as′ (lane vars j)
       → Ranges vs lows highs → drop open′ ls ≡ oneBlock a (key k-else ∷ oneBlock b us)
       → RunIn vs on ok held j as′ (cond (getD holds j false) (runBlock a vs as′) (runBlock b vs as′)) × (drop n ls ≡ us)

@@ -47,7 +47,8 @@ joined : {p q : Lexeme → Bool} {low mid high : ℕ} → low ≤ mid → mid < 
 joined {p} {q} {low} {mid} {high} h g tp tq =
     record { tells = λ l. rw (tp .tells l, tq .tells l) (go (kindOf l) (leb (kindOf l) mid) refl) }
   where
-    go : (k : ℕ) (t : Bool) → leb k mid ≡ t → ((leb low k && leb k mid) || (leb (suc mid) k && leb k high)) ≡ (leb low k && leb k high)
+    go : (k : ℕ) (t : Bool) → leb k mid ≡ t → ((leb low k && leb k mid) || (leb (suc mid) k && leb k high))
+        ≡ (leb low k && leb k high)
     go k true e =
         let n : k ≤ mid = leb-true k mid e in
         rw (e, lt-leb (suc mid) k (omega arith), le-leb k high (omega arith), or-false)
@@ -61,7 +62,8 @@ by-sign = joined (lit≤ tt) (lit< tt) (by-mark plus) (by-mark minus)
 
 isComparison : Lexeme → Bool
 isComparison l =
-    isMark same l || (isMark differs l || (isMark below l || (isMark at-most l || (isMark above l || isMark at-least l))))
+    isMark same l
+    || (isMark differs l || (isMark below l || (isMark at-most l || (isMark above l || isMark at-least l))))
 
 by-comparison : Tells isComparison (kindOf (mark same)) (kindOf (mark at-least))
 unfolding isComparison kindOf markNumber
@@ -89,7 +91,8 @@ number-shape (number n ∷ ls) = refl
 number-shape (mark m ∷ ls) = refl
 
 -- a lexeme of one test
-single : {A : Type 0} (p : Lexeme → Bool) (a : A) (ls : List Lexeme) → expect p ls ≡ shape ((expect p >>= λ _. give a) ls)
+single : {A : Type 0} (p : Lexeme → Bool) (a : A) (ls : List Lexeme)
+    → expect p ls ≡ shape ((expect p >>= λ _. give a) ls)
 unfolding _>>=_ onwards give shape
 single p a ls = go (expect p ls)
   where
@@ -104,7 +107,8 @@ unfolding expect choose begins rest
 either p q a r h [] = h []
 either p q a r h (l ∷ ls) = go (p l) refl
   where
-    go : (t : Bool) → p l ≡ t → expect (λ k. p k || q k) (l ∷ ls) ≡ shape (choose p (expect p >>= λ _. give a) r (l ∷ ls))
+    go : (t : Bool) → p l ≡ t → expect (λ k. p k || q k) (l ∷ ls)
+        ≡ shape (choose p (expect p >>= λ _. give a) r (l ∷ ls))
     go true e = rw (e, choose, expect) (rw (e, expect) at (single p a (l ∷ ls)))
     go false e = rw (e, choose, expect) (h (l ∷ ls))
 
@@ -119,7 +123,8 @@ comparison-shape =
     (either (isMark at-most) _ le _ (either (isMark above) _ gt _ (single (isMark at-least) ge)))))
 
 module _ {ks : List ℕ} {from to : Pos} where
-  pub took-mark : (m : Mark) → Expects ks from (kindOf (mark m)) (kindOf (mark m)) to → Follows (Unit {0}) ks from (expect (isMark m)) to
+  pub took-mark : (m : Mark) → Expects ks from (kindOf (mark m)) (kindOf (mark m)) to
+      → Follows (Unit {0}) ks from (expect (isMark m)) to
   took-mark m h = h .by (isMark m) (by-mark m)
 
   pub took-key : (k : Keyword) → Expects ks from (kindOf (key k)) (kindOf (key k)) to
@@ -135,5 +140,6 @@ module _ {ks : List ℕ} {from to : Pos} where
   pub took-sign : Expects ks from (kindOf (mark plus)) (kindOf (mark minus)) to → Follows Sign ks from readSign to
   took-sign h = shaped added sign-shape (h .by isSign by-sign)
 
-  pub took-comparison : Expects ks from (kindOf (mark same)) (kindOf (mark at-least)) to → Follows Comparison ks from readComparison to
+  pub took-comparison : Expects ks from (kindOf (mark same)) (kindOf (mark at-least)) to
+      → Follows Comparison ks from readComparison to
   took-comparison h = shaped eq comparison-shape (h .by isComparison by-comparison)

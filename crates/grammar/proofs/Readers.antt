@@ -1,4 +1,5 @@
--- How a reader of lexemes goes on from a place: by its parts in turn, by the kind of the lexeme in front, by what is left.
+-- How a reader of lexemes goes on from a place: by its parts in turn, by the kind of the lexeme in front, by what is
+-- left.
 use Prim.Native.Nat.{ℕ, zero, suc, _+_, _*_, _-_, _≤_, _<_}
 use mathlib.Core.Bool.{Bool, true, false}
 use mathlib.Core.Path.{_≡_, refl, sym, ap, _∙_}
@@ -12,7 +13,8 @@ use borrow.Author.Tests.{le-leb, lt-leb}
 use Rattle.syntax.specs.Token.{Lexeme, number}
 use Rattle.syntax.specs.Held.Kind.{kindOf}
 use Rattle.syntax.specs.Tree.{Monitor}
-use Rattle.syntax.specs.Decide.Reading.{Got, got, stuck, Reader, onwards, _>>=_, give, begins, rest, choose, expect, atEnd, readMonitor, read}
+use Rattle.syntax.specs.Decide.Reading.{Got, got, stuck, Reader, onwards, _>>=_, give, begins, rest, choose, expect}
+use Rattle.syntax.specs.Decide.Reading.{atEnd, readMonitor, read}
 use Rattle.grammar.specs.Reads.{Reads, Goes, Follows, halted, among, seen, Tells, Expects}
 use Rattle.grammar.specs.declared.Pos.{Pos}
 use Rattle.grammar.specs.declared.Pos.the-variants.{Next, Stuck}
@@ -91,35 +93,43 @@ among-below low high zero (k ∷ ks) e = omega arith
 among-below low high (suc n) [] e = let z : _≡_ {A = ℕ} 0 1 = cc in absurd (omega arith)
 among-below low high (suc n) (k ∷ ks) e = let h : n < length ks = among-below low high n ks e in omega arith
 
-front : (p : Lexeme → Bool) (low high : ℕ) → Tells p low high → (ks : List ℕ) (q : ℕ) (b : Bool) → among low high (drop q ks) ≡ b
+front : (p : Lexeme → Bool) (low high : ℕ) → Tells p low high → (ks : List ℕ) (q : ℕ) (b : Bool)
+    → among low high (drop q ks) ≡ b
     → (ls : List Lexeme) → map kindOf ls ≡ ks → begins p (drop q ls) ≡ b
 front p low high t ks q b e ls i = begins-at p low high t q ls ∙ rw i e
 
-yes-goes : {A : Type 0} (p : Lexeme → Bool) (low high : ℕ) → Tells p low high → (ks : List ℕ) (from to : Pos) (a b : Reader A)
+yes-goes : {A : Type 0} (p : Lexeme → Bool) (low high : ℕ) → Tells p low high
+    → (ks : List ℕ) (from to : Pos) (a b : Reader A)
     → seen ks from low high ≡ true → Goes ks from a to → Goes ks from (choose p a b) to
 unfolding Goes seen choose
 yes-goes p low high t ks (Next q) to a b e g = λ ls i h. rw (front p low high t ks q true e ls i, choose) (g ls i h)
 yes-goes p low high t ks (Stuck q) to a b e g = g
 
-no-goes : {A : Type 0} (p : Lexeme → Bool) (low high : ℕ) → Tells p low high → (ks : List ℕ) (from to : Pos) (a b : Reader A)
+no-goes : {A : Type 0} (p : Lexeme → Bool) (low high : ℕ) → Tells p low high
+    → (ks : List ℕ) (from to : Pos) (a b : Reader A)
     → seen ks from low high ≡ false → Goes ks from b to → Goes ks from (choose p a b) to
 unfolding Goes seen choose
 no-goes p low high t ks (Next q) to a b e g = λ ls i h. rw (front p low high t ks q false e ls i, choose) (g ls i h)
 no-goes p low high t ks (Stuck q) to a b e g = g
 
-pub yes : {A : Type 0} {ks : List ℕ} {from to : Pos} {p : Lexeme → Bool} {low high : ℕ} {t : Bool} {a : Reader A} (b : Reader A)
-    → Tells p low high → t ≡ seen ks from low high → t ≡ true → Follows A ks from a to → Follows A ks from (choose p a b) to
+pub yes : {A : Type 0} {ks : List ℕ} {from to : Pos} {p : Lexeme → Bool} {low high : ℕ} {t : Bool} {a : Reader A}
+    (b : Reader A)
+    → Tells p low high → t ≡ seen ks from low high → t ≡ true → Follows A ks from a to
+    → Follows A ks from (choose p a b) to
 yes {ks = ks} {from = from} {to = to} {p = p} {low = low} {high = high} {a = a} b w s e g =
     record { some = g .some; goes = yes-goes p low high w ks from to a b (sym s ∙ e) (g .goes) }
 
-pub no : {A : Type 0} {ks : List ℕ} {from to : Pos} {p : Lexeme → Bool} {low high : ℕ} {t : Bool} (a : Reader A) {b : Reader A}
-    → Tells p low high → t ≡ seen ks from low high → t ≡ false → Follows A ks from b to → Follows A ks from (choose p a b) to
+pub no : {A : Type 0} {ks : List ℕ} {from to : Pos} {p : Lexeme → Bool} {low high : ℕ} {t : Bool} (a : Reader A)
+    {b : Reader A}
+    → Tells p low high → t ≡ seen ks from low high → t ≡ false → Follows A ks from b to
+    → Follows A ks from (choose p a b) to
 no {ks = ks} {from = from} {to = to} {p = p} {low = low} {high = high} a {b = b} w s e g =
     record { some = g .some; goes = no-goes p low high w ks from to a b (sym s ∙ e) (g .goes) }
 
 -- A lexeme that is expected
 
-took-goes : (p : Lexeme → Bool) (low high : ℕ) → Tells p low high → (ks : List ℕ) (q : ℕ) → seen ks (Next q) low high ≡ true
+took-goes : (p : Lexeme → Bool) (low high : ℕ) → Tells p low high → (ks : List ℕ) (q : ℕ) → seen ks (Next q) low high
+    ≡ true
     → Goes ks (Next q) (expect p) (Next (q + 1))
 unfolding Goes seen expect Reads
 took-goes p low high t ks q e =
@@ -127,7 +137,8 @@ took-goes p low high t ks q e =
     let n : q < length ls = omega (arith, among-below low high q ks e, ap length i, length-map ls kindOf) in
     (omega arith, tt, rw (front p low high t ks q true e ls i, expect) (rw (rest-drop q ls, ← (add-one q))))
 
-missed-goes : (p : Lexeme → Bool) (low high : ℕ) → Tells p low high → (ks : List ℕ) (q : ℕ) → seen ks (Next q) low high ≡ false
+missed-goes : (p : Lexeme → Bool) (low high : ℕ) → Tells p low high → (ks : List ℕ) (q : ℕ) → seen ks (Next q) low high
+    ≡ false
     → Goes ks (Next q) (expect p) (Stuck q)
 unfolding Goes seen expect Reads
 missed-goes p low high t ks q e = λ ls i h. (h, rw (front p low high t ks q false e ls i, expect))
@@ -143,7 +154,8 @@ passes-goes : {A : Type 0} (ks : List ℕ) (from : Pos) (r : Reader A) (q : ℕ)
 unfolding Goes
 passes-goes ks from r q e = rw e
 
-pub passes : {A : Type 0} {ks : List ℕ} {from : Pos} {r : Reader A} {q : ℕ} → A → from ≡ Stuck q → Follows A ks from r from
+pub passes : {A : Type 0} {ks : List ℕ} {from : Pos} {r : Reader A} {q : ℕ} → A → from ≡ Stuck q
+    → Follows A ks from r from
 passes {ks = ks} {from = from} {r = r} {q = q} a e = record { some = a; goes = passes-goes ks from r q e }
 
 pub passed : {ks : List ℕ} {from : Pos} {low high q : ℕ} → from ≡ Stuck q → Expects ks from low high from
@@ -161,7 +173,8 @@ unfolding Goes Reads
 spent-goes ks (Next q) r e = λ ls i h. (h, e (drop q ls))
 spent-goes ks (Stuck q) r e = refl
 
-pub spent : {A : Type 0} (F : ℕ → Reader A) {ks : List ℕ} {from to : Pos} {left : ℕ} → A → ((ls : List Lexeme) → F 0 ls ≡ stuck ls)
+pub spent : {A : Type 0} (F : ℕ → Reader A) {ks : List ℕ} {from to : Pos} {left : ℕ} → A
+    → ((ls : List Lexeme) → F 0 ls ≡ stuck ls)
     → left ≡ 0 → to ≡ halted from → Follows A ks from (F left) to
 spent F {ks} {from} a e z h = rw (z, h) (record { some = a; goes = spent-goes ks from (F 0) e })
 
@@ -213,12 +226,14 @@ module _ {ks : List ℕ} {from : Pos} {q : ℕ} (at : from ≡ Next q) where
 
 -- A whole file, from its first lexeme
 
-start-reads : (ks : List ℕ) (to : Pos) (left : ℕ) → Goes ks (Next 0) (readMonitor left) to → (ls : List Lexeme) → map kindOf ls ≡ ks
+start-reads : (ks : List ℕ) (to : Pos) (left : ℕ) → Goes ks (Next 0) (readMonitor left) to → (ls : List Lexeme)
+    → map kindOf ls ≡ ks
     → 4 * (length ls + 1) ≡ left → Reads to ls (read ls)
 unfolding Goes read
 start-reads ks to left g ls i e = rw e (g ls i (omega arith))
 
-pub start : {ks : List ℕ} {to : Pos} → Follows Monitor ks (Next 0) (readMonitor (4 * (length ks + 1))) to → (ls : List Lexeme)
+pub start : {ks : List ℕ} {to : Pos} → Follows Monitor ks (Next 0) (readMonitor (4 * (length ks + 1))) to
+    → (ls : List Lexeme)
     → map kindOf ls ≡ ks → Reads to ls (read ls)
 start {ks} {to} g ls i =
     start-reads ks to (4 * (length ks + 1)) (g .goes) ls i (omega (arith, ap length i, length-map ls kindOf))

@@ -1,13 +1,16 @@
-// Reads the grammar over the kinds of a file's tokens, by recursive descent in the shape of `syntax`'s `Reading`: where a
-// phrase ends, or where no file of the grammar can go on. `left` falls with each call of a cycle.
+// Reads the grammar over the kinds of a file's tokens, by recursive descent in the shape of `syntax`'s `Reading`: where
+// a phrase ends, or where no file of the grammar can go on. `left` falls with each call of a cycle.
 ghost use mathlib.Core.List.{List, map};
 ghost use mathlib.Core.Path.{_≡_};
 ghost use lib.ListN.{length};
 ghost use Prim.Native.Nat.{_≤_};
 ghost use Rattle.syntax.specs.Limits.{mostBytes};
 ghost use Rattle.syntax.specs.Token.{Lexeme, isKey, k-var, k-method, k-waituntil};
-ghost use Rattle.syntax.specs.Tree.{Int, Atom, Term, Expr, Cond, Conj, Simple, Block, Stmt, Region, Method, Var, Monitor};
-ghost use Rattle.syntax.specs.Decide.Reading.{atEnd, isSign, readMany, readInt, readAtom, readTerm, readExpr, readCond, readConj, readSimple, readBlock, readStmt, readRegion, readMethod, readVar, readMonitor};
+ghost use Rattle.syntax.specs.Tree.{Int, Atom, Term, Expr, Cond, Conj, Simple, Block, Stmt, Region, Method, Var};
+ghost use Rattle.syntax.specs.Tree.{Monitor};
+ghost use Rattle.syntax.specs.Decide.Reading.{atEnd, isSign, readMany, readInt, readAtom, readTerm, readExpr, readCond};
+ghost use Rattle.syntax.specs.Decide.Reading.{readConj, readSimple, readBlock, readStmt, readRegion, readMethod};
+ghost use Rattle.syntax.specs.Decide.Reading.{readVar, readMonitor};
 ghost use Rattle.syntax.specs.Decide.Reading as reading;
 ghost use Rattle.syntax.specs.Held.Kind.{kindOf};
 ghost use Rattle.grammar.specs.Reads.{Reads, Follows, Expects, halted, seen};
@@ -251,7 +254,8 @@ fn read_region(kinds: &[u8], from: Pos, left: usize) -> Pos
 
 // As many regions as there are, each with `left` of its own.
 fn read_regions(kinds: &[u8], from: Pos, left: usize, rounds: usize) -> Pos
-    ensures { λ r. ⌜ Follows (List Region) (now (kinds .entry)) from (readMany (isKey k-waituntil) (readRegion left) rounds) r ⌝ }
+    ensures { λ r. ⌜ Follows (List Region) (now (kinds .entry)) from (readMany (isKey k-waituntil) (readRegion left) rounds)
+        r ⌝ }
 {
     if rounds == 0 {
         return stop(from);
@@ -275,7 +279,8 @@ fn read_method(kinds: &[u8], from: Pos, left: usize) -> Pos
 }
 
 fn read_methods(kinds: &[u8], from: Pos, left: usize, rounds: usize) -> Pos
-    ensures { λ r. ⌜ Follows (List Method) (now (kinds .entry)) from (readMany (isKey k-method) (readMethod left) rounds) r ⌝ }
+    ensures { λ r. ⌜ Follows (List Method) (now (kinds .entry)) from (readMany (isKey k-method) (readMethod left) rounds) r
+        ⌝ }
 {
     if rounds == 0 {
         return stop(from);
@@ -333,7 +338,8 @@ fn read_monitor(kinds: &[u8], from: Pos, left: usize) -> Pos
 
 // Where a file's tokens are no file of the grammar (4), or their count.
 pub fn read(kinds: &[u8]) -> Pos
-    ensures { λ r. ⌜ ((ls : List Lexeme) → map kindOf ls ≡ now (kinds .entry) → length ls ≤ mostBytes → Reads r ls (reading.read ls)) ⌝ }
+    ensures { λ r. ⌜ ((ls : List Lexeme) → map kindOf ls ≡ now (kinds .entry) → length ls ≤ mostBytes
+        → Reads r ls (reading.read ls)) ⌝ }
 {
     if syntax::FILE_BYTES < kinds.len() {
         return Pos::Stuck(0);

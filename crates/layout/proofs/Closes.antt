@@ -50,11 +50,13 @@ module _ (o c : ℕ) where
   unfolding closeFrom
   close-ends k ks n h = rw (ne-eqb k o n, closeFrom, eq-eqb k c h, closeFrom)
 
-  pub close-closes : (d k : ℕ) (ks : List ℕ) → (k ≡ o → ⊥) → k ≡ c → closeFrom o c (suc d) (k ∷ ks) ≡ suc (closeFrom o c d ks)
+  pub close-closes : (d k : ℕ) (ks : List ℕ) → (k ≡ o → ⊥) → k ≡ c → closeFrom o c (suc d) (k ∷ ks)
+      ≡ suc (closeFrom o c d ks)
   unfolding closeFrom
   close-closes d k ks n h = rw (ne-eqb k o n, closeFrom, eq-eqb k c h, closeFrom)
 
-  pub close-passes : (d k : ℕ) (ks : List ℕ) → (k ≡ o → ⊥) → (k ≡ c → ⊥) → closeFrom o c d (k ∷ ks) ≡ suc (closeFrom o c d ks)
+  pub close-passes : (d k : ℕ) (ks : List ℕ) → (k ≡ o → ⊥) → (k ≡ c → ⊥) → closeFrom o c d (k ∷ ks)
+      ≡ suc (closeFrom o c d ks)
   unfolding closeFrom
   close-passes zero k ks n h = rw (ne-eqb k o n, closeFrom, ne-eqb k c h, closeFrom)
   close-passes (suc d) k ks n h = rw (ne-eqb k o n, closeFrom, ne-eqb k c h, closeFrom)
@@ -91,7 +93,8 @@ module _ (o c : ℕ) where
       (λ n. split (eqb k c) (λ h. at-closer d n h (λ e. close-bound e ks))
       (λ h. let e = close-passes d k ks (eqb-false k o n) (eqb-false k c h) in let r = close-bound d ks in omega arith))
     where
-      at-closer : (e : ℕ) → eqb k o ≡ false → eqb k c ≡ true → ((f : ℕ) → closeFrom o c f ks ≤ length ks) → closeFrom o c e (k ∷ ks) ≤ suc (length ks)
+      at-closer : (e : ℕ) → eqb k o ≡ false → eqb k c ≡ true → ((f : ℕ) → closeFrom o c f ks ≤ length ks)
+          → closeFrom o c e (k ∷ ks) ≤ suc (length ks)
       at-closer zero n h r = let e = close-ends k ks (eqb-false k o n) (eqb-true k c h) in omega arith
       at-closer (suc f) n h r = let e = close-closes f k ks (eqb-false k o n) (eqb-true k c h) in omega (arith, r f)
 
@@ -102,14 +105,18 @@ module _ (o c : ℕ) where
 
   -- from any depth, what closes is behind these lexemes, and the depth there is the same
   pub record Balanced (w : List Lexeme) : Type 0 where
-    pub over : (d : ℕ) (us : List Lexeme) → closeFrom o c d (map kindOf (w ++ us)) ≡ length w + closeFrom o c d (map kindOf us)
+    pub over : (d : ℕ) (us : List Lexeme) → closeFrom o c d (map kindOf (w ++ us))
+        ≡ length w + closeFrom o c d (map kindOf us)
 
   pub balanced-nil : Balanced []
   balanced-nil = record { over = λ d us. omega arith }
 
   pub balanced-join : {v w : List Lexeme} → Balanced v → Balanced w → Balanced (v ++ w)
   balanced-join {v} {w} p q =
-      record { over = λ d us. rw (append-assoc v w us, p .over d (w ++ us), q .over d us, length-append v w) (omega arith) }
+      record {
+        over = λ d us. rw (append-assoc v w us, p .over d (w ++ us), q .over d us, length-append v w)
+            (omega arith);
+      }
 
   pub balanced-one : (l : Lexeme) → (kindOf l ≡ o → ⊥) → (kindOf l ≡ c → ⊥) → Balanced (l ∷ [])
   balanced-one l p q = record { over = λ d us. close-passes d (kindOf l) (map kindOf us) p q ∙ omega arith }
@@ -119,8 +126,10 @@ module _ (o c : ℕ) where
   balanced-wrap l r {w} p n q h = record {
     over = λ d us.
         let opened = close-opens d (kindOf l) (map kindOf ((w ++ (r ∷ [])) ++ us)) p in
-        let inside : closeFrom o c (suc d) (map kindOf ((w ++ (r ∷ [])) ++ us)) ≡ length w + closeFrom o c (suc d) (map kindOf (r ∷ us)) =
-        ap (λ (x : List Lexeme). closeFrom o c (suc d) (map kindOf x)) (append-assoc w (r ∷ []) us) ∙ h .over (suc d) (r ∷ us) in
+        let inside : closeFrom o c (suc d) (map kindOf ((w ++ (r ∷ [])) ++ us))
+        ≡ length w + closeFrom o c (suc d) (map kindOf (r ∷ us)) =
+        ap (λ (x : List Lexeme). closeFrom o c (suc d) (map kindOf x)) (append-assoc w (r ∷ []) us)
+        ∙ h .over (suc d) (r ∷ us) in
         let closed = close-closes d (kindOf r) (map kindOf us) n q in
         let sum = length-append w (r ∷ []) in
         omega arith;
@@ -145,7 +154,8 @@ module _ (o c : ℕ) (at : ℕ) (ls w us : List Lexeme) (z : Lexeme) (balanced :
       rw (close-length, ← drop-drop (length w) at ls, stands) (drop-append-seam w (z ∷ us))
 
 -- what stands at a token is in the list
-pub stands-below : (at : ℕ) (ls w us : List Lexeme) (z : Lexeme) → drop at ls ≡ w ++ (z ∷ us) → at + length w < length ls
+pub stands-below : (at : ℕ) (ls w us : List Lexeme) (z : Lexeme) → drop at ls ≡ w ++ (z ∷ us)
+    → at + length w < length ls
 stands-below at ls w us z h =
     let e = sym (length-drop at ls) ∙ ap length h ∙ length-append w (z ∷ us) in omega arith
 

@@ -45,11 +45,13 @@ module _ {file : List ℕ} {ts : List Token} {kinds values places : List ℕ}
         (guard-long a c g ∙ ap length (decides-lexemes (spellCond c) (spellCond d) .0 e) ∙ sym (guard-long b d h))))
 
     pub guards-agree : bracketEnd (drop a kinds) ≡ bracketEnd (drop b kinds)
-        → sameLexemes (take (bracketEnd (drop b kinds)) (drop a (lexemes ts))) (take (bracketEnd (drop b kinds)) (drop b (lexemes ts)))
+        → sameLexemes (take (bracketEnd (drop b kinds)) (drop a (lexemes ts)))
+        (take (bracketEnd (drop b kinds)) (drop b (lexemes ts)))
         ≡ sameGuard c d
     unfolding sameGuard
     guards-agree e =
         let p : take (bracketEnd (drop b kinds)) (drop a (lexemes ts)) ≡ spellCond c =
         rw (sym e ∙ guard-long a c g) (guard-run a c g) in
-        let q : take (bracketEnd (drop b kinds)) (drop b (lexemes ts)) ≡ spellCond d = rw (guard-long b d h) (guard-run b d h) in
+        let q : take (bracketEnd (drop b kinds)) (drop b (lexemes ts)) ≡ spellCond d =
+        rw (guard-long b d h) (guard-run b d h) in
         rw (p, q)

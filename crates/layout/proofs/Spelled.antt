@@ -49,7 +49,8 @@ spelled-kinds ls at q us h =
     (mark rparen ∷ mark lbrace ∷ (spellBlock (q .body) ++ (mark rbrace ∷ []))) us
     ∙ ap (λ (x : List Lexeme). spellCond (q .guard) ++ (mark rparen ∷ mark lbrace ∷ x))
     (append-assoc (spellBlock (q .body)) (mark rbrace ∷ []) us) in
-    let bracket = close-stands openBracket shutBracket (at + toGuard) ls (spellCond (q .guard)) behind-guard (mark rparen)
+    let bracket = close-stands openBracket shutBracket (at + toGuard) ls (spellCond (q .guard)) behind-guard
+    (mark rparen)
     (brackets-balanced (q .guard)) (λ e. omega arith) refl guard in
     let body : drop (bodyOf kinds at) ls ≡ spellBlock (q .body) ++ behind-body =
     later toBody (at + toGuard + bracketEnd (drop (at + toGuard) kinds)) ls _ bracket in
@@ -70,7 +71,8 @@ module _ {file : List ℕ} {ts : List Token} {kinds values places : List ℕ}
   spelled at q us h = rw (kinds-are words) (spelled-kinds (lexemes ts) at q us h)
 
   -- the kind at a token is that of what stands there
-  pub kind-behind : (at : ℕ) (us : List Lexeme) → drop at (lexemes ts) ≡ us → getD kinds at noKind ≡ getD (map kindOf us) 0 noKind
+  pub kind-behind : (at : ℕ) (us : List Lexeme) → drop at (lexemes ts) ≡ us → getD kinds at noKind
+      ≡ getD (map kindOf us) 0 noKind
   kind-behind at us h =
       rw (kinds-are words)
       (ap (λ (k : ℕ). getD (map kindOf (lexemes ts)) k noKind) (sym (add-zero at))

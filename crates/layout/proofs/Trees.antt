@@ -1,5 +1,6 @@
--- What is closed under joining, brackets and braces holds of all that trees spell: by recursion over the trees. So braces,
--- brackets and semicolons are balanced where the code looks for a closing one, and `keep` stands once in a file.
+-- What is closed under joining, brackets and braces holds of all that trees spell: by recursion over the trees. So
+-- braces, brackets and semicolons are balanced where the code looks for a closing one, and `keep` stands once in a
+-- file.
 use Prim.Native.Nat.{ℕ}
 use native.Mathlib.Omega.{arith}
 use mathlib.Core.Path.{_≡_, refl, sym, ap, _∙_}
@@ -28,7 +29,8 @@ other l k = not (eqb k (kindOf l))
 -- a kind of a file's tokens but brackets, braces and `keep`
 abbrev quiet : ℕ → Bool
 quiet k =
-    other (mark lbrace) k && other (mark rbrace) k && other (mark lparen) k && other (mark rparen) k && other (key k-keep) k
+    other (mark lbrace) k && other (mark rbrace) k && other (mark lparen) k && other (mark rparen) k && other
+    (key k-keep) k
 
 -- nor a semicolon: a kind of a condition's tokens but brackets
 abbrev calm : ℕ → Bool
@@ -71,7 +73,8 @@ module _ (P : List Lexeme → Type 0) (nil : P []) (joins : (v w : List Lexeme) 
   of-terms : (ts : List Term) → P (each spellTerm ts)
   unfolding each spellTerm
   of-terms [] = nil
-  of-terms (t ∷ ts) = join (join (calmly (mark (signMark (t .sign))) (sign-kind (t .sign))) (of-atom (t .atom))) (of-terms ts)
+  of-terms (t ∷ ts) = join (join (calmly (mark (signMark (t .sign))) (sign-kind (t .sign))) (of-atom (t .atom)))
+      (of-terms ts)
 
   of-expr : (e : Expr) → P (spellExpr e)
   unfolding spellExpr
@@ -97,7 +100,8 @@ module _ (P : List Lexeme → Type 0) (nil : P []) (joins : (v w : List Lexeme) 
     of-simple (negation s) = join (calmly (mark bang) refl) (of-simple s)
     of-simple (bracketed c) = wraps _ (of-cond c)
     of-simple (constant b) = of-constant b
-    of-simple (compare e o f) = join (of-expr e) (join (calmly (mark (comparisonMark o)) (comparison-kind o)) (of-expr f))
+    of-simple (compare e o f) =
+        join (of-expr e) (join (calmly (mark (comparisonMark o)) (comparison-kind o)) (of-expr f))
 
   module _ (plainly : (l : Lexeme) → quiet (kindOf l) ≡ true → P (l ∷ []))
       (blocks : (w : List Lexeme) → P w → P (mark lbrace ∷ (w ++ (mark rbrace ∷ [])))) where
@@ -116,7 +120,8 @@ module _ (P : List Lexeme → Type 0) (nil : P []) (joins : (v w : List Lexeme) 
 
       of-stmt : (s : Stmt) → P (spellStmt s)
       of-stmt (assign x e) =
-          join (plainly (name x) refl) (join (plainly (mark becomes) refl) (join (of-expr e) (plainly (mark semicolon) refl)))
+          join (plainly (name x) refl)
+          (join (plainly (mark becomes) refl) (join (of-expr e) (plainly (mark semicolon) refl)))
       of-stmt (if-then c b) = join (plainly (key k-if) refl) (bracketed-then (of-cond c) (blocks _ (of-block b)))
       of-stmt (if-else c a b) =
           join (plainly (key k-if) refl) (bracketed-then (of-cond c) (braced-then (of-block a)
@@ -126,13 +131,15 @@ module _ (P : List Lexeme → Type 0) (nil : P []) (joins : (v w : List Lexeme) 
     unfolding each spellRegion kindOf markNumber keywordNumber
     of-regions [] = nil
     of-regions (q ∷ qs) =
-        join (join (plainly (key k-waituntil) refl) (bracketed-then (of-cond (q .guard)) (blocks _ (of-block (q .body))))) (of-regions qs)
+        join (join (plainly (key k-waituntil) refl)
+        (bracketed-then (of-cond (q .guard)) (blocks _ (of-block (q .body))))) (of-regions qs)
 
     pub of-methods : (ms : List Method) → P (each spellMethod ms)
     unfolding each spellMethod kindOf markNumber keywordNumber
     of-methods [] = nil
     of-methods (x ∷ ms) =
-        join (join (plainly (key k-method) refl) (join (plainly (name (x .title)) refl) (blocks _ (of-regions (all (x .regions))))))
+        join (join (plainly (key k-method) refl)
+        (join (plainly (name (x .title)) refl) (blocks _ (of-regions (all (x .regions))))))
         (of-methods ms)
 
     pub of-vars : (vs : List Var) → P (each spellVar vs)
@@ -140,13 +147,15 @@ module _ (P : List Lexeme → Type 0) (nil : P []) (joins : (v w : List Lexeme) 
     of-vars [] = nil
     of-vars (v ∷ vs) =
         join (join (plainly (key k-var) refl) (join (plainly (name (v .title)) refl) (join (plainly (mark equals) refl)
-        (join (of-int (v .start)) (join (plainly (key k-in) refl) (join (of-int (v .low)) (join (plainly (mark dots) refl)
+        (join (of-int (v .start))
+        (join (plainly (key k-in) refl) (join (of-int (v .low)) (join (plainly (mark dots) refl)
         (join (of-int (v .high)) (plainly (mark semicolon) refl))))))))) (of-vars vs)
 
 -- Braces over blocks, brackets and semicolons over conditions
 
 module _ (o c : ℕ) where
-  balanced-by : (test : ℕ → Bool) → test o ≡ false → test c ≡ false → (l : Lexeme) → test (kindOf l) ≡ true → Balanced o c (l ∷ [])
+  balanced-by : (test : ℕ → Bool) → test o ≡ false → test c ≡ false → (l : Lexeme) → test (kindOf l) ≡ true
+      → Balanced o c (l ∷ [])
   balanced-by test p q l h = balanced-one o c l (apart-by test h p) (apart-by test h q)
 
   around : (l r : Lexeme) → Balanced o c (l ∷ []) → Balanced o c (r ∷ []) → (w : List Lexeme) → Balanced o c w
@@ -156,15 +165,18 @@ module _ (o c : ℕ) where
 pub brackets-balanced : (c : Cond) → Balanced openBracket shutBracket (spellCond c)
 unfolding kindOf markNumber keywordNumber
 brackets-balanced =
-    of-cond (Balanced openBracket shutBracket) (balanced-nil openBracket shutBracket) (λ v w p q. balanced-join openBracket shutBracket p q)
+    of-cond (Balanced openBracket shutBracket) (balanced-nil openBracket shutBracket)
+    (λ v w p q. balanced-join openBracket shutBracket p q)
     (balanced-by openBracket shutBracket calm refl refl)
     (λ w p. balanced-wrap openBracket shutBracket (mark lparen) (mark rparen) refl (λ e. omega arith) refl p)
 
 pub semicolons-balanced : (c : Cond) → Balanced noKind semicolonKind (spellCond c)
 unfolding kindOf markNumber keywordNumber
 semicolons-balanced =
-    of-cond (Balanced noKind semicolonKind) (balanced-nil noKind semicolonKind) (λ v w p q. balanced-join noKind semicolonKind p q) calmly
-    (around noKind semicolonKind (mark lparen) (mark rparen) (balanced-one noKind semicolonKind (mark lparen) (λ e. omega arith) (λ e. omega arith))
+    of-cond (Balanced noKind semicolonKind) (balanced-nil noKind semicolonKind)
+    (λ v w p q. balanced-join noKind semicolonKind p q) calmly
+    (around noKind semicolonKind (mark lparen) (mark rparen)
+    (balanced-one noKind semicolonKind (mark lparen) (λ e. omega arith) (λ e. omega arith))
     (balanced-one noKind semicolonKind (mark rparen) (λ e. omega arith) (λ e. omega arith)))
   where
     calmly : (l : Lexeme) → calm (kindOf l) ≡ true → Balanced noKind semicolonKind (l ∷ [])
@@ -173,9 +185,11 @@ semicolons-balanced =
 pub braces-balanced : (b : Block) → Balanced openBrace shutBrace (spellBlock b)
 unfolding kindOf markNumber keywordNumber
 braces-balanced =
-    of-block (Balanced openBrace shutBrace) (balanced-nil openBrace shutBrace) (λ v w p q. balanced-join openBrace shutBrace p q)
+    of-block (Balanced openBrace shutBrace) (balanced-nil openBrace shutBrace)
+    (λ v w p q. balanced-join openBrace shutBrace p q)
     (balanced-by openBrace shutBrace calm refl refl)
-    (around openBrace shutBrace (mark lparen) (mark rparen) (balanced-one openBrace shutBrace (mark lparen) (λ e. omega arith) (λ e. omega arith))
+    (around openBrace shutBrace (mark lparen) (mark rparen)
+    (balanced-one openBrace shutBrace (mark lparen) (λ e. omega arith) (λ e. omega arith))
     (balanced-one openBrace shutBrace (mark rparen) (λ e. omega arith) (λ e. omega arith)))
     (balanced-by openBrace shutBrace quiet refl refl)
     (λ w p. balanced-wrap openBrace shutBrace (mark lbrace) (mark rbrace) refl (λ e. omega arith) refl p)
@@ -190,10 +204,12 @@ free-join : (v w : List Lexeme) → Free v → Free w → Free (v ++ w)
 free-join [] w p q = q
 free-join (l ∷ v) w (next h p) q = next h (free-join v w p q)
 
-free-around : (l r : Lexeme) → (kindOf l ≡ kindOf (key k-keep) → ⊥) → (kindOf r ≡ kindOf (key k-keep) → ⊥) → (w : List Lexeme) → Free w → Free (l ∷ (w ++ (r ∷ [])))
+free-around : (l r : Lexeme) → (kindOf l ≡ kindOf (key k-keep) → ⊥) → (kindOf r ≡ kindOf (key k-keep) → ⊥)
+    → (w : List Lexeme) → Free w → Free (l ∷ (w ++ (r ∷ [])))
 free-around l r p q w h = next p (free-join w (r ∷ []) h (next q none))
 
-free-one : (test : ℕ → Bool) → test (kindOf (key k-keep)) ≡ false → (l : Lexeme) → test (kindOf l) ≡ true → Free (l ∷ [])
+free-one : (test : ℕ → Bool) → test (kindOf (key k-keep)) ≡ false → (l : Lexeme) → test (kindOf l) ≡ true
+    → Free (l ∷ [])
 free-one test f l h = next (apart-by test h f) none
 
 free-brackets : (w : List Lexeme) → Free w → Free (mark lparen ∷ (w ++ (mark rparen ∷ [])))
@@ -220,9 +236,12 @@ pub keep-once : (m : Monitor) (ls us : List Lexeme) (k : ℕ) → spell m ≡ ls
     → us ≡ each spellMethod (all (m .methods)) ++ (mark rbrace ∷ [])
 unfolding spell kindOf markNumber keywordNumber
 keep-once m ls us k e h =
-    let front = next {l = key k-monitor} (λ e. omega arith) (next {l = name (m .title)} (λ e. omega arith) (next {l = mark lbrace} (λ e. omega arith) free-vars)) in
+    let front =
+    next {l = key k-monitor} (λ e. omega arith)
+    (next {l = name (m .title)} (λ e. omega arith) (next {l = mark lbrace} (λ e. omega arith) free-vars)) in
     let same = keep-splits (key k-monitor ∷ name (m .title) ∷ mark lbrace ∷ each spellVar (all (m .vars)))
-    (spellCond (m .keep) ++ (mark semicolon ∷ methods)) (take k ls) (spellCond (m .keep) ++ (mark semicolon ∷ us)) front free-rest
+    (spellCond (m .keep) ++ (mark semicolon ∷ methods)) (take k ls) (spellCond (m .keep) ++ (mark semicolon ∷ us)) front
+    free-rest
     (e ∙ sym (take-append-drop k ls) ∙ ap (λ (x : List Lexeme). take k ls ++ x) h) in
     let tails : mark semicolon ∷ us ≡ mark semicolon ∷ methods =
     sym (drop-append-seam (spellCond (m .keep)) (mark semicolon ∷ us)) ∙ ap (drop (length (spellCond (m .keep)))) same
@@ -233,10 +252,13 @@ keep-once m ls us k e h =
     methods = each spellMethod (all (m .methods)) ++ (mark rbrace ∷ [])
 
     free-vars : Free (each spellVar (all (m .vars)))
-    free-vars = of-vars Free none free-join (free-one calm refl) free-brackets (free-one quiet refl) free-braces (all (m .vars))
+    free-vars = of-vars Free none free-join (free-one calm refl) free-brackets (free-one quiet refl) free-braces
+        (all (m .vars))
 
     free-rest : Free (spellCond (m .keep) ++ (mark semicolon ∷ methods))
     free-rest =
-        free-join (spellCond (m .keep)) (mark semicolon ∷ methods) (of-cond Free none free-join (free-one calm refl) free-brackets (m .keep))
+        free-join (spellCond (m .keep)) (mark semicolon ∷ methods)
+        (of-cond Free none free-join (free-one calm refl) free-brackets (m .keep))
         (next (λ e. omega arith) (free-join (each spellMethod (all (m .methods))) (mark rbrace ∷ [])
-        (of-methods Free none free-join (free-one calm refl) free-brackets (free-one quiet refl) free-braces (all (m .methods))) (next (λ e. omega arith) none)))
+        (of-methods Free none free-join (free-one calm refl) free-brackets (free-one quiet refl) free-braces
+        (all (m .methods))) (next (λ e. omega arith) none)))

@@ -192,7 +192,8 @@ module _ (m : Monitor) {file : List ℕ} {ts : List Token} {kinds values places 
       ≡ methodsAhead (all (m .methods))
   unfolding IsKeep kindOf markNumber
   methods-at =
-      let semi = close-stands noKind semicolonKind (k + toKept) (lexemes ts) (spellCond (m .keep)) (keep .0) (mark semicolon)
+      let semi = close-stands noKind semicolonKind (k + toKept) (lexemes ts) (spellCond (m .keep)) (keep .0)
+      (mark semicolon)
       (semicolons-balanced (m .keep))
       (λ e. omega arith) refl (later toKept k (lexemes ts) _ (keep .1)) in
       rw (kinds-are words)

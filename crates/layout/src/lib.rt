@@ -24,8 +24,8 @@ pub struct Layout {
     pub keep: usize,
     pub regions: usize,
     pub guards: usize,
-    // of each region: the tokens at which its guard and its body begin, its guard's number, whether it begins a method (1),
-    // and whether another region follows it in its method (1)
+    // of each region: the tokens at which its guard and its body begin, its guard's number, whether it begins a method
+    // (1), and whether another region follows it in its method (1)
     pub guards_at: [u16; machine::REGIONS],
     pub bodies_at: [u16; machine::REGIONS],
     pub guard_of: [u8; machine::REGIONS],
@@ -290,7 +290,8 @@ fn add_region(
     at: usize,
     begins: u8,
 ) -> Spot
-    requires { ⌜ Sized (now kinds) (now values) (now places) × (at < length (now kinds)) × Room layout × (layout .regions < mostRegions) ⌝ }
+    requires { ⌜ Sized (now kinds) (now values) (now places) × (at < length (now kinds)) × Room layout
+        × (layout .regions < mostRegions) ⌝ }
     ensures { λ r. ⌜ Grown (now (kinds .entry)) layout at r × (at < r .at) × (r .layout .regions ≡ layout .regions + 1)
         × AddsRegion (now (file .entry)) (now (kinds .entry)) (now (values .entry)) (now (places .entry))
         layout at begins r ⌝ }
@@ -354,8 +355,11 @@ fn add_method(
 
 // The layout of a file of the grammar, whose `keep` stands at a token.
 pub fn lay_out(file: &[u8], kinds: &[u8], values: &[u16], places: &[u16], keep: usize) -> Layout
-    ensures { λ r. ⌜ ((m : Monitor) (ts : List Token) → Words (now (file .entry)) ts (now (kinds .entry)) (now (values .entry)) (now (places .entry))
-        → spell m ≡ lexemes ts → length (regions m) ≤ mostRegions → length ts ≤ mostTokens → IsKeep m ts keep → Laid m (lexemes ts) r) ⌝ }
+    ensures { λ r.
+        ⌜ ((m : Monitor) (ts : List Token) → Words (now (file .entry)) ts (now (kinds .entry)) (now (values .entry))
+        (now (places .entry))
+        → spell m ≡ lexemes ts → length (regions m) ≤ mostRegions → length ts ≤ mostTokens → IsKeep m ts keep
+        → Laid m (lexemes ts) r) ⌝ }
 {
     if kinds.len() <= keep {
         return empty(0);

@@ -1,5 +1,5 @@
--- The two machines agree on every list of frames: from the simulation, whose relation holds where all threads are idle and none is
--- notified.
+-- The two machines agree on every list of frames: from the simulation, whose relation holds where all threads are idle
+-- and none is notified.
 use Prim.Native.Nat.{ℕ}
 use native.Mathlib.Omega.{arith}
 use mathlib.Core.Path.{_≡_, refl, sym, subst, ap, _∙_}
@@ -52,7 +52,8 @@ result-point {m} (same-point {s} {p} {nP} {nT} ag) c e =
 pub agree-from :
     (m : Monitor) → Checked m → (e : ℕ → ℕ → Entry) (bc : ℕ → Bool) → Placed m e bc
     → (s : ℕ) (p : Threads) (nP nT : ℕ → Bool) → Agree m bc s p nP nT → (fs : List Frame)
-    → AgreeOn m (run m (plainTold m) 0 (at s p nP)) (run m (tableTold m e) 0 (at s p nT)) (RecheckFrom (waiters (at s p nT))) fs
+    → AgreeOn m (run m (plainTold m) 0 (at s p nP)) (run m (tableTold m e) 0 (at s p nT))
+    (RecheckFrom (waiters (at s p nT))) fs
 agree-from m ok e bc placed s p nP nT ag fs = record {
   same-answer = result-answer (run-agree m ok e bc placed fs 0 s p nP nT ag);
   every-point = λ n _ c h. result-point (run-agree m ok e bc placed (take n fs) 0 s p nP nT ag) c h;
@@ -94,7 +95,8 @@ module _ (m : Monitor) (ok : Checked m) (s : ℕ) (k : m .kept s ≡ true) (fs :
 -- A recheck told from the frames alone is a waiting thread's frame with 00, after frames that a machine accepts
 pub recheck-is-waiting :
     (m : Monitor) → Checked m → (told : Told) (notices : Notices) → Decides m told notices
-    → (s : ℕ) (front : List Frame) (c : Config) → run m told 0 (allIdle s) front ≡ accepted c → (f : Frame) (more : List Frame)
+    → (s : ℕ) (front : List Frame) (c : Config) → run m told 0 (allIdle s) front ≡ accepted c
+    → (f : Frame) (more : List Frame)
     → Recheck (front ++ (f ∷ more)) (length front)
     ↔ ((f .flag ≡ false) × (isWaiting (c .threads .place (f .thread)) ≡ true))
 unfolding allIdle isWaiting

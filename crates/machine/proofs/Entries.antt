@@ -1,5 +1,5 @@
--- The table's entries are those of Algorithm 1: each entry stands, is unconditional and is a signal exactly where the algorithm's
--- triples say so, over every state that meets the kept condition. By the laws of `any` over state numbers.
+-- The table's entries are those of Algorithm 1: each entry stands, is unconditional and is a signal exactly where the
+-- algorithm's triples say so, over every state that meets the kept condition. By the laws of `any` over state numbers.
 use Prim.Native.Nat.{ℕ, _<_}
 use native.Mathlib.Omega.{arith}
 use mathlib.Core.Path.{_≡_, sym, ap, _∙_}
@@ -23,14 +23,15 @@ module _ (m : Monitor) where
         (λ h. record { is-kept = h .0; guard = h .1 }, λ h. (h .is-kept, h .guard))
 
     -- some move of region r, from s to s′, of those that a test tells
-    module _ (r : ℕ) (test : ℕ → ℕ → Bool) {P : ℕ → Type 0} (tells : (s : ℕ) → (test s (m .after r s) ≡ true) ↔ P s) where
-      some-move-iff : (someMove m r test ≡ true) ↔ ((s : ℕ) × Runs m r s × P s)
-      unfolding someMove
-      some-move-iff =
-          Iff·trans
-          (any-iff (m .states) (λ s. runs m r s && test s (m .after r s))
-          (λ s. decides-and (runs m r s) (test s (m .after r s)) (runs-iff r s) (tells s)))
-          (λ x. (x .0, x .2 .0, x .2 .1), λ x. (x .0, below (x .0) (x .1 .is-kept), (x .1, x .2)))
+    module _ (r : ℕ) (test : ℕ → ℕ → Bool) {P : ℕ → Type 0} (tells : (s : ℕ) → (test s (m .after r s) ≡ true) ↔ P s)
+      where
+        some-move-iff : (someMove m r test ≡ true) ↔ ((s : ℕ) × Runs m r s × P s)
+        unfolding someMove
+        some-move-iff =
+            Iff·trans
+            (any-iff (m .states) (λ s. runs m r s && test s (m .after r s))
+            (λ s. decides-and (runs m r s) (test s (m .after r s)) (runs-iff r s) (tells s)))
+            (λ x. (x .0, x .2 .0, x .2 .1), λ x. (x .0, below (x .0) (x .1 .is-kept), (x .1, x .2)))
 
     every-move-iff : (r : ℕ) (test : ℕ → ℕ → Bool)
         → (everyMove m r test ≡ true) ↔ ((s : ℕ) → Runs m r s → test s (m .after r s) ≡ true)
@@ -62,7 +63,8 @@ module _ (m : Monitor) where
         )
 
     broadcast-iff : (g : ℕ)
-        → (broadcast m g ≡ true) ↔ ((w : ℕ) × (w < m .regions) × ((m .guardOf w ≡ g) × ((s : ℕ) × Runs m w s × Holds m g (m .after w s))))
+        → (broadcast m g ≡ true)
+        ↔ ((w : ℕ) × (w < m .regions) × ((m .guardOf w ≡ g) × ((s : ℕ) × Runs m w s × Holds m g (m .after w s))))
     unfolding broadcast Holds
     broadcast-iff g =
         any-iff (m .regions) (λ w. eqb (m .guardOf w) g && someMove m w (λ s s′. m .holds g s′))
@@ -76,7 +78,8 @@ module _ (m : Monitor) where
       λ h. is-false (λ q.
           let x = broadcast-iff g .0 q in
           let y = x .2 .1 in
-          clash (y .2) (h (x .0) (x .1) (x .2 .0) (y .0) (y .1) (ap (λ (k : ℕ). m .holds k (y .0)) (sym (x .2 .0)) ∙ y .1 .guard))),
+          clash (y .2) (h (x .0) (x .1) (x .2 .0) (y .0) (y .1) (ap (λ (k : ℕ). m .holds k (y .0)) (sym (x .2 .0))
+          ∙ y .1 .guard))),
     )
 
     -- The entry of region r and guard g
@@ -94,7 +97,8 @@ module _ (m : Monitor) where
         let z : _≡_ {A = ℕ} 0 1 = cc (none-where r g (λ h. clash (stands-iff r g .1 h) q)) in absurd (omega arith))
 
     pub entry-stands : (r g : ℕ) → ((a b : Bool) × (entryOf m r g ≡ entry a b)) ↔ Stands m r g
-    entry-stands r g = (λ x. stands-where r g (x .0) (x .1) (x .2), λ h. (unconditional m r g, broadcast m g, entry-where r g h))
+    entry-stands r g =
+        (λ x. stands-where r g (x .0) (x .1) (x .2), λ h. (unconditional m r g, broadcast m g, entry-where r g h))
 
     pub entry-none : (r g : ℕ) → (entryOf m r g ≡ none) ↔ Triple m r (Fails m g) (Fails m g)
     unfolding Triple Holds Fails
@@ -108,7 +112,8 @@ module _ (m : Monitor) where
     entry-parts : (r g : ℕ) (a b : Bool) → entryOf m r g ≡ entry a b → (a ≡ unconditional m r g) × (b ≡ broadcast m g)
     entry-parts r g a b e = let k = entry-where r g (stands-where r g a b e) in (cc, cc)
 
-    pub entry-unconditional : (r g : ℕ) (a b : Bool) → entryOf m r g ≡ entry a b → (a ≡ true) ↔ Triple m r (Fails m g) (Holds m g)
+    pub entry-unconditional : (r g : ℕ) (a b : Bool) → entryOf m r g ≡ entry a b
+        → (a ≡ true) ↔ Triple m r (Fails m g) (Holds m g)
     entry-unconditional r g a b e =
         let k = entry-parts r g a b e .0 in
         (λ h. unconditional-iff r g .0 (sym k ∙ h), λ h. k ∙ unconditional-iff r g .1 h)

@@ -1,5 +1,6 @@
--- The line of those who wait: the laws of `ahead`, `beginWait` and `leave`, the only place that knows the order, and what follows
--- from them: a set of threads has a first member, and the tests `waitsOn`, `next` and `firstNotified` decide what `Rules` says.
+-- The line of those who wait: the laws of `ahead`, `beginWait` and `leave`, the only place that knows the order, and
+-- what follows from them: a set of threads has a first member, and the tests `waitsOn`, `next` and `firstNotified`
+-- decide what `Rules` says.
 use Prim.Native.Nat.{ℕ, zero, suc, _<_}
 use native.Mathlib.Omega.{arith}
 use mathlib.Core.Path.{_≡_, refl, sym, subst, ap, _∙_, fun-ext}
@@ -126,12 +127,19 @@ first-below p f (suc n) h = split (any n f) (λ q. earlier (first-below p f n q)
       where
         new-first : f n && ahead p n (r .0) ≡ true → FirstBelow p f (suc n)
         new-first a =
-            let b = and-eq-true-iff (f n) (ahead p n (r .0)) .0 a in
-            (n, omega arith, b .0, λ v l i k. below v l (λ x. r .3 v x i (ahead-trans p v n (r .0) k (b .1))) (not-self v k))
+            let b = and-eq-true-iff (f n) (ahead p n (r .0)) .0 a in (
+              n,
+              omega arith,
+              b .0,
+              λ v l i k. below v l (λ x. r .3 v x i (ahead-trans p v n (r .0) k (b .1)))
+                  (not-self v k),
+            )
 
         not-new : f n && ahead p n (r .0) ≡ false → (v : ℕ) → f v ≡ true → ahead p v (r .0) ≡ true → v ≡ n → ⊥
         not-new a v i k x =
-            clash (and-eq-true-iff (f n) (ahead p n (r .0)) .1 (subst (λ (y : ℕ). (f y ≡ true) × (ahead p y (r .0) ≡ true)) x (i, k))) a
+            clash
+            (and-eq-true-iff (f n) (ahead p n (r .0)) .1
+            (subst (λ (y : ℕ). (f y ≡ true) × (ahead p y (r .0) ≡ true)) x (i, k))) a
 
         old-first : f n && ahead p n (r .0) ≡ false → FirstBelow p f (suc n)
         old-first a = (r .0, omega arith, r .2, λ v l i k. below v l (λ x. r .3 v x i k) (not-new a v i k))

@@ -1,5 +1,5 @@
--- What holds at a point of a run: of the plain machine alone, and between it and the table's. For each kind of frame one lemma
--- says why it is kept: a body that ran, a thread that begins to wait, a recheck; and who may resume.
+-- What holds at a point of a run: of the plain machine alone, and between it and the table's. For each kind of frame
+-- one lemma says why it is kept: a body that ran, a thread that begins to wait, a recheck; and who may resume.
 use Prim.Native.Nat.{ℕ}
 use mathlib.Core.Path.{_≡_, refl, sym, ap, _∙_}
 use mathlib.Core.Bool.{Bool, true, false, _&&_, _||_}
@@ -13,7 +13,8 @@ use Rattle.machine.specs.Decide.Table.{tableTold, unconditional, broadca
 use Rattle.machine.specs.Rules.{Waits, First, PlainNotices, TableNotices}
 use Rattle.logic.proofs.Bools.{split, clash, split-eq, either, or-left, or-right, tests-equal, decides-and}
 use Rattle.machine.proofs.Places.{without-iff}
-use Rattle.machine.proofs.Order.{ahead-began, ahead-left, began-own, began-other, left-own, left-other, first-waiter, next-iff, first-notified-iff}
+use Rattle.machine.proofs.Order.{ahead-began, ahead-left, began-own, began-other, left-own, left-other}
+use Rattle.machine.proofs.Order.{first-waiter, next-iff, first-notified-iff}
 use Rattle.machine.proofs.Tests.{plain-notices, table-notices}
 use Rattle.machine.specs.Algorithm1.{Holds, Fails, Triple, Signals}
 use Rattle.machine.proofs.Entries.{entry-where, entry-unconditional, signal-iff}
@@ -37,11 +38,19 @@ unfolding Holds Fails Triple Signals
 entries-placed m ok = record {
   stands = λ r g s k h f a. (
     unconditional m r g,
-    entry-where m (ok .below) r g (record { from = s; may-run = record { is-kept = k; guard = h }; before = f; after = a }),
+    entry-where m (ok .below) r g (record {
+      from = s;
+      may-run = record { is-kept = k; guard = h };
+      before = f;
+      after =
+          a;
+    }),
   );
-  sure = λ r g b s e k h f. entry-unconditional m (ok .below) r g true b e .0 refl s (record { is-kept = k; guard = h }) f;
+  sure = λ r g b s e k h f. entry-unconditional m (ok .below) r g true b e .0 refl s (record { is-kept = k; guard = h })
+      f;
   once = λ w s b k h. split (ltb w (m .regions))
-      (λ q. signal-iff m (ok .below) (m .guardOf w) .0 b w (ltb-true w (m .regions) q) refl s (record { is-kept = k; guard = h }) h)
+      (λ q. signal-iff m (ok .below) (m .guardOf w) .0 b w (ltb-true w (m .regions) q) refl s
+      (record { is-kept = k; guard = h }) h)
       (λ q. clash h (ok .outside w s (ltb-false w (m .regions) q)));
 }
 
@@ -97,7 +106,8 @@ pub resumes :
 unfolding First
 resumes m p n g t here told = tests-equal (n t && firstNotified m p n g t) (next m p g t) to from
   where
-    resumes-iff : (n t && firstNotified m p n g t ≡ true) ↔ ((n t ≡ true) × First m p (λ u. Waits m p g u × (n u ≡ true)) t)
+    resumes-iff : (n t && firstNotified m p n g t ≡ true)
+        ↔ ((n t ≡ true) × First m p (λ u. Waits m p g u × (n u ≡ true)) t)
     resumes-iff = decides-and (n t) (firstNotified m p n g t) Iff·rfl (first-notified-iff m p n g t)
 
     none-ahead : First m p (λ u. Waits m p g u × (n u ≡ true)) t → First m p (Waits m p g) t
@@ -134,7 +144,8 @@ module _ (m : Monitor) (ok : Checked m) (s : ℕ) (p : Threads) (t r : ℕ) (gua
   stays : (n : ℕ → Bool) (u : ℕ) (b : Bool) → (u ≡ t → ⊥) → n u ≡ true → without n t u || b ≡ true
   stays n u b d h = or-left (without n t u) b (without-iff n t u .1 (d, h))
 
-  ran-all : (n : ℕ → Bool) (g u : ℕ) → Waits m p′ g u → m .holds g s′ ≡ true → without n t u || plainTold m s′ p′ r u ≡ true
+  ran-all : (n : ℕ → Bool) (g u : ℕ) → Waits m p′ g u → m .holds g s′ ≡ true → without n t u || plainTold m s′ p′ r u
+      ≡ true
   unfolding PlainNotices
   ran-all n g u w h = or-right (without n t u) (plainTold m s′ p′ r u) (plain-notices m s′ p′ r u .1 (g, w, h))
 
@@ -143,7 +154,8 @@ module _ (m : Monitor) (ok : Checked m) (s : ℕ) (p : Threads) (t r : ℕ) (gua
   ran-plain n pt = record {
     is-kept = ok .keeps r s (pt .is-kept) guard;
     waits = λ u h. ⊎-elim
-        (λ a. let b = without-iff n t u .0 a in ap isWaiting (left-other p t (m .follows r) u (b .0)) ∙ pt .waits u (b .1))
+        (λ a. let b = without-iff n t u .0 a in ap isWaiting (left-other p t (m .follows r) u (b .0))
+        ∙ pt .waits u (b .1))
         (λ a. let b = plain-notices m s′ p′ r u .0 a in waits-waiting m p′ (b .0) u (b .1))
         (either (without n t u) (plainTold m s′ p′ r u) h);
     all = ran-all n;
@@ -159,7 +171,8 @@ module _ (m : Monitor) (ok : Checked m) (s : ℕ) (p : Threads) (t r : ℕ) (gua
 
     -- an entry that acts though its guard is false is unconditional: then the guard held before the body
     held-before :
-        (g : ℕ) (a b : Bool) → e r g ≡ entry a b → (a ≡ true) ⊎ (m .holds g s′ ≡ true) → m .holds g s′ ≡ false → m .holds g s ≡ true
+        (g : ℕ) (a b : Bool) → e r g ≡ entry a b → (a ≡ true) ⊎ (m .holds g s′ ≡ true) → m .holds g s′ ≡ false
+        → m .holds g s ≡ true
     held-before g a b z (inl y) q =
         let z′ : e r g ≡ entry true b = z ∙ ap (λ (x : Bool). entry x b) y in
         split (m .holds g s) (λ k. k) (λ k. clash (placed .sure r g b s z′ (ag .plain .is-kept) guard k) q)
@@ -187,7 +200,8 @@ module _ (m : Monitor) (ok : Checked m) (s : ℕ) (p : Threads) (t r : ℕ) (gua
     unfolding TableNotices
     woken g u w h k a =
         let x = placed .stands r g s (ag .plain .is-kept) guard k h in
-        or-right (without nT t u) (tableTold m e s′ p′ r u) (table-notices m e s′ p′ r u .1 (g, w, x .0, bc g, x .1, inr h, a))
+        or-right (without nT t u) (tableTold m e s′ p′ r u)
+        (table-notices m e s′ p′ r u .1 (g, w, x .0, bc g, x .1, inr h, a))
 
     ran-every : (g u : ℕ) → Waits m p′ g u → m .holds g s′ ≡ true → bc g ≡ true → nT′ u ≡ true
     ran-every g u w h b =
@@ -197,7 +211,8 @@ module _ (m : Monitor) (ok : Checked m) (s : ℕ) (p : Threads) (t r : ℕ) (gua
         (λ k. woken g u w h k (inl b))
 
     -- the first in line on a guard other than the region's was first before
-    was-first : (g u : ℕ) → (m .guardOf r ≡ g → ⊥) → (u ≡ t → ⊥) → First m p′ (Waits m p′ g) u → First m p (Waits m p g) u
+    was-first : (g u : ℕ) → (m .guardOf r ≡ g → ⊥) → (u ≡ t → ⊥) → First m p′ (Waits m p′ g) u
+        → First m p (Waits m p g) u
     unfolding First Waits
     was-first g u other d h v l w a =
         let k : (v ≡ t → ⊥) = λ q. other (ap (m .guardOf) (sym (own (w .0) (ap (p .place) (sym q) ∙ w .1))) ∙ w .2) in
@@ -216,7 +231,8 @@ module _ (m : Monitor) (ok : Checked m) (s : ℕ) (p : Threads) (t r : ℕ) (gua
         was-told : m .holds g s ≡ true → bc g ≡ false → nT′ u ≡ true
         was-told k b =
             let o = left-waits g u w in
-            stays nT u (tableTold m e s′ p′ r u) (o .0) (ag .first g u (o .1) k (was-first g u (not-own g h b) (o .0) f))
+            stays nT u (tableTold m e s′ p′ r u) (o .0)
+            (ag .first g u (o .1) k (was-first g u (not-own g h b) (o .0) f))
 
     pub ran-agree : Agree m bc s′ p′ nP′ nT′
     ran-agree = record { plain = ran-plain nP (ag .plain); within = ran-within; first = ran-first; every = ran-every }
@@ -281,7 +297,8 @@ module _ (m : Monitor) (s : ℕ) (p : Threads) (t r : ℕ) (guard : m .holds (m 
     all = λ g u w h. without-iff n t u .1 (other-waiter g u w h, pt .all g u w h);
   }
 
-  pub rechecked-agree : (bc : ℕ → Bool) (nP nT : ℕ → Bool) → Agree m bc s p nP nT → Agree m bc s p (without nP t) (without nT t)
+  pub rechecked-agree : (bc : ℕ → Bool) (nP nT : ℕ → Bool) → Agree m bc s p nP nT
+      → Agree m bc s p (without nP t) (without nT t)
   rechecked-agree bc nP nT ag = record {
     plain = rechecked-plain nP (ag .plain);
     within = λ u h. let b = without-iff nT t u .0 h in without-iff nP t u .1 (b .0, ag .within u (b .1));

@@ -1,5 +1,5 @@
--- What every point of a run has that starts in a kept state with all idle: its state is kept, and a waiting or due thread is at a
--- region of the file. Shown for the rules, over whom a body notifies.
+-- What every point of a run has that starts in a kept state with all idle: its state is kept, and a waiting or due
+-- thread is at a region of the file. Shown for the rules, over whom a body notifies.
 use Prim.Native.Nat.{ℕ, _<_}
 use native.Mathlib.Omega.{arith}
 use mathlib.Core.Path.{_≡_, refl, sym, ap, _∙_, subst}
@@ -7,7 +7,8 @@ use mathlib.Core.Bool.{true}
 use mathlib.Core.List.{List}
 use Rattle.machine.specs.Monitor.{Place, idle, waiting, due, Threads, Monitor, Frame, Config, allIdle}
 use Rattle.machine.specs.Decide.Step.{moved, Told, isWaiting, step}
-use Rattle.machine.specs.Rules.{Notices, May, MayBeAt, Moved, Rule, rule-1a, rule-1b, rule-2a, rule-2b, Rules, no-more, one-more}
+use Rattle.machine.specs.Rules.{Notices, May, MayBeAt, Moved, Rule, rule-1a, rule-1b, rule-2a, rule-2b, Rules}
+use Rattle.machine.specs.Rules.{no-more, one-more}
 use Rattle.machine.proofs.RulesDecided.{told-decides}
 use Rattle.logic.proofs.Bools.{clash, split-eq}
 use Rattle.machine.specs.Agreement.{Checked}
@@ -85,6 +86,8 @@ module _ (m : Monitor) (ok : Checked m) (notices : Notices) where
   rules-reached no-more x = x
   rules-reached (one-more r rs) x = rules-reached rs (rule-reached r x)
 
-pub step-reached : (m : Monitor) → Checked m → (told : Told) (c c′ : Config) (f : Frame) → step m told c f ≡ moved c′ → Reached m c
+pub step-reached : (m : Monitor) → Checked m → (told : Told) (c c′ : Config) (f : Frame) → step m told c f ≡ moved c′
+    → Reached m c
     → Reached m c′
-step-reached m ok told c c′ f e = rule-reached m ok (λ s p r u. told s p r u ≡ true) (told-decides m told .moves c f c′ .0 e)
+step-reached m ok told c c′ f e =
+    rule-reached m ok (λ s p r u. told s p r u ≡ true) (told-decides m told .moves c f c′ .0 e)

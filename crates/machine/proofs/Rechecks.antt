@@ -1,5 +1,5 @@
--- Wherever the rules allow a list of frames, a thread waits at its end exactly if the last frame that it sent had the flag 00, so a
--- recheck is a waiting thread's frame with 00: by induction over the list, for any machine.
+-- Wherever the rules allow a list of frames, a thread waits at its end exactly if the last frame that it sent had the
+-- flag 00, so a recheck is a waiting thread's frame with 00: by induction over the list, for any machine.
 use Prim.Native.Nat.{ℕ, suc}
 use native.Mathlib.Omega.{arith}
 use mathlib.Core.Path.{_≡_, refl, sym, subst, subst₂, ap, _∙_}
@@ -11,7 +11,8 @@ use lib.ListN.{length, take, drop}
 use lib.Seq.{take-at, drop-at}
 use Rattle.machine.specs.Monitor.{Threads, Monitor, Frame, Config}
 use Rattle.machine.specs.Decide.Step.{isWaiting}
-use Rattle.machine.specs.Rules.{Notices, Waiting, Rule, rule-1a, rule-1b, rule-2a, rule-2b, Rules, no-more, one-more}
+use Rattle.machine.specs.Rules.{Notices, Waiting, Rule, rule-1a, rule-1b, rule-2a, rule-2b, Rules, no-more}
+use Rattle.machine.specs.Rules.{one-more}
 use Rattle.logic.proofs.Bools.{clash, split-eq}
 use Rattle.machine.specs.Recheck.{Absent, LastOf, Paused, Recheck, RecheckBy, RecheckFrom, SentLast00}
 
@@ -23,7 +24,8 @@ recheck-iff fs k = (
   told SentLast00 (Paused (λ _. false)) (λ l t. inl),
 )
   where
-    told : (A B : List Frame → ℕ → Type 0) → ((l : List Frame) (t : ℕ) → A l t → B l t) → RecheckBy A fs k → RecheckBy B fs k
+    told : (A B : List Frame → ℕ → Type 0) → ((l : List Frame) (t : ℕ) → A l t → B l t) → RecheckBy A fs k
+        → RecheckBy B fs k
     told A B h r = record {
       front = r .front;
       frame = r .frame;
@@ -95,7 +97,8 @@ module _ (f : Frame) (began now : ℕ → Bool) (own : now (f .thread) ≡ not (
           let t : f .thread ≡ u = ap (λ (y : Frame). y .thread) h ∙ l .sent in
           let n : now u ≡ true = ap now (sym t) ∙ own ∙ ap not (ap (λ (y : Frame). y .flag) h ∙ z) in
           inr (subst (Absent u) (sym k) (l .none-later), n)
-      go (y ∷ x) s = inl (e, record { earlier = x; later = l .later; splits = cc; sent = l .sent; none-later = l .none-later }, z)
+      go (y ∷ x) s =
+          inl (e, record { earlier = x; later = l .later; splits = cc; sent = l .sent; none-later = l .none-later }, z)
   shorter fs u (inr x) = inr (x .0 .1, others u (λ q. x .0 .0 (sym q)) ∙ x .1)
 
 -- a list is split at a place in one way
@@ -118,9 +121,11 @@ module _ (m : Monitor) (leaves : (r : ℕ) → isWaiting (m .follows r) ≡ fals
   rule-own {c} {d} {f} (rule-1b a fl g w k s p n) =
       ap (λ (q : Threads). isWaiting (q .place (f .thread))) p ∙ ap isWaiting (w .1) ∙ ap not (sym fl)
   rule-own {c} {d} {f} (rule-2a a fl g w b) = ap isWaiting (b .places .own-place) ∙ leaves (f .region) ∙ ap not (sym fl)
-  rule-own {c} {d} {f} (rule-2b a fl g w k l b) = ap isWaiting (b .places .own-place) ∙ leaves (f .region) ∙ ap not (sym fl)
+  rule-own {c} {d} {f} (rule-2b a fl g w k l b) = ap isWaiting (b .places .own-place) ∙ leaves (f .region)
+      ∙ ap not (sym fl)
 
-  rule-others : {c d : Config} {f : Frame} → Rule m notices c f d → (u : ℕ) → (u ≡ f .thread → ⊥) → waiters d u ≡ waiters c u
+  rule-others : {c d : Config} {f : Frame} → Rule m notices c f d → (u : ℕ) → (u ≡ f .thread → ⊥)
+      → waiters d u ≡ waiters c u
   rule-others (rule-1a a fl g w s p n) u q = ap isWaiting (p .others u q)
   rule-others (rule-1b a fl g w k s p n) u q = ap (λ (x : Threads). isWaiting (x .place u)) p
   rule-others (rule-2a a fl g w b) u q = ap isWaiting (b .places .others u q)
@@ -150,23 +155,28 @@ module _ (m : Monitor) (leaves : (r : ℕ) → isWaiting (m .follows r) ≡ fals
     splits = ap {B = List Frame} (λ x. f ∷ x) (r .splits);
     place = ap suc (r .place);
     flag = r .flag;
-    so-before = longer f (waiters c) (waiters d) (rule-own rule) (rule-others rule) (r .front) (r .frame .thread) (r .so-before);
+    so-before = longer f (waiters c) (waiters d) (rule-own rule) (rule-others rule) (r .front) (r .frame .thread)
+        (r .so-before);
   }
 
   -- A frame after allowed ones is a recheck exactly if its flag is 00 and its thread waits
   pub recheck-waits :
       {c d : Config} {front : List Frame} → Rules m notices c front d → (f : Frame) (more : List Frame)
-      → RecheckFrom (waiters c) (front ++ (f ∷ more)) (length front) ↔ ((f .flag ≡ false) × (waiters d (f .thread) ≡ true))
+      → RecheckFrom (waiters c) (front ++ (f ∷ more)) (length front)
+      ↔ ((f .flag ≡ false) × (waiters d (f .thread) ≡ true))
   recheck-waits {c} {d} {front} rs f more = (to, from)
     where
-      to : RecheckFrom (waiters c) (front ++ (f ∷ more)) (length front) → (f .flag ≡ false) × (waiters d (f .thread) ≡ true)
+      to : RecheckFrom (waiters c) (front ++ (f ∷ more)) (length front)
+          → (f .flag ≡ false) × (waiters d (f .thread) ≡ true)
       to r =
           let z = same-split front (r .front) f (r .frame) more (r .more) (r .splits) (r .place) in (
             ap (λ (x : Frame). x .flag) (sym (z .1)) ∙ r .flag,
-            paused-waiting rs (f .thread) (subst₂ (λ (x : List Frame) (y : Frame). Paused (waiters c) x (y .thread)) (z .0) (z .1) (r .so-before)),
+            paused-waiting rs (f .thread) (subst₂ (λ (x : List Frame) (y : Frame). Paused (waiters c) x (y .thread))
+                (z .0) (z .1) (r .so-before)),
           )
 
-      from : (f .flag ≡ false) × (waiters d (f .thread) ≡ true) → RecheckFrom (waiters c) (front ++ (f ∷ more)) (length front)
+      from : (f .flag ≡ false) × (waiters d (f .thread) ≡ true)
+          → RecheckFrom (waiters c) (front ++ (f ∷ more)) (length front)
       from h = record {
         front = front;
         frame = f;

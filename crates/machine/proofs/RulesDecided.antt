@@ -1,5 +1,6 @@
--- The step of `Decide/Step` decides the published rules, and its run their closure: each test says what the relation says, a step
--- that moves is a rule's and each rule's move is the step's. Shown once over whom a body notifies, then for the two machines.
+-- The step of `Decide/Step` decides the published rules, and its run their closure: each test says what the relation
+-- says, a step that moves is a rule's and each rule's move is the step's. Shown once over whom a body notifies, then
+-- for the two machines.
 use Prim.Native.Nat.{ℕ, suc, _+_, _≤_}
 use native.Mathlib.Omega.{arith}
 use mathlib.Core.Path.{_≡_, refl, sym, subst, subst₂, ap, ap₂, _∙_, fun-ext}
@@ -8,17 +9,20 @@ use mathlib.Core.Logic.{_⊎_, inl, inr, ⊎-elim, _↔_, Iff·rfl}
 use mathlib.Core.List.{List, [], _∷_, _++_}
 use lib.ListN.{length}
 use Rattle.machine.specs.Monitor.{Place, waiting, Threads, Monitor, Frame, Config, accepted, stopped}
-use Rattle.machine.specs.Decide.Step.{without, isWaiting, leave, Outcome, moved, refused, Told, firstNotified, plainTold, may, ran, waited, rechecked, allowed, act, judged, step, run}
+use Rattle.machine.specs.Decide.Step.{without, isWaiting, leave, Outcome, moved, refused, Told, firstNotified}
+use Rattle.machine.specs.Decide.Step.{plainTold, may, ran, waited, rechecked, allowed, act, judged, step, run}
 use Rattle.machine.specs.Algorithm1.{Entry}
 use Rattle.machine.specs.Decide.Table.{tableTold}
-use Rattle.machine.specs.Rules.{Notices, PlainNotices, TableNotices, May, Waiting, Moved, NotifiedAre, OthersOf, Body, Rule, rule-1a, rule-1b, rule-2a, rule-2b, Rules, no-more, one-more}
+use Rattle.machine.specs.Rules.{Notices, PlainNotices, TableNotices, May, Waiting, Moved, NotifiedAre, OthersOf}
+use Rattle.machine.specs.Rules.{Body, Rule, rule-1a, rule-1b, rule-2a, rule-2b, Rules, no-more, one-more}
 use Rattle.logic.proofs.Bools.{clash, is-false, tests-equal, beq-equal, equal-beq, decides-or}
 use Rattle.machine.proofs.Places.{without-iff}
 use Rattle.machine.proofs.Tests.{may-iff, plain-notices, table-notices}
 use Rattle.machine.proofs.Order.{began-moved, left-moved, moved-one, waiting-iff, first-notified-iff}
 use Rattle.machine.specs.Rules.{Refuses, Stops, may-not, no-rule}
 
-pub refuses-number : {m : Monitor} {notices : Notices} {c : Config} {f : Frame} {a : ℕ} → Refuses m notices c f a → (13 ≤ a) × (a ≤ 14)
+pub refuses-number : {m : Monitor} {notices : Notices} {c : Config} {f : Frame} {a : ℕ} → Refuses m notices c f a
+    → (13 ≤ a) × (a ≤ 14)
 refuses-number (may-not h) = (omega arith, omega arith)
 refuses-number (no-rule k h) = (omega arith, omega arith)
 
@@ -33,14 +37,17 @@ pub record Decides (m : Monitor) (told : Told) (notices : Notices) : Type 0 wher
   pub nothing-else :
       (c : Config) (f : Frame)
       → ((c′ : Config) × (step m told c f ≡ moved c′)) ⊎ (step m told c f ≡ refused 13) ⊎ (step m told c f ≡ refused 14)
-  pub accepts : (k : ℕ) (c : Config) (fs : List Frame) (c′ : Config) → (run m told k c fs ≡ accepted c′) ↔ Rules m notices c fs c′
-  pub stops : (k : ℕ) (c : Config) (fs : List Frame) (a j : ℕ) → (run m told k c fs ≡ stopped a j) ↔ Stops m notices k c fs a j
+  pub accepts : (k : ℕ) (c : Config) (fs : List Frame) (c′ : Config) → (run m told k c fs ≡ accepted c′)
+      ↔ Rules m notices c fs c′
+  pub stops : (k : ℕ) (c : Config) (fs : List Frame) (a j : ℕ) → (run m told k c fs ≡ stopped a j)
+      ↔ Stops m notices k c fs a j
 
 pub refused-number :
     {m : Monitor} {told : Told} {notices : Notices} → Decides m told notices → (c : Config) (f : Frame) (a : ℕ)
     → step m told c f ≡ refused a → (13 ≤ a) × (a ≤ 14)
 refused-number d c f a e = ⊎-elim (λ x. let q = x .1 in let z : _≡_ {A = ℕ} 0 1 = cc in absurd (omega arith))
-    (⊎-elim (λ x. let q : a ≡ 13 = cc in (omega arith, omega arith)) (λ x. let q : a ≡ 14 = cc in (omega arith, omega arith)))
+    (⊎-elim (λ x. let q : a ≡ 13 = cc in (omega arith, omega arith)) (λ x. let q : a ≡ 14 = cc in
+    (omega arith, omega arith)))
     (d .nothing-else c f)
 
 -- What the step's tests have found
@@ -89,12 +96,14 @@ module _ (m : Monitor) (told : Told) (notices : Notices)
         state = refl;
         places = left-moved m (c .threads) t q;
         notified = λ u.
-            decides-or (without (c .notified) t u) (told s′ p′ (f .region) u) (without-iff (c .notified) t u) (agree s′ p′ (f .region) u);
+            decides-or (without (c .notified) t u) (told s′ p′ (f .region) u) (without-iff (c .notified) t u)
+            (agree s′ p′ (f .region) u);
       }
 
   -- and nothing else is
 
-  notified-only : (n₁ n₂ : ℕ → Bool) (who : ℕ → Type 0) → NotifiedAre m n₁ who → NotifiedAre m n₂ who → (u : ℕ) → n₁ u ≡ n₂ u
+  notified-only : (n₁ n₂ : ℕ → Bool) (who : ℕ → Type 0) → NotifiedAre m n₁ who → NotifiedAre m n₂ who → (u : ℕ)
+      → n₁ u ≡ n₂ u
   unfolding NotifiedAre
   notified-only n₁ n₂ who a b u = tests-equal (n₁ u) (n₂ u) (λ h. b u .1 (a u .0 h)) (λ h. a u .1 (b u .0 h))
 
@@ -210,7 +219,8 @@ module _ (m : Monitor) (told : Told) (notices : Notices)
   from-moved (by-rule r) = r
 
   from-refused :
-      {c : Config} {f : Frame} {a : ℕ} → step m told c f ≡ refused a → Verdict m notices c f (refused a) → Refuses m notices c f a
+      {c : Config} {f : Frame} {a : ℕ} → step m told c f ≡ refused a → Verdict m notices c f (refused a)
+      → Refuses m notices c f a
   from-refused e (not-there h) = may-not h
   from-refused e (not-allowed h) = no-rule h (λ c′ r. let z : _≡_ {A = ℕ} 0 1 = cc (rule-step r) in omega arith)
 
@@ -239,7 +249,8 @@ module _ (m : Monitor) (told : Told) (notices : Notices)
   rules-of : (fs : List Frame) (k : ℕ) (c c′ : Config) → run m told k c fs ≡ accepted c′ → Rules m notices c fs c′
   unfolding run
   rules-of [] k c c′ e = let z : c ≡ c′ = cc in subst (λ (d : Config). Rules m notices c [] d) z no-more
-  rules-of (f ∷ fs) k c c′ e = go (step m told c f) refl (λ d q. rules-of fs (suc k) d c′ (sym (run-on m told k c d f fs q) ∙ e))
+  rules-of (f ∷ fs) k c c′ e =
+      go (step m told c f) refl (λ d q. rules-of fs (suc k) d c′ (sym (run-on m told k c d f fs q) ∙ e))
     where
       go : (o : Outcome) → step m told c f ≡ o → ((d : Config) → step m told c f ≡ moved d → Rules m notices d fs c′)
           → Rules m notices c (f ∷ fs) c′
@@ -255,12 +266,15 @@ module _ (m : Monitor) (told : Told) (notices : Notices)
       (k : ℕ) (c : Config) (fs : List Frame) (c′ : Config) → (run m told k c fs ≡ accepted c′) ↔ Rules m notices c fs c′
   run-accepted k c fs c′ = (rules-of fs k c c′, λ r. run-of r k)
 
-  stops-of : (fs : List Frame) (k : ℕ) (c : Config) (a j : ℕ) → run m told k c fs ≡ stopped a j → Stops m notices k c fs a j
+  stops-of : (fs : List Frame) (k : ℕ) (c : Config) (a j : ℕ) → run m told k c fs ≡ stopped a j
+      → Stops m notices k c fs a j
   unfolding run
   stops-of [] k c a j e = let z : _≡_ {A = ℕ} 0 1 = cc in absurd (omega arith)
-  stops-of (f ∷ fs) k c a j e = go (step m told c f) refl (λ d q. stops-of fs (suc k) d a j (sym (run-on m told k c d f fs q) ∙ e))
+  stops-of (f ∷ fs) k c a j e =
+      go (step m told c f) refl (λ d q. stops-of fs (suc k) d a j (sym (run-on m told k c d f fs q) ∙ e))
     where
-      go : (o : Outcome) → step m told c f ≡ o → ((d : Config) → step m told c f ≡ moved d → Stops m notices (suc k) d fs a j)
+      go : (o : Outcome) → step m told c f ≡ o
+          → ((d : Config) → step m told c f ≡ moved d → Stops m notices (suc k) d fs a j)
           → Stops m notices k c (f ∷ fs) a j
       go (moved d) q rec =
           let r = rec d q in
@@ -289,17 +303,20 @@ module _ (m : Monitor) (told : Told) (notices : Notices)
             refuse = step-refused c f a .0 (q ∙ ap refused y);
           }
 
-  stop-of : {c d : Config} {front : List Frame} → Rules m notices c front d → (k : ℕ) (f : Frame) (more : List Frame) (a : ℕ)
+  stop-of : {c d : Config} {front : List Frame} → Rules m notices c front d
+      → (k : ℕ) (f : Frame) (more : List Frame) (a : ℕ)
       → Refuses m notices d f a → run m told k c (front ++ (f ∷ more)) ≡ stopped a (k + length front)
   stop-of (no-more {c}) k f more a h = run-stop m told k c f more a (refuse-step h) ∙ ap (stopped a) (omega arith)
   stop-of (one-more {c} {d} {c′} {f = f₀} {fs} r rs) k f more a h =
-      run-on m told k c d f₀ (fs ++ (f ∷ more)) (rule-step r) ∙ stop-of rs (suc k) f more a h ∙ ap (stopped a) (omega arith)
+      run-on m told k c d f₀ (fs ++ (f ∷ more)) (rule-step r) ∙ stop-of rs (suc k) f more a h
+      ∙ ap (stopped a) (omega arith)
 
   run-stopped :
       (k : ℕ) (c : Config) (fs : List Frame) (a j : ℕ) → (run m told k c fs ≡ stopped a j) ↔ Stops m notices k c fs a j
   run-stopped k c fs a j = (
     stops-of fs k c a j,
-    λ s. ap (run m told k c) (s .splits) ∙ stop-of (s .allow) k (s .frame) (s .more) a (s .refuse) ∙ ap (stopped a) (sym (s .place)),
+    λ s. ap (run m told k c) (s .splits) ∙ stop-of (s .allow) k (s .frame) (s .more) a (s .refuse)
+        ∙ ap (stopped a) (sym (s .place)),
   )
 
   pub decides : Decides m told notices

@@ -1,12 +1,13 @@
--- The two machines, side by side: from any two points that agree, each frame is answered alike or is a recheck that the table's
--- machine refuses, and leads to points that agree. By induction over the list of frames, on `Points`.
+-- The two machines, side by side: from any two points that agree, each frame is answered alike or is a recheck that the
+-- table's machine refuses, and leads to points that agree. By induction over the list of frames, on `Points`.
 use Prim.Native.Nat.{ℕ, suc, _+_}
 use native.Mathlib.Omega.{arith}
 use mathlib.Core.Path.{_≡_, refl, sym, subst, ap, _∙_}
 use mathlib.Core.Bool.{Bool, true, false, _&&_, Bool·beq, true≢false}
 use mathlib.Core.List.{List, [], _∷_}
 use Rattle.machine.specs.Monitor.{Place, waiting, Threads, Monitor, Frame, Config, Run, accepted, stopped}
-use Rattle.machine.specs.Decide.Step.{isWaiting, Outcome, moved, refused, firstNotified, plainTold, may, ran, waited, rechecked, allowed, act, judged, step, run}
+use Rattle.machine.specs.Decide.Step.{isWaiting, Outcome, moved, refused, firstNotified, plainTold, may, ran}
+use Rattle.machine.specs.Decide.Step.{waited, rechecked, allowed, act, judged, step, run}
 use Rattle.machine.specs.Algorithm1.{Entry}
 use Rattle.machine.specs.Decide.Table.{tableTold}
 use Rattle.machine.specs.Rules.{Waits, TableNotices, MayBeAt, May, Rule}
@@ -17,7 +18,8 @@ use Rattle.machine.proofs.RulesDecided.{run-on, run-stop, table-decides
 use Rattle.machine.proofs.Rechecks.{waiters, recheck-now, recheck-later}
 use Rattle.machine.specs.Recheck.{RecheckFrom}
 use Rattle.machine.specs.Agreement.{Checked}
-use Rattle.machine.proofs.Points.{Placed, PlainPoint, Agree, resumes, ran-plain, ran-agree, waited-plain, waited-agree, rechecked-plain, rechecked-agree}
+use Rattle.machine.proofs.Points.{Placed, PlainPoint, Agree, resumes, ran-plain, ran-agree, waited-plain}
+use Rattle.machine.proofs.Points.{waited-agree, rechecked-plain, rechecked-agree}
 
 -- One frame
 
@@ -76,62 +78,66 @@ module _ (m : Monitor) (ok : Checked m) (s : ℕ) (p : Threads) (f : Frame) wher
       acted a e true w true fl = now (n t && firstNotified m p n g t) (ran m (plainTold m) (at s p n) f)
           (goes-on (ran-plain m ok s p t r (sym e ∙ fl) n pt))
 
-      go : (a b : Bool) → may m p f ≡ a → Bool·beq (f .flag) (m .holds g s) ≡ b → PlainGoesOn m (judged m (plainTold m) (at s p n) f a b)
+      go : (a b : Bool) → may m p f ≡ a → Bool·beq (f .flag) (m .holds g s) ≡ b
+          → PlainGoesOn m (judged m (plainTold m) (at s p n) f a b)
       go false b x y = ends
       go true false x y = ends
       go true true x y = acted (may-iff m p f .0 x) (beq-equal (f .flag) (m .holds g s) y)
           (isWaiting (p .place t)) refl (f .flag) refl
 
-  module _ (e : ℕ → ℕ → Entry) (bc : ℕ → Bool) (placed : Placed m e bc) (nP nT : ℕ → Bool) (ag : Agree m bc s p nP nT) where
-    step-agree : Match m bc p f (step m (plainTold m) (at s p nP) f) (step m (tableTold m e) (at s p nT) f)
-    unfolding step judged act allowed ran waited rechecked Waits
-    step-agree = go (may m p f) (Bool·beq (f .flag) (m .holds (m .guardOf (f .region)) s)) refl refl
-      where
-        t : ℕ
-        t = f .thread
+  module _ (e : ℕ → ℕ → Entry) (bc : ℕ → Bool) (placed : Placed m e bc) (nP nT : ℕ → Bool) (ag : Agree m bc s p nP nT)
+    where
+      step-agree : Match m bc p f (step m (plainTold m) (at s p nP) f) (step m (tableTold m e) (at s p nT) f)
+      unfolding step judged act allowed ran waited rechecked Waits
+      step-agree = go (may m p f) (Bool·beq (f .flag) (m .holds (m .guardOf (f .region)) s)) refl refl
+        where
+          t : ℕ
+          t = f .thread
 
-        r : ℕ
-        r = f .region
+          r : ℕ
+          r = f .region
 
-        g : ℕ
-        g = m .guardOf r
+          g : ℕ
+          g = m .guardOf r
 
-        acted : May m p f → f .flag ≡ m .holds g s → (w : Bool) → isWaiting (p .place t) ≡ w → (b : Bool) → f .flag ≡ b
-            → Match m bc p f (act m (plainTold m) (at s p nP) f w b) (act m (tableTold m e) (at s p nT) f w b)
-        acted a k false w false fl = both-move (waited-agree m s p t r (sym k ∙ fl) w bc nP nT ag)
-        acted a k false w true fl = both-move (ran-agree m ok s p t r (sym k ∙ fl) e bc placed nP nT ag (own-region m p f a))
-        acted a k true w false fl = notice (nT t) refl (nP t) refl
-          where
-            notice : (b : Bool) → nT t ≡ b → (d : Bool) → nP t ≡ d
-                → Match m bc p f (allowed m (plainTold m) d (rechecked m (plainTold m) (at s p nP) f))
-                (allowed m (tableTold m e) b (rechecked m (tableTold m e) (at s p nT) f))
-            notice false x d y = lost w fl
-            notice true x false y = clash (ag .within t x) y
-            notice true x true y = both-move (rechecked-agree m s p t r (sym k ∙ fl) (waits-here m p f a w) bc nP nT ag)
-        acted a k true w true fl =
-            turn (nP t && firstNotified m p nP g t) (nT t && firstNotified m p nT g t)
-            (resumes m p nP g t here (λ u x _. ag .plain .all g u x holds) ∙ sym (resumes m p nT g t here (λ u x z. ag .first g u x holds z)))
-          where
-            here : Waits m p g t
-            here = (r, waits-here m p f a w, refl)
+          acted : May m p f → f .flag ≡ m .holds g s → (w : Bool) → isWaiting (p .place t) ≡ w → (b : Bool) → f .flag ≡ b
+              → Match m bc p f (act m (plainTold m) (at s p nP) f w b) (act m (tableTold m e) (at s p nT) f w b)
+          acted a k false w false fl = both-move (waited-agree m s p t r (sym k ∙ fl) w bc nP nT ag)
+          acted a k false w true fl =
+              both-move (ran-agree m ok s p t r (sym k ∙ fl) e bc placed nP nT ag (own-region m p f a))
+          acted a k true w false fl = notice (nT t) refl (nP t) refl
+            where
+              notice : (b : Bool) → nT t ≡ b → (d : Bool) → nP t ≡ d
+                  → Match m bc p f (allowed m (plainTold m) d (rechecked m (plainTold m) (at s p nP) f))
+                  (allowed m (tableTold m e) b (rechecked m (tableTold m e) (at s p nT) f))
+              notice false x d y = lost w fl
+              notice true x false y = clash (ag .within t x) y
+              notice true x true y = both-move (rechecked-agree m s p t r (sym k ∙ fl) (waits-here m p f a w) bc nP nT ag)
+          acted a k true w true fl =
+              turn (nP t && firstNotified m p nP g t) (nT t && firstNotified m p nT g t)
+              (resumes m p nP g t here (λ u x _. ag .plain .all g u x holds)
+              ∙ sym (resumes m p nT g t here (λ u x z. ag .first g u x holds z)))
+            where
+              here : Waits m p g t
+              here = (r, waits-here m p f a w, refl)
 
-            holds : m .holds g s ≡ true
-            holds = sym k ∙ fl
+              holds : m .holds g s ≡ true
+              holds = sym k ∙ fl
 
-            turn : (a′ b : Bool) → a′ ≡ b
-                → Match m bc p f (allowed m (plainTold m) a′ (ran m (plainTold m) (at s p nP) f))
-                (allowed m (tableTold m e) b (ran m (tableTold m e) (at s p nT) f))
-            turn true true z = both-move (ran-agree m ok s p t r holds e bc placed nP nT ag (own-region m p f a))
-            turn true false z = absurd (true≢false z)
-            turn false true z = absurd (true≢false (sym z))
-            turn false false z = alike
+              turn : (a′ b : Bool) → a′ ≡ b
+                  → Match m bc p f (allowed m (plainTold m) a′ (ran m (plainTold m) (at s p nP) f))
+                  (allowed m (tableTold m e) b (ran m (tableTold m e) (at s p nT) f))
+              turn true true z = both-move (ran-agree m ok s p t r holds e bc placed nP nT ag (own-region m p f a))
+              turn true false z = absurd (true≢false z)
+              turn false true z = absurd (true≢false (sym z))
+              turn false false z = alike
 
-        go : (a b : Bool) → may m p f ≡ a → Bool·beq (f .flag) (m .holds g s) ≡ b
-            → Match m bc p f (judged m (plainTold m) (at s p nP) f a b) (judged m (tableTold m e) (at s p nT) f a b)
-        go false b x y = alike
-        go true false x y = alike
-        go true true x y = acted (may-iff m p f .0 x) (beq-equal (f .flag) (m .holds g s) y)
-            (isWaiting (p .place t)) refl (f .flag) refl
+          go : (a b : Bool) → may m p f ≡ a → Bool·beq (f .flag) (m .holds g s) ≡ b
+              → Match m bc p f (judged m (plainTold m) (at s p nP) f a b) (judged m (tableTold m e) (at s p nT) f a b)
+          go false b x y = alike
+          go true false x y = alike
+          go true true x y = acted (may-iff m p f .0 x) (beq-equal (f .flag) (m .holds g s) y)
+              (isWaiting (p .place t)) refl (f .flag) refl
 
 -- A list of frames, counted on from k
 
@@ -175,11 +181,13 @@ module _ (m : Monitor) (ok : Checked m) where
 
     pub run-agree :
         (fs : List Frame) (k s : ℕ) (p : Threads) (nP nT : ℕ → Bool) → Agree m bc s p nP nT
-        → Result m bc (waiters (at s p nT)) fs k (run m (plainTold m) k (at s p nP) fs) (run m (tableTold m e) k (at s p nT) fs)
+        → Result m bc (waiters (at s p nT)) fs k (run m (plainTold m) k (at s p nP) fs)
+        (run m (tableTold m e) k (at s p nT) fs)
     unfolding run
     run-agree [] k s p nP nT ag = same-point ag
     run-agree (f ∷ fs) k s p nP nT ag =
-        go (step m (plainTold m) (at s p nP) f) (step m (tableTold m e) (at s p nT) f) refl (step-agree m ok s p f e bc placed nP nT ag)
+        go (step m (plainTold m) (at s p nP) f) (step m (tableTold m e) (at s p nT) f) refl
+        (step-agree m ok s p f e bc placed nP nT ag)
         (λ s₁ p₁ nP₁ nT₁ ag₁. run-agree fs (suc k) s₁ p₁ nP₁ nT₁ ag₁)
       where
         go : (oP oT : Outcome) → step m (tableTold m e) (at s p nT) f ≡ oT → Match m bc p f oP oT
@@ -192,4 +200,5 @@ module _ (m : Monitor) (ok : Checked m) where
         go oP oT q alike rec = same-refusal
         go oP oT q (lost w fl) rec = at-recheck {j = k} 0 (omega arith) (recheck-now (waiters (at s p nT)) f fs w fl)
         go oP oT q (both-move {s = s₁} {q = p₁} {nP = nP₁} {nT = nT₁} ag₁) rec =
-            later (at s p nT) (at s₁ p₁ nT₁) f fs k (table-decides m e .moves (at s p nT) f (at s₁ p₁ nT₁) .0 q) (rec s₁ p₁ nP₁ nT₁ ag₁)
+            later (at s p nT) (at s₁ p₁ nT₁) f fs k (table-decides m e .moves (at s p nT) f (at s₁ p₁ nT₁) .0 q)
+            (rec s₁ p₁ nP₁ nT₁ ag₁)

@@ -1,5 +1,5 @@
--- The machine's tests decide what `Rules` says: who may send a frame, and whom a body notifies, in the plain machine and in the
--- table's. By cases on the places and on the entries.
+-- The machine's tests decide what `Rules` says: who may send a frame, and whom a body notifies, in the plain machine
+-- and in the table's. By cases on the places and on the entries.
 use Prim.Native.Nat.{ℕ}
 use mathlib.Core.Path.{_≡_, refl, sym, subst, ap, _∙_}
 use mathlib.Core.Bool.{Bool, true, not, _&&_, _||_, false≢true}
@@ -27,7 +27,8 @@ module _ (m : Monitor) where
 
   may-be-iff : (q : Place) (r : ℕ) → (mayBeAt m q r ≡ true) ↔ MayBeAt m q r
   unfolding mayBeAt MayBeAt
-  may-be-iff idle r = decides-and (ltb r (m .regions)) (m .begins r) (ltb-true r (m .regions), lt-ltb r (m .regions)) Iff·rfl
+  may-be-iff idle r = decides-and (ltb r (m .regions)) (m .begins r) (ltb-true r (m .regions), lt-ltb r (m .regions))
+      Iff·rfl
   may-be-iff (waiting w) r = decides-eqb w r
   may-be-iff (due w) r = decides-eqb w r
 
@@ -70,7 +71,8 @@ module _ (m : Monitor) where
       parts : (a b : Bool) → (acts (entry a b) h f ≡ true) ↔ (((a ≡ true) ⊎ (h ≡ true)) × ((b ≡ true) ⊎ F))
       parts a b = decides-and (a || h) (b || f) (decides-or a h Iff·rfl Iff·rfl) (decides-or b f Iff·rfl k)
 
-      to : (y : Entry) → x ≡ y → acts y h f ≡ true → (a b : Bool) × (x ≡ entry a b) × ((a ≡ true) ⊎ (h ≡ true)) × ((b ≡ true) ⊎ F)
+      to : (y : Entry) → x ≡ y → acts y h f ≡ true → (a b : Bool) × (x ≡ entry a b) × ((a ≡ true) ⊎ (h ≡ true))
+          × ((b ≡ true) ⊎ F)
       to none z e = absurd (false≢true e)
       to (entry a b) z e = let n = parts a b .0 e in (a, b, z, n .0, n .1)
 
@@ -81,7 +83,8 @@ module _ (m : Monitor) where
       (to (p .place u) refl, λ n. from (n .0) (n .1) (n .2, n .3, n .4, n .5, ⊎-elim inl (λ x. inr (n .1, x)) (n .6)))
     where
       Acts : ℕ → Type 0
-      Acts g = (a b : Bool) × (e r g ≡ entry a b) × ((a ≡ true) ⊎ (m .holds g s ≡ true)) × ((b ≡ true) ⊎ (Waits m p g u × First m p (Waits m p g) u))
+      Acts g = (a b : Bool) × (e r g ≡ entry a b) × ((a ≡ true) ⊎ (m .holds g s ≡ true))
+          × ((b ≡ true) ⊎ (Waits m p g u × First m p (Waits m p g) u))
 
       by-entry : (g : ℕ) → (acts (e r g) (m .holds g s) (next m p g u) ≡ true) ↔ Acts g
       by-entry g = acts-iff (e r g) (m .holds g s) (next m p g u) (next-iff m p g u)

@@ -1,11 +1,12 @@
--- The table in words ("The table"; source document 001, Algorithm 1), over a monitor freed from its syntax: when an entry stands, is
--- unconditional and is a signal. What may run and what is kept is asked of the monitor.
+-- The table in words ("The table"; source document 001, Algorithm 1), over a monitor freed from its syntax: when an
+-- entry stands, is unconditional and is a signal. What may run and what is kept is asked of the monitor.
 use Prim.Native.Nat.{ℕ, _<_}
 use mathlib.Core.Path.{_≡_}
 use mathlib.Core.Bool.{Bool, true, false}
 use Rattle.machine.specs.Monitor.{Monitor}
 
--- what the table has for a region and a guard: nothing, or an entry that is unconditional or not, and a broadcast or a signal
+-- what the table has for a region and a guard: nothing, or an entry that is unconditional or not, and a broadcast or a
+-- signal
 pub data Entry : Type 0 where
   none : Entry
   entry : Bool → Bool → Entry

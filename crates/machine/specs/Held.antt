@@ -16,8 +16,8 @@ unfoldable pub followsBy : ℕ → ℕ → Place
 followsBy r zero = idle
 followsBy r (suc n) = due (r + 1)
 
--- few states, regions and guards; for each state the set of guards that hold there, and at region * mostStates + state the
--- state after a region's body, where that body may run
+-- few states, regions and guards; for each state the set of guards that hold there, and at region * mostStates + state
+-- the state after a region's body, where that body may run
 pub record Held (m : Monitor) (kept holds after guardOf : List ℕ) : Type 0 where
   pub few-states : m .states ≤ mostStates
   pub few-regions : m .regions ≤ mostRegions

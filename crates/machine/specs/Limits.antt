@@ -1,4 +1,5 @@
--- The limits of document 01 on the machine of a file, by name; `threads` is in `Monitor`. Those on a file are in `syntax/specs/Limits`.
+-- The limits of document 01 on the machine of a file, by name; `threads` is in `Monitor`. Those on a file are in
+-- `syntax/specs/Limits`.
 use Prim.Native.Nat.{ℕ}
 
 -- the regions of a file (5), and its guards, which are no more

@@ -1,4 +1,5 @@
--- A monitor freed from its syntax, and a point of a run: what the table and the two machines speak of ("Frames and the two machines").
+-- A monitor freed from its syntax, and a point of a run: what the table and the two machines speak of ("Frames and the
+-- two machines").
 use Prim.Native.Nat.{ℕ, _<_}
 use mathlib.Core.Path.{_≡_}
 use mathlib.Core.Bool.{Bool, false}

@@ -1,5 +1,6 @@
--- The published step rules 1a, 1b, 2a, 2b (source document 001, Figures 4 to 6), as document 01 narrows them: a relation, over
--- whom a body notifies. `RulesDecided` shows that the step of `Machine` takes a frame exactly where this relation does.
+-- The published step rules 1a, 1b, 2a, 2b (source document 001, Figures 4 to 6), as document 01 narrows them: a
+-- relation, over whom a body notifies. `RulesDecided` shows that the step of `Machine` takes a frame exactly where this
+-- relation does.
 use Prim.Native.Nat.{ℕ, _+_, _<_}
 use mathlib.Core.Path.{_≡_}
 use mathlib.Core.Bool.{Bool, true, false}

@@ -6,7 +6,8 @@ pub const REGIONS: usize = 16;
 
 pub const STATES: usize = 4096;
 
-// The same, in the types in which the numbers of threads, regions and states are held. The last is also answered where there is no state.
+// The same, in the types in which the numbers of threads, regions and states are held. The last is also answered where
+// there is no state.
 pub const THREAD_END: u8 = 16;
 
 pub const REGION_END: u8 = 16;

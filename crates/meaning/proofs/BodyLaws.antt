@@ -1,4 +1,5 @@
--- Running a body is its relation `BlockRuns`, by induction on trees one way and on derivations the other; and a run keeps every value in its range.
+-- Running a body is its relation `BlockRuns`, by induction on trees one way and on derivations the other; and a run
+-- keeps every value in its range.
 use Prim.Native.Nat.{ℕ}
 use mathlib.Core.Path.{_≡_, refl, sym, subst}
 use mathlib.Core.Logic.{_↔_}
@@ -8,7 +9,8 @@ use lib.IntN.{ℤ}
 use Rattle.syntax.specs.Bytes.{sameBytes}
 use Rattle.syntax.specs.Tree.{Block, end, then, Stmt, assign, if-then, if-else, Region, Var}
 use Rattle.meaning.specs.Value.{inRange, assigned, exprValue, truth, andThen, runBlock, runStmt, outcome}
-use Rattle.meaning.specs.Accepted.{State, one-value, Assigns, here, later, BlockRuns, ends, goes-on, StmtRuns, assigns, if-true, if-false, else-true, else-false}
+use Rattle.meaning.specs.Accepted.{State, one-value, Assigns, here, later, BlockRuns, ends, goes-on, StmtRuns}
+use Rattle.meaning.specs.Accepted.{assigns, if-true, if-false, else-true, else-false}
 use Rattle.logic.proofs.Bools.{split, clash, is-false, no-some}
 use Rattle.syntax.proofs.Lexemes.{decides-same}
 
@@ -61,13 +63,15 @@ first-then (some cs) f h = (cs, refl, h)
 mutual
   unfolding runBlock runStmt
 
-  pub block-runs-of-run : {vs : List Var} (b : Block) (as′ : List ℤ) {bs : List ℤ} → runBlock b vs as′ ≡ some bs → BlockRuns vs b as′ bs
+  pub block-runs-of-run : {vs : List Var} (b : Block) (as′ : List ℤ) {bs : List ℤ} → runBlock b vs as′ ≡ some bs
+      → BlockRuns vs b as′ bs
   block-runs-of-run {vs} end as′ h = subst (BlockRuns vs end as′) (Option·some-injective _ _ h) ends
   block-runs-of-run {vs} (then s b) as′ h =
       let t = first-then (runStmt s vs as′) (λ cs. runBlock b vs cs) h in
       goes-on (stmt-runs-of-run s as′ (t .1)) (block-runs-of-run b (t .0) (t .2))
 
-  pub stmt-runs-of-run : {vs : List Var} (s : Stmt) (as′ : List ℤ) {bs : List ℤ} → runStmt s vs as′ ≡ some bs → StmtRuns vs s as′ bs
+  pub stmt-runs-of-run : {vs : List Var} (s : Stmt) (as′ : List ℤ) {bs : List ℤ} → runStmt s vs as′ ≡ some bs
+      → StmtRuns vs s as′ bs
   stmt-runs-of-run {vs} (assign x e) as′ h = assigns (assigns-of-assigned vs as′ x (exprValue vs as′ e) h)
   stmt-runs-of-run {vs} (if-then c b) as′ {bs} h =
       split (truth c vs as′) (λ t. if-true t (block-runs-of-run b as′ (cc)))
@@ -79,18 +83,21 @@ mutual
 mutual
   unfolding runBlock runStmt andThen
 
-  pub run-of-block-runs : {vs : List Var} {b : Block} {as′ bs : List ℤ} → BlockRuns vs b as′ bs → runBlock b vs as′ ≡ some bs
+  pub run-of-block-runs : {vs : List Var} {b : Block} {as′ bs : List ℤ} → BlockRuns vs b as′ bs → runBlock b vs as′
+      ≡ some bs
   run-of-block-runs ends = refl
   run-of-block-runs (goes-on r t) = cc (run-of-stmt-runs r, run-of-block-runs t)
 
-  pub run-of-stmt-runs : {vs : List Var} {s : Stmt} {as′ bs : List ℤ} → StmtRuns vs s as′ bs → runStmt s vs as′ ≡ some bs
+  pub run-of-stmt-runs : {vs : List Var} {s : Stmt} {as′ bs : List ℤ} → StmtRuns vs s as′ bs → runStmt s vs as′
+      ≡ some bs
   run-of-stmt-runs (assigns a) = assigned-of-assigns a
   run-of-stmt-runs (if-true t r) = cc (run-of-block-runs r)
   run-of-stmt-runs (if-false t) = cc
   run-of-stmt-runs (else-true t r) = cc (run-of-block-runs r)
   run-of-stmt-runs (else-false t r) = cc (run-of-block-runs r)
 
-pub block-runs-iff : {vs : List Var} (b : Block) (as′ bs : List ℤ) → (runBlock b vs as′ ≡ some bs) ↔ BlockRuns vs b as′ bs
+pub block-runs-iff : {vs : List Var} (b : Block) (as′ bs : List ℤ)
+    → (runBlock b vs as′ ≡ some bs) ↔ BlockRuns vs b as′ bs
 block-runs-iff b as′ bs = (block-runs-of-run b as′, run-of-block-runs)
 
 pub stmt-runs-iff : {vs : List Var} (s : Stmt) (as′ bs : List ℤ) → (runStmt s vs as′ ≡ some bs) ↔ StmtRuns vs s as′ bs
@@ -109,7 +116,8 @@ outcome-of-runs r h = run-of-block-runs h
 
 -- a run keeps every value in its range
 mutual
-  pub block-runs-state : {vs : List Var} {b : Block} {as′ bs : List ℤ} → BlockRuns vs b as′ bs → State vs as′ → State vs bs
+  pub block-runs-state : {vs : List Var} {b : Block} {as′ bs : List ℤ} → BlockRuns vs b as′ bs → State vs as′
+      → State vs bs
   block-runs-state ends s = s
   block-runs-state (goes-on r t) s = block-runs-state t (stmt-runs-state r s)
 

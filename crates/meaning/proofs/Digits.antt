@@ -16,7 +16,8 @@ use Rattle.logic.specs.Tests.{bit}
 pub decides-hex : (b : ℕ) → Decides (isHex b) (((48 ≤ b) × (b ≤ 57)) ⊎ ((65 ≤ b) × (b ≤ 70)))
 unfolding isHex
 decides-hex b =
-    decides-or _ _ (decides-and _ _ (decides-leb 48 b) (decides-leb b 57)) (decides-and _ _ (decides-leb 65 b) (decides-leb b 70))
+    decides-or _ _ (decides-and _ _ (decides-leb 48 b) (decides-leb b 57))
+    (decides-and _ _ (decides-leb 65 b) (decides-leb b 70))
 
 pub low-value : (b : ℕ) → b ≤ 57 → hexValue b ≡ b - 48
 unfolding hexValue
@@ -35,12 +36,19 @@ unfolding hexDigit
 high-digit n h = rw (le-ltb n 10 h, hexDigit)
 
 -- a digit's value, and a digit is no 0A
-digit-value : (n : ℕ) → n < 16 → (isHex (hexDigit n) ≡ true) × (hexValue (hexDigit n) ≡ n) × (eqb (hexDigit n) 10 ≡ false)
+digit-value : (n : ℕ) → n < 16 → (isHex (hexDigit n) ≡ true) × (hexValue (hexDigit n) ≡ n)
+    × (eqb (hexDigit n) 10 ≡ false)
 digit-value n h = split (ltb n 10)
-    (λ e. let l = ltb-true n 10 e in rw (low-digit n l)
-    (decides-hex (n + 48) .1 (inl (omega arith, omega arith)), low-value (n + 48) (omega arith) ∙ omega arith, ne-eqb (n + 48) 10 (omega arith)))
-    (λ e. let l = ltb-false n 10 e in rw (high-digit n l)
-    (decides-hex (n + 55) .1 (inr (omega arith, omega arith)), high-value (n + 55) (omega arith) ∙ omega arith, ne-eqb (n + 55) 10 (omega arith)))
+    (λ e. let l = ltb-true n 10 e in rw (low-digit n l) (
+      decides-hex (n + 48) .1 (inl (omega arith, omega arith)),
+      low-value (n + 48) (omega arith) ∙ omega arith,
+      ne-eqb (n + 48) 10 (omega arith),
+    ))
+    (λ e. let l = ltb-false n 10 e in rw (high-digit n l) (
+      decides-hex (n + 55) .1 (inr (omega arith, omega arith)),
+      high-value (n + 55) (omega arith) ∙ omega arith,
+      ne-eqb (n + 55) 10 (omega arith),
+    ))
 
 -- the digit of a value
 value-digit : (b : ℕ) → isHex b ≡ true → (hexValue b < 16) × (hexDigit (hexValue b) ≡ b)
@@ -64,7 +72,8 @@ two-digits n h =
     record { high-hex = a .0; low-hex = b .0; high-free = a .2; low-free = b .2; value = rw (a .1, b .1) (omega arith) }
 
 -- the number of two digits
-pub pair-digits : (b c : ℕ) → isHex b ≡ true → isHex c ≡ true → (hexValue b * 16 + hexValue c < 256) × (hex2 (hexValue b * 16 + hexValue c) ≡ b ∷ c ∷ [])
+pub pair-digits : (b c : ℕ) → isHex b ≡ true → isHex c ≡ true → (hexValue b * 16 + hexValue c < 256)
+    × (hex2 (hexValue b * 16 + hexValue c) ≡ b ∷ c ∷ [])
 unfolding hex2
 pair-digits b c h g =
     let v = value-digit b h in

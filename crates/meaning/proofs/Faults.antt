@@ -1,4 +1,5 @@
--- Refusal 9 in positive words: a body does not keep from a state exactly where it "assigns outside a range at any moment or ends with the kept condition false". A body runs or faults, by induction on trees, and not both.
+-- Refusal 9 in positive words: a body does not keep from a state exactly where it "assigns outside a range at any
+-- moment or ends with the kept condition false". A body runs or faults, by induction on trees, and not both.
 use Prim.Native.Nat.{ℕ}
 use mathlib.Core.Path.{_≡_, refl, sym, _∙_}
 use mathlib.Core.Bool.{true, false}
@@ -10,7 +11,8 @@ use Rattle.syntax.specs.Bytes.{sameBytes}
 use Rattle.syntax.specs.Tree.{Expr, Cond, Block, end, then, Stmt, assign, if-then, if-else, Region, Var, Monitor, all}
 use Rattle.meaning.specs.Value.{inRange, assigned, exprValue, truth, andThen, runBlock, runStmt}
 use Rattle.meaning.specs.Kept.{keptAt}
-use Rattle.meaning.specs.Accepted.{State, no-values, one-value, Assigns, here, later, BlockRuns, ends, goes-on, StmtRuns, assigns, if-true, if-false, else-true, else-false, Keeps}
+use Rattle.meaning.specs.Accepted.{State, no-values, one-value, Assigns, here, later, BlockRuns, ends, goes-on}
+use Rattle.meaning.specs.Accepted.{StmtRuns, assigns, if-true, if-false, else-true, else-false, Keeps}
 use Rattle.logic.proofs.Bools.{split, clash, is-false, no-some}
 use Rattle.syntax.proofs.Lexemes.{decides-same}
 use Rattle.meaning.proofs.BodyLaws.{run-of-block-runs, run-of-stmt-runs, stmt-runs-state}
@@ -19,22 +21,28 @@ use Rattle.meaning.proofs.BodyLaws.{run-of-block-runs, run-of-stmt-runs
 pub data Outside : List Var → List ℕ → ℤ → Type 0 where
   undeclared : {x : List ℕ} {b : ℤ} → Outside [] x b
   out-here : {v : Var} {vs : List Var} {x : List ℕ} {b : ℤ} → v .title ≡ x → inRange v b ≡ false → Outside (v ∷ vs) x b
-  out-later : {v : Var} {vs : List Var} {x : List ℕ} {b : ℤ} → (v .title ≡ x → ⊥) → Outside vs x b → Outside (v ∷ vs) x b
+  out-later : {v : Var} {vs : List Var} {x : List ℕ} {b : ℤ} → (v .title ≡ x → ⊥) → Outside vs x b
+      → Outside (v ∷ vs) x b
 
 -- a body that comes to such an assignment
 mutual
   pub data BlockFaults (vs : List Var) : Block → List ℤ → Type 0 where
     faults-first : {s : Stmt} {b : Block} {as′ : List ℤ} → StmtFaults vs s as′ → BlockFaults vs (then s b) as′
     faults-later :
-        {s : Stmt} {b : Block} {as′ bs : List ℤ} → StmtRuns vs s as′ bs → BlockFaults vs b bs → BlockFaults vs (then s b) as′
+        {s : Stmt} {b : Block} {as′ bs : List ℤ} → StmtRuns vs s as′ bs → BlockFaults vs b bs
+        → BlockFaults vs (then s b) as′
 
   pub data StmtFaults (vs : List Var) : Stmt → List ℤ → Type 0 where
-    assigns-outside : {x : List ℕ} {e : Expr} {as′ : List ℤ} → Outside vs x (exprValue vs as′ e) → StmtFaults vs (assign x e) as′
-    if-faults : {c : Cond} {b : Block} {as′ : List ℤ} → truth c vs as′ ≡ true → BlockFaults vs b as′ → StmtFaults vs (if-then c b) as′
+    assigns-outside : {x : List ℕ} {e : Expr} {as′ : List ℤ} → Outside vs x (exprValue vs as′ e)
+        → StmtFaults vs (assign x e) as′
+    if-faults : {c : Cond} {b : Block} {as′ : List ℤ} → truth c vs as′ ≡ true → BlockFaults vs b as′
+        → StmtFaults vs (if-then c b) as′
     then-faults :
-        {c : Cond} {a b : Block} {as′ : List ℤ} → truth c vs as′ ≡ true → BlockFaults vs a as′ → StmtFaults vs (if-else c a b) as′
+        {c : Cond} {a b : Block} {as′ : List ℤ} → truth c vs as′ ≡ true → BlockFaults vs a as′
+        → StmtFaults vs (if-else c a b) as′
     else-faults :
-        {c : Cond} {a b : Block} {as′ : List ℤ} → truth c vs as′ ≡ false → BlockFaults vs b as′ → StmtFaults vs (if-else c a b) as′
+        {c : Cond} {a b : Block} {as′ : List ℤ} → truth c vs as′ ≡ false → BlockFaults vs b as′
+        → StmtFaults vs (if-else c a b) as′
 
 -- A body that faults does not run
 
@@ -85,7 +93,8 @@ mutual
   stmt-runs-or-faults : {vs : List Var} (c : Stmt) (as′ : List ℤ) → State vs as′
       → ((bs : List ℤ) × StmtRuns vs c as′ bs) ⊎ StmtFaults vs c as′
   stmt-runs-or-faults {vs} (assign x e) as′ s =
-      ⊎-elim (λ t. inl (t .0, assigns (t .1))) (λ o. inr (assigns-outside o)) (assigns-or-outside s x (exprValue vs as′ e))
+      ⊎-elim (λ t. inl (t .0, assigns (t .1))) (λ o. inr (assigns-outside o))
+      (assigns-or-outside s x (exprValue vs as′ e))
   stmt-runs-or-faults {vs} (if-then c b) as′ s =
       split (truth c vs as′)
       (λ t. ⊎-elim (λ u. inl (u .0, if-true t (u .1))) (λ f. inr (if-faults t f)) (runs-or-faults b as′ s))

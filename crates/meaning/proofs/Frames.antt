@@ -1,5 +1,5 @@
--- A trace is its frames' lines, and 12 names the first line that is no frame: what `framesOf` gives, for all bytes, by cutting them at
--- each 0A.
+-- A trace is its frames' lines, and 12 names the first line that is no frame: what `framesOf` gives, for all bytes, by
+-- cutting them at each 0A.
 use Prim.Native.Nat.{ℕ, zero, suc, _+_, _*_, _<_}
 use native.Mathlib.Omega.{arith}
 use mathlib.Core.Path.{_≡_, refl, sym, ap, _∙_}
@@ -13,12 +13,14 @@ use lib.Dec.{eqb}
 use borrow.Author.Tests.{eqb-true, eq-eqb, ltb-true, lt-ltb}
 use Rattle.machine.specs.Monitor.{Frame}
 use Rattle.meaning.specs.Hex.{hex2}
-use Rattle.meaning.specs.Decide.Frames.{ended, unended, linesFrom, allHex, pairAt, isFrame, frameOf, Frames, frames, none-at, prepend, framesFrom, framesOf}
+use Rattle.meaning.specs.Decide.Frames.{ended, unended, linesFrom, allHex, pairAt, isFrame, frameOf, Frames}
+use Rattle.meaning.specs.Decide.Frames.{frames, none-at, prepend, framesFrom, framesOf}
 use Rattle.meaning.proofs.Digits.{two-digits, pair-digits, bit-digits, bit-back, back-bit}
 use Rattle.logic.specs.Tests.{bit}
 use Rattle.logic.proofs.Bools.{split, clash, both, and}
 use Rattle.logic.proofs.Bools.{different}
-use Rattle.meaning.specs.Trace.{FrameRecords, IsFrameRecord, NoFrameFirst, Stops, frameLine, linesOf, no-frame, one-frame}
+use Rattle.meaning.specs.Trace.{FrameRecords, IsFrameRecord, NoFrameFirst, Stops, frameLine, linesOf, no-frame}
+use Rattle.meaning.specs.Trace.{one-frame}
 
 -- a frame's line has seven bytes
 pub line-seven : (f : Frame) → length (frameLine f) ≡ 7
@@ -58,7 +60,8 @@ same-line [] (c ∷ b) x y h g e = clash (eq-eqb c 10 (cc)) (g .0)
 same-line (c ∷ a) [] x y h g e = clash (eq-eqb c 10 (cc)) (h .0)
 same-line (c ∷ a) (d ∷ b) x y h g e = let r = same-line a b x y (h .1) (g .1) (cc) in let p = r .0 in (cc, r .1)
 
-lines-through : (line begun more : List ℕ) → Free line → linesFrom begun (line ++ (10 ∷ more)) ≡ ended (reverse begun ++ line) ∷ linesFrom [] more
+lines-through : (line begun more : List ℕ) → Free line → linesFrom begun (line ++ (10 ∷ more))
+    ≡ ended (reverse begun ++ line) ∷ linesFrom [] more
 unfolding Free linesFrom
 lines-through [] begun more h = rw append-nil
 lines-through (b ∷ line) begun more h =
@@ -91,7 +94,9 @@ six-digits x y z h g f =
     let c = two-digits z f in
     record {
       free = (a .high-free, (a .low-free, (b .high-free, (b .low-free, (c .high-free, (c .low-free, tt))))));
-      hex = and (a .high-hex) (and (a .low-hex) (and (b .high-hex) (and (b .low-hex) (and (c .high-hex) (and (c .low-hex) refl)))));
+      hex =
+          and (a .high-hex)
+          (and (a .low-hex) (and (b .high-hex) (and (b .low-hex) (and (c .high-hex) (and (c .low-hex) refl)))));
       sixth = refl;
       first = a .value;
       second = b .value;
@@ -148,7 +153,8 @@ digits-read f (t, r) =
     let s = six-digits (f .thread) (f .region) (bit (f .flag)) (omega arith) r (omega arith) in (
       s .free,
       is-frame (digits f)
-          (and (and (and (eq-eqb _ _ (s .sixth)) (s .hex)) (rw (s .first) (lt-ltb (f .thread) 16 t))) (rw (s .third) (lt-ltb (bit (f .flag)) 2 (v .0))))
+          (and (and (and (eq-eqb _ _ (s .sixth)) (s .hex)) (rw (s .first) (lt-ltb (f .thread) 16 t)))
+          (rw (s .third) (lt-ltb (bit (f .flag)) 2 (v .0))))
           ∙ rw (s .first, s .second, s .third, v .1),
     )
 
@@ -165,7 +171,8 @@ read-digits bs h =
 -- How bytes begin: there are none, or a frame's line, or neither
 
 line-back : (line more : List ℕ) → isFrame line ≡ true → line ++ (10 ∷ more) ≡ frameLine (frameAt line) ++ more
-line-back line more h = ap (λ (l : List ℕ). l ++ (10 ∷ more)) (read-digits line h .1) ∙ sym (line-digits (frameAt line) more)
+line-back line more h = ap (λ (l : List ℕ). l ++ (10 ∷ more)) (read-digits line h .1)
+    ∙ sym (line-digits (frameAt line) more)
 
 ends : (a x : List ℕ) → Free (a ++ (10 ∷ x)) → ⊥
 unfolding Free
@@ -266,7 +273,8 @@ lines-stop k rest (one-frame {f = f} {fs = fs} h r) n =
     rw (append-assoc, line-first k f (linesOf fs ++ rest) h, lines-stop (k + 1) rest r n) (ap none-at (omega arith))
 
 -- "A trace has one frame a line": exactly the lines of frames are read whole
-pub frames-read : (trace : List ℕ) (fs : List Frame) → (framesOf trace ≡ frames fs) ↔ (FrameRecords fs × (trace ≡ linesOf fs))
+pub frames-read : (trace : List ℕ) (fs : List Frame)
+    → (framesOf trace ≡ frames fs) ↔ (FrameRecords fs × (trace ≡ linesOf fs))
 unfolding framesOf
 frames-read trace fs =
     ((λ e. rw e at (reads (suc (length trace)) 0 trace (omega arith))), λ p. rw (p .1) (lines-read 0 (p .0)))
@@ -275,6 +283,7 @@ frames-read trace fs =
 pub frames-stop : (trace : List ℕ) (k : ℕ) → (framesOf trace ≡ none-at k) ↔ Stops trace k
 unfolding framesOf
 frames-stop trace k = (
-  λ e. let (i, c, s) = rw e at (reads (suc (length trace)) 0 trace (omega arith)) in let q : i ≡ k = omega arith in rw q at s,
+  λ e. let (i, c, s) = rw e at (reads (suc (length trace)) 0 trace (omega arith)) in let q : i ≡ k = omega arith in
+      rw q at s,
   λ s. rw (s .whole) (lines-stop 0 (s .rest) (s .records) (s .first) ∙ ap none-at (let c = s .count in omega arith)),
 )

@@ -1,5 +1,5 @@
--- Refusal 4's place: the tokens left where reading stops begin with the first token after which no file of the grammar can follow,
--- and there are none where the file ends early.
+-- Refusal 4's place: the tokens left where reading stops begin with the first token after which no file of the grammar
+-- can follow, and there are none where the file ends early.
 use Prim.Native.Nat.{ℕ, suc, _-_}
 use native.Mathlib.Omega.{arith}
 use mathlib.Core.Path.{_≡_, refl, sym, ap, _∙_}
@@ -37,7 +37,14 @@ cut ts [] ls e = record { front = []; back = ts; whole = refl; passed = refl; le
 cut [] (l ∷ pre) ls e = different (cc)
 cut (t ∷ ts) (l ∷ pre) ls e =
     let c : Cut ts pre ls = cut ts pre ls (cc) in
-    record { front = t ∷ c .front; back = c .back; whole = ap (λ (us : List Token). t ∷ us) (c .whole); passed = cc; left = c .left }
+    record {
+      front = t ∷ c .front;
+      back = c .back;
+      whole = ap (λ (us : List Token). t ∷ us) (c .whole);
+      passed =
+          cc;
+      left = c .left;
+    }
 
 pub left-is : (ts : List Token) (pre ls : List Lexeme) (c : Cut ts pre ls) → leftOf ts ls ≡ c .back
 unfolding leftOf
@@ -56,7 +63,8 @@ viable-none ts v before after t e stop =
     (rw (← (lexemes-append (before ++ (t ∷ [])) after), append-assoc, ← e) v))
 
 -- what was read can be gone on with, and not with the lexeme that comes next
-pub place-first : (end : ℕ) (ts : List Token) (pre : List Lexeme) (l : Lexeme) (ls : List Lexeme) → lexemes ts ≡ pre ++ (l ∷ ls)
+pub place-first : (end : ℕ) (ts : List Token) (pre : List Lexeme) (l : Lexeme) (ls : List Lexeme)
+    → lexemes ts ≡ pre ++ (l ∷ ls)
     → Viable pre → (Viable (pre ++ (l ∷ [])) → ⊥) → FirstOffends NoFile ts (placeOf end (leftOf ts (l ∷ ls)))
 unfolding FirstOffends NoFile lexemes placeOf
 place-first end ts pre l ls e v stop =
@@ -67,10 +75,18 @@ place-first end ts pre l ls e v stop =
         → leftOf ts (l ∷ ls) ≡ back → FirstOffends NoFile ts (placeOf end (leftOf ts (l ∷ ls)))
     go front [] w p q r = different (cc)
     go front (t ∷ back) w p q r =
-        let same : t .lexeme ≡ l = cc in
-        (front, back, t, w, (λ u. stop (rw (lexemes-append front (t ∷ []), p, same) at u)), sym (ap (placeOf end) r), viable-none front (rw p v))
+        let same : t .lexeme ≡ l = cc in (
+          front,
+          back,
+          t,
+          w,
+          (λ u. stop (rw (lexemes-append front (t ∷ []), p, same) at u)),
+          sym (ap (placeOf end) r),
+          viable-none front (rw p v),
+        )
 
 -- the file ends early
-pub place-end : (end : ℕ) (ts : List Token) → Viable (lexemes ts) → (placeOf end (leftOf ts []) ≡ end) × NoneOffends NoFile ts
+pub place-end : (end : ℕ) (ts : List Token) → Viable (lexemes ts) → (placeOf end (leftOf ts []) ≡ end)
+    × NoneOffends NoFile ts
 unfolding leftOf placeOf
 place-end end ts v = (rw (drop-of-length-le ts {i = length ts - 0} (omega arith)), viable-none ts v)

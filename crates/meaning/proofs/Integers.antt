@@ -1,11 +1,13 @@
--- Whole numbers, as the ranges need them: an order between two is a natural distance, and a value in a range is its lowest and a natural number below its size.
+-- Whole numbers, as the ranges need them: an order between two is a natural distance, and a value in a range is its
+-- lowest and a natural number below its size.
 use Prim.Native.Nat.{ℕ, zero, suc, _+_, _-_, _<_}
 use native.Mathlib.Omega.{arith}
 use mathlib.Core.Path.{_≡_, refl, sym, ap, _∙_}
 use mathlib.Core.Bool.{Bool, true, false, not, cond, true≢false, false≢true}
 use mathlib.Core.Logic.{_↔_}
 use lib.Dec.{ltb}
-use lib.IntN.{ℤ, pos, negsuc, negℤ, natAbs, _+ℤ_, _-ℤ_, +ℤ-assoc, +ℤ-comm, +ℤ-invr, +ℤ-idl, +ℤ-idr, negℤ-negℤ, +ℤ-negℤ-cancel, -ℤ-+ℤ-cancel, negℤ-+ℤ}
+use lib.IntN.{ℤ, pos, negsuc, negℤ, natAbs, _+ℤ_, _-ℤ_, +ℤ-assoc, +ℤ-comm, +ℤ-invr, +ℤ-idl, +ℤ-idr, negℤ-negℤ}
+use lib.IntN.{+ℤ-negℤ-cancel, -ℤ-+ℤ-cancel, negℤ-+ℤ}
 use borrow.Author.Tests.{ltb-false, le-ltb, lt-ltb}
 use Rattle.syntax.specs.Tree.{eq, Var}
 use Rattle.meaning.specs.Value.{intOf, negative, less, compares, inRange}
@@ -111,7 +113,8 @@ compares-eq-iff a b = (
 
 module _ (v : Var) (ordered : less (intOf (v .high)) (intOf (v .low)) ≡ false) where
   -- of a value some way up from the lowest, the test against the highest is one against the size
-  below-high : (n : ℕ) → less (intOf (v .high)) (intOf (v .low) +ℤ pos n) ≡ ltb (natAbs (intOf (v .high) -ℤ intOf (v .low))) n
+  below-high : (n : ℕ) → less (intOf (v .high)) (intOf (v .low) +ℤ pos n)
+      ≡ ltb (natAbs (intOf (v .high) -ℤ intOf (v .low))) n
   below-high n =
       ap (λ z. less z (intOf (v .low) +ℤ pos n)) (up-of-not-less (intOf (v .low)) (intOf (v .high)) ordered)
       ∙ up-less (intOf (v .low)) (natAbs (intOf (v .high) -ℤ intOf (v .low))) n

@@ -16,7 +16,8 @@ use Rattle.meaning.specs.Refusal.{FirstBroken, FirstIllRanged}
 -- the verdicts of a tree, by its tokens
 pub data Judged (ts : List Token) (m : Monitor) : Verdict → Type 0 where
   sound : Sound m → Judged ts m (accepted m)
-  ill-ranged : {i : ℕ} → FirstIllRanged (all (m .vars)) i → Judged ts m (refused (answer 7 (getD (placesOf k-var ts) i 0) 0))
+  ill-ranged : {i : ℕ} → FirstIllRanged (all (m .vars)) i
+      → Judged ts m (refused (answer 7 (getD (placesOf k-var ts) i 0) 0))
   start-not-kept :
       GoodRanges (all (m .vars)) → count (all (m .vars)) ≤ 4096 → keptAt m (starts (all (m .vars))) ≡ false
       → Judged ts m (refused (answer 8 (getD (placesOf k-keep ts) 0 0) 0))

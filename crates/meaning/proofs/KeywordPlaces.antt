@@ -1,5 +1,5 @@
--- The places of 7 and 8: in a file that spells a tree, the i-th `var` is that of variable i, and the one `keep` that of the kept
--- condition. By counting a keyword in what stands before it.
+-- The places of 7 and 8: in a file that spells a tree, the i-th `var` is that of variable i, and the one `keep` that of
+-- the kept condition. By counting a keyword in what stands before it.
 use Prim.Native.Nat.{ℕ, suc, _+_}
 use native.Mathlib.Omega.{arith}
 use native.Mathlib.Nat.{zero-add, suc-add}
@@ -8,8 +8,10 @@ use mathlib.Core.Bool.{true, false}
 use mathlib.Core.List.{List, [], _∷_, _++_, append-assoc, append-nil}
 use lib.ListN.{length, getD, drop}
 use lib.Seq.{getD-at}
-use Rattle.syntax.specs.Token.{Lexeme, name, key, mark, lbrace, rbrace, semicolon, Keyword, k-monitor, k-var, k-keep, Token, lexemes, isKey, keywordNumber}
-use Rattle.syntax.specs.Tree.{Int, plain, negated, Var, Monitor, all, spellInt, each, spellVar, spellCond, spellMethod, spell}
+use Rattle.syntax.specs.Token.{Lexeme, name, key, mark, lbrace, rbrace, semicolon, Keyword, k-monitor, k-var, k-keep}
+use Rattle.syntax.specs.Token.{Token, lexemes, isKey, keywordNumber}
+use Rattle.syntax.specs.Tree.{Int, plain, negated, Var, Monitor, all, spellInt, each, spellVar, spellCond, spellMethod}
+use Rattle.syntax.specs.Tree.{spell}
 use Rattle.meaning.specs.Decide.Check.{placesOf}
 use Rattle.logic.proofs.Bools.{split}
 use Rattle.logic.proofs.Bools.{different}
@@ -27,7 +29,8 @@ pub times-append : (k : Keyword) (as′ bs : List Lexeme) → times k (as′ ++ 
 unfolding times
 times-append k [] bs = sym (zero-add (times k bs))
 times-append k (l ∷ as′) bs =
-    split (isKey k l) (λ h. cc (times-append k as′ bs, suc-add (times k as′) (times k bs))) (λ h. cc (times-append k as′ bs))
+    split (isKey k l) (λ h. cc (times-append k as′ bs, suc-add (times k as′) (times k bs)))
+    (λ h. cc (times-append k as′ bs))
 
 places-times : (k : Keyword) (ts : List Token) → length (placesOf k ts) ≡ times k (lexemes ts)
 unfolding times placesOf lexemes
@@ -63,7 +66,8 @@ stands k ts pre ls e =
           keyword = is;
           place =
               rw (w, places-append k front (t ∷ back), first)
-              (sym (getD-at (placesOf k front) (t .at) (placesOf k back) 0 (times k pre) (places-times k front ∙ ap (times k) p)));
+              (sym (getD-at (placesOf k front) (t .at) (placesOf k back) 0 (times k pre)
+              (places-times k front ∙ ap (times k) p)));
         }
 
 -- In what a variable spells
@@ -138,7 +142,8 @@ module _ (ts : List Token) (m : Monitor) (spelt : lexemes ts ≡ spell m) where
   var-place before v after e =
       rw (up-to-var m before) at
       (stands k-var ts (upTo m before) (drop 1 (each spellVar (v ∷ after) ++ (key k-keep ∷ behindKeep m)))
-      (spelt ∙ spell-from m before (v ∷ after) e ∙ ap (λ ls. upTo m before ++ ls) (begins v after (key k-keep ∷ behindKeep m))))
+      (spelt ∙ spell-from m before (v ∷ after) e ∙ ap (λ ls. upTo m before ++ ls)
+      (begins v after (key k-keep ∷ behindKeep m))))
 
   -- 8: "byte of `keep`"
   pub keep-place : Stands ts (upTo m (all (m .vars))) k-keep (getD (placesOf k-keep ts) 0 0)

@@ -1,4 +1,5 @@
--- Refusals 3, 5 and 6 name the first token that offends: one law for a pass that carries a summary of the tokens before, used three times.
+-- Refusals 3, 5 and 6 name the first token that offends: one law for a pass that carries a summary of the tokens
+-- before, used three times.
 use Prim.Native.Nat.{ℕ, suc, _+_, _≤_}
 use native.Mathlib.Omega.{arith}
 use mathlib.Core.Path.{_≡_, refl, sym, ap, _∙_}
@@ -10,10 +11,12 @@ use lib.ListN.{length, length-append}
 use lib.Seq.{append-snoc}
 use lib.Dec.{leb}
 use Rattle.syntax.specs.Bytes.{sameBytes}
-use Rattle.syntax.specs.Token.{Lexeme, name, key, number, mark, Keyword, k-monitor, k-var, k-method, k-waituntil, Token, isKey}
+use Rattle.syntax.specs.Token.{Lexeme, name, key, number, mark, Keyword, k-monitor, k-var, k-method, k-waituntil, Token}
+use Rattle.syntax.specs.Token.{isKey}
 use Rattle.meaning.specs.Accepted.{opens, closes}
 use Rattle.meaning.specs.Decide.Check.{tally, crowded, pastLimit, member, misnamed}
-use Rattle.meaning.specs.Accepted.{NoneOffends, FirstOffends, howMany, Crowded, PastLimit, Behind, Declared, Misnamed}
+use Rattle.meaning.specs.Accepted.{NoneOffends, FirstOffends, howMany, Crowded, PastLimit, Behind, Declared}
+use Rattle.meaning.specs.Accepted.{Misnamed}
 use Rattle.logic.proofs.Bools.{split, clash}
 use Rattle.logic.proofs.Bools.{different, Decides, decides-and, decides-or, decides-by, decides-leb}
 use Rattle.syntax.proofs.Lexemes.{decides-same, decides-key}
@@ -42,11 +45,13 @@ no-more [] t a e = different (cc)
 no-more (x ∷ c) t a e = different (cc)
 
 -- a place in a list with one more token is the last, or a place in the list
-last-or-before : (b : List Token) (t : Token) (b₂ : List Token) (t₂ : Token) (a₂ : List Token) → b ++ (t ∷ []) ≡ b₂ ++ (t₂ ∷ a₂)
+last-or-before : (b : List Token) (t : Token) (b₂ : List Token) (t₂ : Token) (a₂ : List Token)
+    → b ++ (t ∷ []) ≡ b₂ ++ (t₂ ∷ a₂)
     → ((b ≡ b₂) × (t ≡ t₂)) ⊎ ((c : List Token) × (b ≡ b₂ ++ (t₂ ∷ c)) × (a₂ ≡ c ++ (t ∷ [])))
 last-or-before b t b₂ t₂ a₂ e = go (places b t [] b₂ t₂ a₂ e)
   where
-    go : Places b t [] b₂ t₂ a₂ → ((b ≡ b₂) × (t ≡ t₂)) ⊎ ((c : List Token) × (b ≡ b₂ ++ (t₂ ∷ c)) × (a₂ ≡ c ++ (t ∷ [])))
+    go : Places b t [] b₂ t₂ a₂
+        → ((b ≡ b₂) × (t ≡ t₂)) ⊎ ((c : List Token) × (b ≡ b₂ ++ (t₂ ∷ c)) × (a₂ ≡ c ++ (t ∷ [])))
     go (together p q) = inl (p, q)
     go (earlier c p q) = absurd (no-more c t₂ a₂ q)
     go (later c p q) = inr (c, p, q)
@@ -112,7 +117,8 @@ module _ {S : Type 0} {Offends : List Token → Token → Type 0} (p : Pass S Of
       (none-more Offends before t n (λ o. clash (p .decides s before t sums .1 o) h))))
 
   law : (s : S) (ts : List Token) → p .Sums s []
-      → ((k : ℕ) → (p .find s ts ≡ some k) ↔ FirstOffends Offends ts k) × ((p .find s ts ≡ none) ↔ NoneOffends Offends ts)
+      → ((k : ℕ) → (p .find s ts ≡ some k) ↔ FirstOffends Offends ts k)
+      × ((p .find s ts ≡ none) ↔ NoneOffends Offends ts)
   unfolding NoneOffends
   law s ts sums = exactly Offends (p .find s ts) ts (finds-from ts [] s sums (λ b a t e o. no-more b t a e))
 
@@ -123,7 +129,8 @@ unfolding tally
 tally-suc true n = omega arith
 tally-suc false n = refl
 
-more-of : (p : Lexeme → Bool) (before : List Token) (t : Token) → howMany p (before ++ (t ∷ [])) ≡ tally (p (t .lexeme)) (howMany p before)
+more-of : (p : Lexeme → Bool) (before : List Token) (t : Token) → howMany p (before ++ (t ∷ []))
+    ≡ tally (p (t .lexeme)) (howMany p before)
 unfolding howMany tally
 more-of p [] t = split (p (t .lexeme)) (λ h. rw (h, howMany)) (λ h. rw (h, howMany))
 more-of p (u ∷ before) t = split (p (u .lexeme))
@@ -145,7 +152,8 @@ crowding =
       goes-on = λ s before t h. rw (h, length-append, more-of opens, more-of closes);
       decides = λ s before t h. rw h (decides-or _ _ (decides-leb 1024 (length before))
           (decides-and _ _ ((λ e. e), λ e. e)
-          (decides-by ((λ e. omega arith), λ e. omega arith) (decides-leb (howMany closes before + 12) (howMany opens before)))));
+          (decides-by ((λ e. omega arith), λ e. omega arith)
+          (decides-leb (howMany closes before + 12) (howMany opens before)))));
     }
 
 pub crowded-first : (ts : List Token) (k : ℕ) → (crowded 0 0 0 ts ≡ some k) ↔ FirstOffends Crowded ts k
@@ -165,18 +173,27 @@ limiting =
       find = λ s ts. pastLimit (s .0) (s .1) (s .2) ts;
       test = λ s t. (isKey k-var (t .lexeme) && leb 6 (s .0)) || (isKey k-method (t .lexeme) && leb 8 (s .1))
           || (isKey k-waituntil (t .lexeme) && leb 16 (s .2));
-      update = λ s t.
-          (tally (isKey k-var (t .lexeme)) (s .0), tally (isKey k-method (t .lexeme)) (s .1), tally (isKey k-waituntil (t .lexeme)) (s .2));
-      Sums = λ s before. s ≡ (howMany (isKey k-var) before, howMany (isKey k-method) before, howMany (isKey k-waituntil) before);
+      update = λ s t. (
+        tally (isKey k-var (t .lexeme)) (s .0),
+        tally (isKey k-method (t .lexeme)) (s .1),
+        tally (isKey k-waituntil (t .lexeme)) (s .2),
+      );
+      Sums = λ s before. s ≡ (
+        howMany (isKey k-var) before,
+        howMany (isKey k-method) before,
+        howMany (isKey k-waituntil) before,
+      );
       at-end = λ s. refl;
       at-token = λ s t ts. refl;
       goes-on = λ s before t h. rw (h, more-of (isKey k-var), more-of (isKey k-method), more-of (isKey k-waituntil));
       decides = λ s before t h. rw (h, or-assoc)
-          (decides-or _ _ (past k-var 6 before t) (decides-or _ _ (past k-method 8 before t) (past k-waituntil 16 before t)));
+          (decides-or _ _ (past k-var 6 before t)
+          (decides-or _ _ (past k-method 8 before t) (past k-waituntil 16 before t)));
     }
   where
     past : (k : Keyword) (n : ℕ) (before : List Token) (t : Token)
-        → Decides (isKey k (t .lexeme) && leb n (howMany (isKey k) before)) ((t .lexeme ≡ key k) × (n ≤ howMany (isKey k) before))
+        → Decides (isKey k (t .lexeme) && leb n (howMany (isKey k) before))
+        ((t .lexeme ≡ key k) × (n ≤ howMany (isKey k) before))
     past k n before t = decides-and _ _ (decides-key k (t .lexeme)) (decides-leb n (howMany (isKey k) before))
 
 pub past-first : (ts : List Token) (k : ℕ) → (pastLimit 0 0 0 ts ≡ some k) ↔ FirstOffends PastLimit ts k
@@ -193,7 +210,8 @@ behind-more : (k : Keyword) (before : List Token) (t : Token) → (t .lexeme ≡
 unfolding Behind
 behind-more k before t = ((λ e. (before, t, refl, e)), back)
   where
-    back : (front : List Token) × (u : Token) × (before ++ (t ∷ []) ≡ front ++ (u ∷ [])) × (u .lexeme ≡ key k) → t .lexeme ≡ key k
+    back : (front : List Token) × (u : Token) × (before ++ (t ∷ []) ≡ front ++ (u ∷ [])) × (u .lexeme ≡ key k)
+        → t .lexeme ≡ key k
     back (front, u, e, h) = ⊎-elim
         (λ p. ap (λ (v : Token). v .lexeme) (p .1) ∙ h)
         (λ p. absurd (no-more (p .0) t [] (p .2)))
@@ -221,7 +239,8 @@ declare b (key k) xs = xs
 declare b (number n) xs = xs
 declare b (mark m) xs = xs
 
-declares : {D U : Type 0} (b : Bool) (l : Lexeme) (xs : List (List ℕ)) (x : List ℕ) → Decides (member x xs) D → Decides b U
+declares : {D U : Type 0} (b : Bool) (l : Lexeme) (xs : List (List ℕ)) (x : List ℕ) → Decides (member x xs) D
+    → Decides b U
     → Decides (member x (declare b l xs)) (D ⊎ (U × (l ≡ name x)))
 unfolding declare member
 declares true (name y) xs x d v = decides-by
@@ -236,7 +255,8 @@ declares b (mark m) xs x d v = decides-by (inl, ⊎-elim (λ h. h) (λ p. differ
 wrong : Bool → Bool → Bool → Bool → Bool → Bool
 wrong v m o a b = elim v [ true ↦ a | false ↦ elim m [ true ↦ b | false ↦ not (o || a) ] ]
 
-wrong-decides : {U M O A B : Type 0} (v m o a b : Bool) → Decides v U → Decides m M → Decides o O → Decides a A → Decides b B
+wrong-decides : {U M O A B : Type 0} (v m o a b : Bool) → Decides v U → Decides m M → Decides o O → Decides a A
+    → Decides b B
     → (U → M → ⊥) → Decides (wrong v m o a b) ((U × A) ⊎ (M × B) ⊎ ((U → ⊥) × (M → ⊥) × (O → ⊥) × (A → ⊥)))
 unfolding wrong
 wrong-decides true m o a b U M O A B one = (
@@ -256,7 +276,12 @@ wrong-decides false false false true b U M O A B one = (
   ⊎-elim (λ p. U .1 (p .0)) (⊎-elim (λ p. M .1 (p .0)) (λ p. absurd (p .3 (A .0 refl)))),
 )
 wrong-decides false false false false b U M O A B one = (
-  (λ h. inr (inr (λ q. false≢true (U .1 q), λ q. false≢true (M .1 q), λ q. false≢true (O .1 q), λ q. false≢true (A .1 q)))),
+  (λ h. inr (inr (
+    λ q. false≢true (U .1 q),
+    λ q. false≢true (M .1 q),
+    λ q. false≢true (O .1 q),
+    λ q. false≢true (A .1 q),
+  ))),
   λ p. refl,
 )
 
@@ -265,7 +290,8 @@ abbrev Summary : Type 0
 Summary = Lexeme × List (List ℕ) × List (List ℕ)
 
 wrongly : Summary → Lexeme → Bool
-wrongly s (name x) = wrong (isKey k-var (s .0)) (isKey k-method (s .0)) (isKey k-monitor (s .0)) (member x (s .1)) (member x (s .2))
+wrongly s (name x) = wrong (isKey k-var (s .0)) (isKey k-method (s .0)) (isKey k-monitor (s .0)) (member x (s .1))
+    (member x (s .2))
 wrongly s (key k) = false
 wrongly s (number n) = false
 wrongly s (mark m) = false
@@ -283,7 +309,8 @@ record Names (s : Summary) (before : List Token) : Type 0 where
   methods : (x : List ℕ) → Decides (member x (s .2)) (Declared k-method x before)
 
 -- the cases of `misnamed` at a name, in order
-picked : (v m o a b : Bool) → (v ≡ true → m ≡ true → ⊥) → (found : Option ℕ) (next : List (List ℕ) → List (List ℕ) → Option ℕ)
+picked : (v m o a b : Bool) → (v ≡ true → m ≡ true → ⊥)
+    → (found : Option ℕ) (next : List (List ℕ) → List (List ℕ) → Option ℕ)
     (x : List ℕ) (vs ms : List (List ℕ))
     → _≡_ {A = Option ℕ}
     (elim v [
@@ -312,12 +339,17 @@ unfolding misnamed wrongly named declare
 finds s at (key k) ts = refl
 finds s at (number n) ts = refl
 finds s at (mark m) ts = refl
-finds s at (name x) ts = picked _ _ _ _ _ (one-keyword (s .0)) (some at) (λ vs ms. misnamed (name x) vs ms ts) x (s .1) (s .2)
+finds s at (name x) ts = picked _ _ _ _ _ (one-keyword (s .0)) (some at) (λ vs ms. misnamed (name x) vs ms ts) x (s .1)
+    (s .2)
 
 judges : (s : Summary) (before : List Token) (t : Token) (l : Lexeme) → Names s before → t .lexeme ≡ l
     → Decides (wrongly s l) (Misnamed before t)
 unfolding wrongly Misnamed
-judges s before t (name x) n e = decides-by ((λ p. (x, e, p)), λ p. let f = p .1 in let q : p .0 ≡ x = cc in rw q at (p .2))
+judges s before t (name x) n e = decides-by (
+  (λ p. (x, e, p)),
+  λ p. let f = p .1 in let q : p .0 ≡ x = cc in
+      rw q at (p .2),
+)
     (wrong-decides _ _ _ _ _ (n .last k-var) (n .last k-method) (n .last k-monitor) (n .vars x) (n .methods x)
     (λ v m. one-keyword (s .0) (n .last k-var .1 v) (n .last k-method .1 m)))
 judges s before t (key k) n e = ((λ h. absurd (false≢true h)), λ p. let f = p .1 in cc)
@@ -336,8 +368,12 @@ naming =
       goes-on = λ s before t n. unfold named in
           record {
             last = λ k. decides-by (behind-more k before t) (decides-key k (t .lexeme));
-            vars = λ x. decides-by (declared-more k-var x before t) (declares _ (t .lexeme) (s .1) x (n .vars x) (n .last k-var));
-            methods = λ x. decides-by (declared-more k-method x before t) (declares _ (t .lexeme) (s .2) x (n .methods x) (n .last k-method));
+            vars =
+                λ x. decides-by (declared-more k-var x before t)
+                (declares _ (t .lexeme) (s .1) x (n .vars x) (n .last k-var));
+            methods =
+                λ x. decides-by (declared-more k-method x before t)
+                (declares _ (t .lexeme) (s .2) x (n .methods x) (n .last k-method));
           };
       decides = λ s before t n. judges s before t (t .lexeme) n refl;
     }

@@ -1,4 +1,5 @@
--- Where methods begin and go on among the regions, which "run on across methods": the tests of a region's number, by induction on the methods.
+-- Where methods begin and go on among the regions, which "run on across methods": the tests of a region's number, by
+-- induction on the methods.
 use Prim.Native.Nat.{ℕ, _+_, _-_, _≤_, _<_}
 use native.Mathlib.Omega.{arith}
 use native.Mathlib.Nat.{zero-add}
@@ -27,7 +28,8 @@ unfolding regionsOf
 first-method x ms r h =
     record { before = []; method = x; after = ms; parts = refl; number = omega arith; within = h }
 
-later-method : (x : Method) (ms : List Method) (r i : ℕ) → InMethod ms r i → InMethod (x ∷ ms) (length (all (x .regions)) + r) i
+later-method : (x : Method) (ms : List Method) (r i : ℕ) → InMethod ms r i
+    → InMethod (x ∷ ms) (length (all (x .regions)) + r) i
 unfolding regionsOf
 later-method x ms r i t =
     let sum = length-append (all (x .regions)) (regionsOf (t .before)) in
@@ -59,7 +61,8 @@ rest-below x ms r high h = let sum = length-append (all (x .regions)) (regionsOf
 pub in-method : (ms : List Method) (r : ℕ) → r < length (regionsOf ms) → (i : ℕ) × InMethod ms r i
 in-method [] r h = no-regions r h
 in-method (x ∷ ms) r h =
-    split (ltb r (length (all (x .regions)))) (λ low. (r, first-method x ms r (ltb-true r (length (all (x .regions))) low)))
+    split (ltb r (length (all (x .regions))))
+    (λ low. (r, first-method x ms r (ltb-true r (length (all (x .regions))) low)))
     (λ past. let high = ltb-false r (length (all (x .regions))) past in
     past-method x ms r high (in-method ms (r - length (all (x .regions))) (rest-below x ms r high h)))
 
@@ -69,7 +72,8 @@ begins-first : (x : Method) (ms : List Method) (i : ℕ) → i < length (all (x 
 unfolding beginsIn
 begins-first x ms i h = cc (lt-leb (length (all (x .regions))) i h, or-false (eqb i 0))
 
-begins-step : (x : Method) (ms : List Method) (r : ℕ) → beginsIn (x ∷ ms) (length (all (x .regions)) + r) ≡ beginsIn ms r
+begins-step : (x : Method) (ms : List Method) (r : ℕ) → beginsIn (x ∷ ms) (length (all (x .regions)) + r)
+    ≡ beginsIn ms r
 unfolding beginsIn
 begins-step x ms r =
     let size = length (all (x .regions)) in
@@ -81,7 +85,8 @@ goes-on-first : (x : Method) (ms : List Method) (i : ℕ) → i < length (all (x
 unfolding goesOnIn
 goes-on-first x ms i h = cc (lt-ltb i (length (all (x .regions))) h)
 
-goes-on-step : (x : Method) (ms : List Method) (r : ℕ) → goesOnIn (x ∷ ms) (length (all (x .regions)) + r) ≡ goesOnIn ms r
+goes-on-step : (x : Method) (ms : List Method) (r : ℕ) → goesOnIn (x ∷ ms) (length (all (x .regions)) + r)
+    ≡ goesOnIn ms r
 unfolding goesOnIn
 goes-on-step x ms r =
     let size = length (all (x .regions)) in
@@ -91,19 +96,23 @@ goes-on-step x ms r =
 -- a test that passes over methods says of a region what it says of the region's number in its method
 module _ (test : List Method → ℕ → Bool)
     (step : (x : Method) (ms : List Method) (r : ℕ) → test (x ∷ ms) (length (all (x .regions)) + r) ≡ test ms r) where
-  at-method : (before : List Method) (ms : List Method) (i : ℕ) → test (before ++ ms) (length (regionsOf before) + i) ≡ test ms i
+  at-method : (before : List Method) (ms : List Method) (i : ℕ) → test (before ++ ms) (length (regionsOf before) + i)
+      ≡ test ms i
   unfolding regionsOf
   at-method [] ms i = rw zero-add
   at-method (x ∷ before) ms i =
       let sum = length-append (all (x .regions)) (regionsOf before) in
-      let parts : length (all (x .regions) ++ regionsOf before) + i ≡ length (all (x .regions)) + (length (regionsOf before) + i) =
+      let parts : length (all (x .regions) ++ regionsOf before) + i
+      ≡ length (all (x .regions)) + (length (regionsOf before) + i) =
       omega arith in
-      ap (test (x ∷ (before ++ ms))) parts ∙ step x (before ++ ms) (length (regionsOf before) + i) ∙ at-method before ms i
+      ap (test (x ∷ (before ++ ms))) parts ∙ step x (before ++ ms) (length (regionsOf before) + i)
+      ∙ at-method before ms i
 
   in-its-method : {ms : List Method} {r i : ℕ} (t : InMethod ms r i) → test ms r ≡ test (t .method ∷ t .after) i
   in-its-method {i = i} t = rw (t .parts, t .number) (at-method (t .before) (t .method ∷ t .after) i)
 
-  past-methods : (ms : List Method) (r : ℕ) → length (regionsOf ms) ≤ r → test ms r ≡ test [] (r - length (regionsOf ms))
+  past-methods : (ms : List Method) (r : ℕ) → length (regionsOf ms) ≤ r
+      → test ms r ≡ test [] (r - length (regionsOf ms))
   past-methods ms r h =
       let back : length (regionsOf ms) + (r - length (regionsOf ms)) ≡ r = omega arith in
       rw (append-nil, back) at (at-method ms [] (r - length (regionsOf ms)))

@@ -1,4 +1,5 @@
--- What the check of a file gives its monitor freed from syntax: kept states stay kept, a guard's number stands for the guard, and no body leaves its thread waiting.
+-- What the check of a file gives its monitor freed from syntax: kept states stay kept, a guard's number stands for the
+-- guard, and no body leaves its thread waiting.
 use Prim.Native.Nat.{ℕ, zero, suc, _+_, _≤_, _<_}
 use native.Mathlib.Omega.{arith}
 use mathlib.Core.Path.{_≡_, refl, sym, ap, subst, _∙_}
@@ -16,7 +17,8 @@ use Rattle.machine.specs.Decide.Step.{isWaiting}
 use Rattle.meaning.specs.Value.{truth}
 use Rattle.meaning.specs.State.{count, stateAt, numberOf}
 use Rattle.meaning.specs.Kept.{keptAt}
-use Rattle.meaning.specs.Model.{sameGuard, placeIn, guardsOf, goesOnIn, noGuard, noRegion, numberAfter, vars, regions, guards, region, guardOf, holds, kept, after, follows}
+use Rattle.meaning.specs.Model.{sameGuard, placeIn, guardsOf, goesOnIn, noGuard, noRegion, numberAfter, vars}
+use Rattle.meaning.specs.Model.{regions, guards, region, guardOf, holds, kept, after, follows}
 use Rattle.meaning.specs.Accepted.{State, Keeps, Meets, IsRegion, Sound}
 use Rattle.logic.proofs.Bools.{both, and, split, clash, no-some}
 use Rattle.logic.proofs.Bools.{Decides, different}
@@ -64,7 +66,8 @@ pub place-append : (c : Cond) (ds es : List Cond) → Found c ds → placeIn c (
 place-append c [] es h = absurd (omega arith)
 place-append c (d ∷ ds) es h =
     split (sameGuard c d) (λ e. place-here c d (ds ++ es) e ∙ sym (place-here c d ds e))
-    (λ e. place-later c d (ds ++ es) e ∙ ap suc (place-append c ds es (found-tail c d ds e h)) ∙ sym (place-later c d ds e))
+    (λ e. place-later c d (ds ++ es) e ∙ ap suc (place-append c ds es (found-tail c d ds e h))
+    ∙ sym (place-later c d ds e))
 
 pub found-append : (c : Cond) (ds es : List Cond) → Found c ds → Found c (ds ++ es)
 found-append c ds es h = let p = place-append c ds es h in let l = length-append ds es in omega arith
@@ -79,7 +82,8 @@ place-last c (d ∷ ds) h =
 
 -- The guards of some regions, behind those found before
 
-pub known : (found : List Cond) (r : Region) (rs : List Region) → Found (r .guard) found → guardsOf found (r ∷ rs) ≡ guardsOf found rs
+pub known : (found : List Cond) (r : Region) (rs : List Region) → Found (r .guard) found → guardsOf found (r ∷ rs)
+    ≡ guardsOf found rs
 unfolding guardsOf
 known found r rs h = cc (lt-ltb (placeIn (r .guard) found) (length found) h)
 
@@ -94,13 +98,15 @@ known-or-new c ds f g =
     (λ h. g (ltb-false (placeIn c ds) (length ds) h))
 
 -- the guards found before keep their places
-place-kept : (c : Cond) (found : List Cond) (rs : List Region) → Found c found → placeIn c (guardsOf found rs) ≡ placeIn c found
+place-kept : (c : Cond) (found : List Cond) (rs : List Region) → Found c found → placeIn c (guardsOf found rs)
+    ≡ placeIn c found
 unfolding guardsOf
 place-kept c found [] h = refl
 place-kept c found (r ∷ rs) h =
     known-or-new (r .guard) found (λ k. rw (known found r rs k) (place-kept c found rs h))
     (λ n. rw (new found r rs n)
-    (place-kept c (found ++ (r .guard ∷ [])) rs (found-append c found (r .guard ∷ []) h) ∙ place-append c found (r .guard ∷ []) h))
+    (place-kept c (found ++ (r .guard ∷ [])) rs (found-append c found (r .guard ∷ []) h)
+    ∙ place-append c found (r .guard ∷ []) h))
 
 found-kept : (c : Cond) (found : List Cond) (rs : List Region) → Found c found → Found c (guardsOf found rs)
 unfolding guardsOf
@@ -117,10 +123,12 @@ place-new : (found : List Cond) (r : Region) (rs : List Region) → length found
     → placeIn (r .guard) (guardsOf found (r ∷ rs)) ≡ length found
 place-new found r rs n =
     rw (new found r rs n)
-    (place-kept (r .guard) (found ++ (r .guard ∷ [])) rs (found-last (r .guard) found n) ∙ place-last (r .guard) found n)
+    (place-kept (r .guard) (found ++ (r .guard ∷ [])) rs (found-last (r .guard) found n)
+    ∙ place-last (r .guard) found n)
 
 -- the guard of each region is found
-found-region : (found : List Cond) (rs : List Region) (i : ℕ) (q : Region) → getElem? rs i ≡ some q → Found (q .guard) (guardsOf found rs)
+found-region : (found : List Cond) (rs : List Region) (i : ℕ) (q : Region) → getElem? rs i ≡ some q
+    → Found (q .guard) (guardsOf found rs)
 found-region found [] i q e = no-some e
 found-region found (r ∷ rs) zero q e =
     subst (λ (u : Region). Found (u .guard) (guardsOf found (r ∷ rs))) (Option·some-injective _ _ e)
@@ -141,7 +149,8 @@ unfolding guardsOf
 some-region found [] g low high = absurd (omega arith)
 some-region found (r ∷ rs) g low high =
     known-or-new (r .guard) found
-    (λ k. let t = some-region found rs g low (rw (known found r rs k) at high) in rw (known found r rs k) (suc (t .0), t .1))
+    (λ k. let t = some-region found rs g low (rw (known found r rs k) at high) in
+    rw (known found r rs k) (suc (t .0), t .1))
     (λ n. split (eqb g (length found))
     (λ e. (0, (r, refl, place-new found r rs n ∙ sym (eqb-true g (length found) e))))
     (λ e. let ne : (g ≡ length found → ⊥) = eqb-false g (length found) e in
@@ -150,12 +159,14 @@ some-region found (r ∷ rs) g low high =
     rw (new found r rs n) (suc (t .0), t .1)))
 
 -- and of a region before any that has a later one
-first-place : (found : List Cond) (r : Region) (rs : List Region) → placeIn (r .guard) (guardsOf found (r ∷ rs)) ≤ length found
+first-place : (found : List Cond) (r : Region) (rs : List Region)
+    → placeIn (r .guard) (guardsOf found (r ∷ rs)) ≤ length found
 first-place found r rs =
     known-or-new (r .guard) found (λ k. let p = place-kept (r .guard) found (r ∷ rs) k in omega arith)
     (λ n. let p = place-new found r rs n in omega arith)
 
-earlier : (found : List Cond) (rs : List Region) (i : ℕ) (q : Region) (g : ℕ) → getElem? rs i ≡ some q → length found ≤ g
+earlier : (found : List Cond) (rs : List Region) (i : ℕ) (q : Region) (g : ℕ) → getElem? rs i ≡ some q
+    → length found ≤ g
     → g < placeIn (q .guard) (guardsOf found rs) → (j : ℕ) × (j < i) × Has (guardsOf found rs) rs j g
 earlier found [] i q g e low high = no-some e
 earlier found (r ∷ rs) zero q g e low high =
@@ -182,7 +193,8 @@ element [] i d h = absurd (omega arith)
 element (a ∷ as′) zero d h = refl
 element (a ∷ as′) (suc i) d h = element as′ i d (omega arith)
 
-pub element-below : {A : Type 0} (as′ : List A) (i : ℕ) (a d : A) → getElem? as′ i ≡ some a → (i < length as′) × (getD as′ i d ≡ a)
+pub element-below : {A : Type 0} (as′ : List A) (i : ℕ) (a d : A) → getElem? as′ i ≡ some a
+    → (i < length as′) × (getD as′ i d ≡ a)
 element-below [] i a d e = no-some e
 element-below (b ∷ as′) zero a d e = (omega arith, Option·some-injective _ _ e)
 element-below (b ∷ as′) (suc i) a d e = let t = element-below as′ i a d e in (omega arith, t .1)
@@ -202,7 +214,8 @@ module _ (m : Monitor) where
   unfolding regions region guardOf guards
   guard-below r h = found-region [] (regions m) r (region m r) (element (regions m) r noRegion h)
 
-  pub guard-spells : (r : ℕ) → r < length (regions m) → spellCond (getD (guards m) (guardOf m r) noGuard) ≡ spellCond (region m r .guard)
+  pub guard-spells : (r : ℕ) → r < length (regions m) → spellCond (getD (guards m) (guardOf m r) noGuard)
+      ≡ spellCond (region m r .guard)
   unfolding guardOf
   guard-spells r h = sym (found-spells (region m r .guard) (guards m) (guard-below r h))
 
@@ -255,7 +268,8 @@ module _ (m : Monitor) where
   no-region r h = List·getD-eq-default (regions m) noRegion h
 
   module _ (one-cond : (c d : Cond) → spellCond c ≡ spellCond d → c ≡ d) where
-    guard-at : (c : Cond) (ds : List Cond) → (length ds ≤ placeIn c ds → c ≡ noGuard) → getD ds (placeIn c ds) noGuard ≡ c
+    guard-at : (c : Cond) (ds : List Cond) → (length ds ≤ placeIn c ds → c ≡ noGuard) → getD ds (placeIn c ds) noGuard
+        ≡ c
     guard-at c ds h =
         known-or-new c ds (λ k. sym (one-cond c (getD ds (placeIn c ds) noGuard) (found-spells c ds k)))
         (λ n. List·getD-eq-default ds noGuard n ∙ sym (h n))
@@ -275,7 +289,8 @@ module _ (m : Monitor) where
 
     pub outside : (r s : ℕ) → length (regions m) ≤ r → holds m (guardOf m r) s ≡ false
     unfolding noRegion noGuard truth
-    outside r s h = holds-guard r s ∙ ap (λ (q : Region). truth (q .guard) (vars m) (stateAt (vars m) s)) (no-region r h)
+    outside r s h = holds-guard r s ∙ ap (λ (q : Region). truth (q .guard) (vars m) (stateAt (vars m) s))
+        (no-region r h)
 
     holds-region : (r s : ℕ) → holds m (guardOf m r) s ≡ true → r < length (regions m)
     holds-region r s h =

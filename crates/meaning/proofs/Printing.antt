@@ -1,27 +1,43 @@
--- A case of the programs and what the meanings print for it, with all that it takes to compute: whoever unfolds `printing`
--- can close an equation between bytes by `refl`.
+-- A case of the programs and what the meanings print for it, with all that it takes to compute: whoever unfolds
+-- `printing` can close an equation between bytes by `refl`.
 use Prim.Native.Nat.{ℕ}
 use Rattle.logic.specs.Tests.{any}
 use Rattle.machine.specs.Monitor.{threads, ahead, allIdle}
-use Rattle.machine.specs.Decide.Step.{put, without, isDue, isWaiting, beginWait, leave, onGuard, waitsOn, next, firstNotified, own, plainTold, mayBeAt, may, ran, waited, rechecked, allowed, act, judged, step, run}
-use Rattle.machine.specs.Decide.Table.{runs, someMove, everyMove, stands, unconditional, broadcast, entryOf, acts, entryTold, tableTold}
+use Rattle.machine.specs.Decide.Step.{put, without, isDue, isWaiting, beginWait, leave, onGuard, waitsOn, next}
+use Rattle.machine.specs.Decide.Step.{firstNotified, own, plainTold, mayBeAt, may, ran, waited, rechecked, allowed, act}
+use Rattle.machine.specs.Decide.Step.{judged, step, run}
+use Rattle.machine.specs.Decide.Table.{runs, someMove, everyMove, stands, unconditional, broadcast, entryOf, acts}
+use Rattle.machine.specs.Decide.Table.{entryTold, tableTold}
 use Rattle.meaning.specs.Decide.Calls.{written, place, toldBy, runningOf, runList, runFrames, runFrom, running}
 use Rattle.meaning.specs.Calls.{eachThread, bits, ones, recordOf}
 use Rattle.meaning.specs.Accepted.{opens, closes, regionsOf}
-use Rattle.meaning.specs.Decide.Check.{tally, crowded, placeOf, leftOf, pastLimit, member, misnamed, placesOf, inByte, goodRange, illRanged, keptAfter, breaks, firstFrom, brokenFrom, broken, checkMeaning, checkTokens, check}
-use Rattle.meaning.specs.Lines.{hex4, refusalLine, placeByte, valueDigits, placeDigits, recordLine, runLine, machineLine, placer, runner}
-use Rattle.meaning.specs.Model.{sameLexeme, sameLexemes, sameGuard, placeIn, guardsOf, beginsIn, goesOnIn, noGuard, noRegion, numberAfter, regions, guards, region, guardOf, holds, kept, after, follows, model}
+use Rattle.meaning.specs.Decide.Check.{tally, crowded, placeOf, leftOf, pastLimit, member, misnamed, placesOf}
+use Rattle.meaning.specs.Decide.Check.{inByte, goodRange, illRanged, keptAfter, breaks, firstFrom, brokenFrom}
+use Rattle.meaning.specs.Decide.Check.{broken, checkMeaning, checkTokens, check}
+use Rattle.meaning.specs.Lines.{hex4, refusalLine, placeByte, valueDigits, placeDigits, recordLine, runLine}
+use Rattle.meaning.specs.Lines.{machineLine, placer, runner}
+use Rattle.meaning.specs.Model.{sameLexeme, sameLexemes, sameGuard, placeIn, guardsOf, beginsIn, goesOnIn}
+use Rattle.meaning.specs.Model.{noGuard, noRegion, numberAfter, regions, guards, region, guardOf, holds, kept}
+use Rattle.meaning.specs.Model.{after, follows, model}
 use Rattle.meaning.specs.Hex.{hexDigit, hex2, hexBool}
 use Rattle.meaning.specs.Decide.Table.{entryLine, forEach, tableOf}
 use Rattle.meaning.specs.State.{size, count, stateAt, numberOf, starts}
 use Rattle.meaning.specs.Kept.{keptAt}
-use Rattle.meaning.specs.Decide.Frames.{linesFrom, isHex, hexValue, allHex, pairAt, isFrame, frameOf, prepend, framesFrom, framesOf}
-use Rattle.meaning.specs.Value.{intOf, negative, less, compares, valueOf, inRange, assigned, atomValue, joined, termsValue, exprValue, truth, conjTruth, simpleTruth, andThen, runBlock, runStmt, outcome}
+use Rattle.meaning.specs.Decide.Frames.{linesFrom, isHex, hexValue, allHex, pairAt, isFrame, frameOf, prepend}
+use Rattle.meaning.specs.Decide.Frames.{framesFrom, framesOf}
+use Rattle.meaning.specs.Value.{intOf, negative, less, compares, valueOf, inRange, assigned, atomValue, joined}
+use Rattle.meaning.specs.Value.{termsValue, exprValue, truth, conjTruth, simpleTruth, andThen, runBlock, runStmt}
+use Rattle.meaning.specs.Value.{outcome}
 use Rattle.syntax.specs.Bytes.{bytes, between, blank, letter, digit, wordByte, leading, decimal, sameBytes, startsWith}
-use Rattle.syntax.specs.Decide.Reading.{onwards, _>>=_, give, begins, rest, choose, expect, readName, readNumber, readMany, readSome, readInt, readAtom, readSign, readTerm, isSign, readExpr, readComparison, readCond, readConj, readSimple, readBlock, readStmt, readRegion, readMethod, readVar, atEnd, readMonitor, read}
+use Rattle.syntax.specs.Decide.Reading.{onwards, _>>=_, give, begins, rest, choose, expect, readName, readNumber}
+use Rattle.syntax.specs.Decide.Reading.{readMany, readSome, readInt, readAtom, readSign, readTerm, isSign, readExpr}
+use Rattle.syntax.specs.Decide.Reading.{readComparison, readCond, readConj, readSimple, readBlock, readStmt, readRegion}
+use Rattle.syntax.specs.Decide.Reading.{readMethod, readVar, atEnd, readMonitor, read}
 use Rattle.syntax.specs.Token.{keywords, marks, lexemes, markNumber, keywordNumber, isMark, isKey, isName}
 use Rattle.syntax.specs.Decide.Scan.{wordOf, atMost, markOf, scan, prepend as token-prepend, tokensFrom, tokenize}
-use Rattle.syntax.specs.Tree.{spellInt, spellAtom, signMark, spellTerm, each, spellExpr, comparisonMark, spellConstant, spellCond, spellConj, spellSimple, spellBlock, spellStmt, spellRegion, spellMethod, spellVar, spell, InGrammar, Viable}
+use Rattle.syntax.specs.Tree.{spellInt, spellAtom, signMark, spellTerm, each, spellExpr, comparisonMark, spellConstant}
+use Rattle.syntax.specs.Tree.{spellCond, spellConj, spellSimple, spellBlock, spellStmt, spellRegion, spellMethod}
+use Rattle.syntax.specs.Tree.{spellVar, spell, InGrammar, Viable}
 use mathlib.Core.List.{List, _++_}
 
 -- What is run: `placer` on a file, `runner` on a file and a trace, or one behind the other

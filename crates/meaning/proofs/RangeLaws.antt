@@ -1,4 +1,5 @@
--- Refusal 7: the walk over the ranges with a running product passes exactly where every range is good and there are at most 4,096 states, and else stops at the first variable that is ill ranged.
+-- Refusal 7: the walk over the ranges with a running product passes exactly where every range is good and there are at
+-- most 4,096 states, and else stops at the first variable that is ill ranged.
 use Prim.Native.Nat.{ℕ, suc, _*_, _≤_, _<_}
 use native.Mathlib.Omega.{arith}
 use native.Mathlib.Nat.{mul-assoc, one-mul, mul-one, le-mul-of-pos-right}
@@ -60,7 +61,8 @@ ill-step : (p : ℕ) (v : Var) (vs : List Var) (ps : List ℕ) → passes p v �
 unfolding illRanged passes
 ill-step p v vs ps h = cc
 
-ill-stop : (p : ℕ) (v : Var) (vs : List Var) (ps : List ℕ) → passes p v ≡ false → illRanged p (v ∷ vs) ps ≡ some (getD ps 0 0)
+ill-stop : (p : ℕ) (v : Var) (vs : List Var) (ps : List ℕ) → passes p v ≡ false → illRanged p (v ∷ vs) ps
+    ≡ some (getD ps 0 0)
 unfolding illRanged passes
 ill-stop p v vs ps h = cc
 
@@ -120,7 +122,8 @@ ill-here p v vs few bad =
       bad = rw mul-one bad;
     }
 
-ill-later : (p : ℕ) (v : Var) (vs : List Var) (i : ℕ) → GoodRange v → IllFrom (p * size v) vs i → IllFrom p (v ∷ vs) (suc i)
+ill-later : (p : ℕ) (v : Var) (vs : List Var) (i : ℕ) → GoodRange v → IllFrom (p * size v) vs i
+    → IllFrom p (v ∷ vs) (suc i)
 unfolding count
 ill-later p v vs i g t =
     record {
@@ -145,11 +148,16 @@ ill-ranged-cases p (v ∷ vs) ps few =
     (λ h. let (g, less) = passed p v h in
     ⊎-elim
     (λ t. inl (ill-step p v vs ps h ∙ t .0, one-var g (t .1), rw mul-assoc at (t .2)))
-    (λ t. inr (suc (t .0), ill-step p v vs ps h ∙ t .1 ∙ ap {B = Option ℕ} some (next-place ps (t .0)), ill-later p v vs (t .0) g (t .2)))
+    (λ t. inr (
+      suc (t .0),
+      ill-step p v vs ps h ∙ t .1 ∙ ap {B = Option ℕ} some (next-place ps (t .0)),
+      ill-later p v vs (t .0) g (t .2),
+    ))
     (ill-ranged-cases (p * size v) vs (drop 1 ps) less))
     (λ h. inr (0, ill-stop p v vs ps h, ill-here p v vs few (failed p v h)))
 
-ill-ranged-none-of : (p : ℕ) {vs : List Var} (ps : List ℕ) → GoodRanges vs → p * count vs ≤ 4096 → illRanged p vs ps ≡ none
+ill-ranged-none-of : (p : ℕ) {vs : List Var} (ps : List ℕ) → GoodRanges vs → p * count vs ≤ 4096 → illRanged p vs ps
+    ≡ none
 unfolding illRanged count
 ill-ranged-none-of p ps no-vars few = refl
 ill-ranged-none-of p ps (one-var {v} {vs} g gs) few =
@@ -184,7 +192,8 @@ first-ill t =
       bad = rw one-mul at (t .bad);
     }
 
-pub ill-ranged-first : {vs : List Var} {i : ℕ} (ps : List ℕ) → FirstIllRanged vs i → illRanged 1 vs ps ≡ some (getD ps i 0)
+pub ill-ranged-first : {vs : List Var} {i : ℕ} (ps : List ℕ) → FirstIllRanged vs i → illRanged 1 vs ps
+    ≡ some (getD ps i 0)
 unfolding Fails
 ill-ranged-first ps t =
     rw (t .parts, ← t .place)
@@ -202,12 +211,15 @@ good-or-ill vs ps =
 
 pub ill-ranged-none-iff : (vs : List Var) (ps : List ℕ)
     → (illRanged 1 vs ps ≡ none) ↔ (GoodRanges vs × (count vs ≤ 4096))
-ill-ranged-none-iff vs ps =
-    (λ e. ⊎-elim (λ t. (t .1, t .2)) (λ t. no-some (sym e ∙ t .1)) (good-or-ill vs ps), λ t. ill-ranged-good ps (t .0) (t .1))
+ill-ranged-none-iff vs ps = (
+  λ e. ⊎-elim (λ t. (t .1, t .2)) (λ t. no-some (sym e ∙ t .1)) (good-or-ill vs ps),
+  λ t. ill-ranged-good ps (t .0) (t .1),
+)
 
 pub ill-ranged-some-iff : (vs : List Var) (ps : List ℕ) (k : ℕ)
     → (illRanged 1 vs ps ≡ some k) ↔ ((i : ℕ) × FirstIllRanged vs i × (k ≡ getD ps i 0))
 ill-ranged-some-iff vs ps k = (
-  λ e. ⊎-elim (λ t. no-some (sym (t .0) ∙ e)) (λ t. (t .0, t .2, Option·some-injective _ _ (sym e ∙ t .1))) (good-or-ill vs ps),
+  λ e. ⊎-elim (λ t. no-some (sym (t .0) ∙ e)) (λ t. (t .0, t .2, Option·some-injective _ _ (sym e ∙ t .1)))
+      (good-or-ill vs ps),
   λ t. ill-ranged-first ps (t .1) ∙ ap {B = Option ℕ} some (sym (t .2)),
 )

@@ -1,4 +1,5 @@
--- How much an accepted file holds: at most 6 variables, 8 methods, 16 regions and 16 guards, by counting the keywords that begin them; and no two variables of one name.
+-- How much an accepted file holds: at most 6 variables, 8 methods, 16 regions and 16 guards, by counting the keywords
+-- that begin them; and no two variables of one name.
 use Prim.Native.Nat.{ℕ, zero, suc, _+_, _≤_}
 use native.Mathlib.Omega.{arith}
 use mathlib.Core.Path.{_≡_, refl, sym, subst, ap, _∙_}
@@ -6,8 +7,10 @@ use mathlib.Core.Logic.{inl, inr}
 use mathlib.Core.List.{List, [], _∷_, _++_, append-assoc}
 use lib.ListN.{length, drop, length-append}
 use lib.Dec.{ltb}
-use Rattle.syntax.specs.Token.{Lexeme, name, key, mark, lbrace, rbrace, semicolon, Keyword, k-monitor, k-var, k-keep, k-method, k-waituntil, Token, lexemes, isKey, keywordNumber}
-use Rattle.syntax.specs.Tree.{Cond, Region, Method, Var, Monitor, all, each, spellRegion, spellMethod, spellVar, spellCond, spell}
+use Rattle.syntax.specs.Token.{Lexeme, name, key, mark, lbrace, rbrace, semicolon, Keyword, k-monitor, k-var, k-keep}
+use Rattle.syntax.specs.Token.{k-method, k-waituntil, Token, lexemes, isKey, keywordNumber}
+use Rattle.syntax.specs.Tree.{Cond, Region, Method, Var, Monitor, all, each, spellRegion, spellMethod, spellVar}
+use Rattle.syntax.specs.Tree.{spellCond, spell}
 use Rattle.meaning.specs.Accepted.{regionsOf}
 use Rattle.meaning.specs.Model.{placeIn, guardsOf, regions, guards}
 use Rattle.meaning.specs.Accepted.{NoneOffends, howMany, PastLimit, Behind, Declared, Misnamed}
@@ -37,7 +40,8 @@ few k zero (t ∷ ts) none = split (isKey k (t .lexeme))
     (λ h. absurd (none [] ts t refl (decides-key k (t .lexeme) .0 h) (omega arith)))
     (λ h. rw (h, times) (few k zero ts (λ b a u e l p. none (t ∷ b) a u (cc) l (omega arith))))
 few k (suc n) (t ∷ ts) none = split (isKey k (t .lexeme))
-    (λ h. let rest = few k n ts (λ b a u e l p. none (t ∷ b) a u (cc) l (rw (h, howMany) (omega arith))) in rw (h, times) (omega arith))
+    (λ h. let rest = few k n ts (λ b a u e l p. none (t ∷ b) a u (cc) l (rw (h, howMany) (omega arith))) in
+    rw (h, times) (omega arith))
     (λ h. rw (h, times) (few k (suc n) ts (λ b a u e l p. none (t ∷ b) a u (cc) l (rw (h, howMany) p))))
 
 -- Keywords in what a tree spells
@@ -84,7 +88,8 @@ regions-times (x ∷ ms) =
 in-vars : (k : Keyword) (m : Monitor) → times k (each spellVar (all (m .vars))) ≤ times k (spell m)
 unfolding spell behindKeep
 in-vars k m =
-    let a = times-behind k (key k-monitor ∷ name (m .title) ∷ mark lbrace ∷ []) (each spellVar (all (m .vars)) ++ (key k-keep ∷ behindKeep m)) in
+    let a = times-behind k (key k-monitor ∷ name (m .title) ∷ mark lbrace ∷ [])
+    (each spellVar (all (m .vars)) ++ (key k-keep ∷ behindKeep m)) in
     let b = times-front k (each spellVar (all (m .vars))) (key k-keep ∷ behindKeep m) in
     omega arith
 
@@ -94,7 +99,8 @@ in-methods k m =
     let ms = each spellMethod (all (m .methods)) in
     let tail = ms ++ (mark rbrace ∷ []) in
     let kept = spellCond (m .keep) ++ (mark semicolon ∷ tail) in
-    let a = times-behind k (key k-monitor ∷ name (m .title) ∷ mark lbrace ∷ each spellVar (all (m .vars))) (key k-keep ∷ kept) in
+    let a = times-behind k (key k-monitor ∷ name (m .title) ∷ mark lbrace ∷ each spellVar (all (m .vars)))
+    (key k-keep ∷ kept) in
     let b = times-behind k (key k-keep ∷ spellCond (m .keep)) (mark semicolon ∷ tail) in
     let c = times-behind k (mark semicolon ∷ []) tail in
     let d = times-front k ms (mark rbrace ∷ []) in
@@ -122,7 +128,13 @@ sizes-of ts m grammar counts =
     omega (arith, at k-waituntil, in-methods k-waituntil m, regions-times (all (m .methods))) in
     record {
       vars = omega (arith, at k-var, in-vars k-var m, vars-times (all (m .vars)));
-      methods = omega (arith, at k-method, in-methods k-method m, each-times k-method spellMethod method-once (all (m .methods)));
+      methods =
+          omega (
+            arith,
+            at k-method,
+            in-methods k-method m,
+            each-times k-method spellMethod method-once (all (m .methods)),
+          );
       regions = few-regions;
       guards = omega (arith, guards-few [] (regionsOf (all (m .methods))));
     }
@@ -142,13 +154,23 @@ record At (ts : List Token) (pre : List Lexeme) (l : Lexeme) (ls : List Lexeme) 
   here : token .lexeme ≡ l
   left : lexemes back ≡ ls
 
-token-at : (ts : List Token) (pre : List Lexeme) (l : Lexeme) (ls : List Lexeme) → lexemes ts ≡ pre ++ (l ∷ ls) → At ts pre l ls
+token-at : (ts : List Token) (pre : List Lexeme) (l : Lexeme) (ls : List Lexeme) → lexemes ts ≡ pre ++ (l ∷ ls)
+    → At ts pre l ls
 unfolding lexemes
 token-at ts pre l ls e = let c = cut ts pre (l ∷ ls) e in go (c .front) (c .back) (c .whole) (c .passed) (c .left)
   where
     go : (front back : List Token) → ts ≡ front ++ back → lexemes front ≡ pre → lexemes back ≡ l ∷ ls → At ts pre l ls
     go front [] w p q = different (cc)
-    go front (t ∷ back) w p q = record { front = front; token = t; back = back; whole = w; passed = p; here = cc; left = cc }
+    go front (t ∷ back) w p q = record {
+      front = front;
+      token = t;
+      back = back;
+      whole = w;
+      passed = p;
+      here = cc;
+      left =
+          cc;
+    }
 
 no-lexemes : (ts : List Token) → lexemes ts ≡ [] → ts ≡ []
 unfolding lexemes
@@ -172,10 +194,12 @@ var-begins v vs rest = refl
 
 up-to-more : (m : Monitor) (a b : List Var) → upTo m (a ++ b) ≡ upTo m a ++ each spellVar b
 unfolding upTo
-up-to-more m a b = ap {B = List Lexeme} (λ ls. key k-monitor ∷ name (m .title) ∷ mark lbrace ∷ ls) (each-append spellVar a b)
+up-to-more m a b = ap {B = List Lexeme} (λ ls. key k-monitor ∷ name (m .title) ∷ mark lbrace ∷ ls)
+    (each-append spellVar a b)
 
 -- a variable declared among tokens, and `var` last among them
-two-tokens : {ts : List Token} {pre ls : List Lexeme} {k : Keyword} {x : List ℕ} → At ts pre (key k) (name x ∷ ls) → Declared k x ts
+two-tokens : {ts : List Token} {pre ls : List Lexeme} {k : Keyword} {x : List ℕ} → At ts pre (key k) (name x ∷ ls)
+    → Declared k x ts
 unfolding Declared
 two-tokens {ls = ls} {x = x} r =
     let s = first-token (r .back) (name x) ls (r .left) in
@@ -195,7 +219,8 @@ pub names-differ : {file : List ℕ} {m : Monitor} → Accepted file m → (a b 
     → all (m .vars) ≡ a ++ (u ∷ (b ++ (v ∷ c))) → u .title ≡ v .title → ⊥
 unfolding NoneOffends Misnamed
 names-differ {m = m} h a b c u v e same =
-    twice (token-at (h .ts) (upTo m (a ++ (u ∷ b)) ++ (key k-var ∷ [])) (name (v .title)) (behindName v c (key k-keep ∷ behindKeep m))
+    twice (token-at (h .ts) (upTo m (a ++ (u ∷ b)) ++ (key k-var ∷ [])) (name (v .title))
+    (behindName v c (key k-keep ∷ behindKeep m))
     (sym (h .grammar) ∙ spell-from m (a ++ (u ∷ b)) (v ∷ c) (e ∙ sym (append-assoc a (u ∷ b) (v ∷ c)))
     ∙ rw (append-assoc, var-begins v c (key k-keep ∷ behindKeep m))))
   where

@@ -1,4 +1,5 @@
--- Refusals 7 to 9: the check of a tree gives the one verdict that `Judged` has grounds for. Each test is taken to the statement that it decides, and states to their numbers.
+-- Refusals 7 to 9: the check of a tree gives the one verdict that `Judged` has grounds for. Each test is taken to the
+-- statement that it decides, and states to their numbers.
 use Prim.Native.Nat.{ℕ, zero, suc, _+_, _≤_, _<_}
 use native.Mathlib.Omega.{arith}
 use native.Mathlib.Nat.{zero-add, add-zero}
@@ -48,7 +49,8 @@ first-none-of zero k p h = refl
 first-none-of (suc n) k p h =
     cc (h k (omega arith) (omega arith), first-none-of n (k + 1) p (λ i low high. h i (omega arith) (omega arith)))
 
-first-some-of : (n k : ℕ) (p : ℕ → Bool) (j : ℕ) → k ≤ j → j < k + n → p j ≡ true → FailsFrom p k j → firstFrom n k p ≡ some j
+first-some-of : (n k : ℕ) (p : ℕ → Bool) (j : ℕ) → k ≤ j → j < k + n → p j ≡ true → FailsFrom p k j → firstFrom n k p
+    ≡ some j
 unfolding firstFrom
 first-some-of zero k p j low high t h = absurd (omega arith)
 first-some-of (suc n) k p j low high t h =
@@ -94,7 +96,8 @@ pub first-some-iff : (n : ℕ) (p : ℕ → Bool) (j : ℕ)
     → (firstFrom n 0 p ≡ some j) ↔ ((j < n) × (p j ≡ true) × ((i : ℕ) → i < j → p i ≡ false))
 first-some-iff n p j = (
   λ e. ⊎-elim (λ h. no-some (sym (none-first n p h) ∙ e))
-      (λ t. subst (FirstBelow p n) (Option·some-injective _ _ (sym (some-first n p (t .0) (t .1)) ∙ e)) (t .1)) (none-or-first n p),
+      (λ t. subst (FirstBelow p n) (Option·some-injective _ _ (sym (some-first n p (t .0) (t .1)) ∙ e)) (t .1))
+      (none-or-first n p),
   some-first n p j,
 )
 
@@ -141,7 +144,8 @@ module _ (vs : List Var) (kept : List ℤ → Bool) where
   broken-none-of k [] h = refl
   broken-none-of k (r ∷ rs) h = broken-step k r rs (h 0 r refl) ∙ broken-none-of (k + 1) rs (λ j. h (suc j))
 
-  broken-some-of : (k : ℕ) (rs : List Region) (i : ℕ) (r : Region) (n : ℕ) → getElem? rs i ≡ some r → FirstAt r n → QuietBelow rs i
+  broken-some-of : (k : ℕ) (rs : List Region) (i : ℕ) (r : Region) (n : ℕ) → getElem? rs i ≡ some r → FirstAt r n
+      → QuietBelow rs i
       → brokenFrom vs kept k rs ≡ some (k + i, n)
   broken-some-of k [] i r n e f h = no-some e
   broken-some-of k (q ∷ rs) zero r n e f h =
@@ -160,7 +164,8 @@ module _ (vs : List Var) (kept : List ℤ → Bool) where
   quiet-or-first (r ∷ rs) =
       ⊎-elim
       (λ quiet. ⊎-elim (λ h. inl (all-quiet r rs quiet h))
-      (λ t. let (q, e, f, h) = t .2 in inr (suc (t .0), t .1, (q, e, f, quiet-below r rs (t .0) quiet h))) (quiet-or-first rs))
+      (λ t. let (q, e, f, h) = t .2 in inr (suc (t .0), t .1, (q, e, f, quiet-below r rs (t .0) quiet h)))
+      (quiet-or-first rs))
       (λ t. inr (0, t .0, (r, refl, t .1, λ j q low. absurd (omega arith)))) (none-or-first (count vs) (breaksAt r))
 
   none-broken : (rs : List Region) → AllQuiet rs → brokenFrom vs kept 0 rs ≡ none
@@ -174,8 +179,10 @@ module _ (vs : List Var) (kept : List ℤ → Bool) where
       ↔ ((j : ℕ) (q : Region) → getElem? rs j ≡ some q → (n : ℕ) → n < count vs
       → breaks vs kept q (stateAt vs n) ≡ false)
   unfolding breaksAt
-  broken-none-iff rs =
-      (λ e. ⊎-elim (λ h. h) (λ t. no-some (sym e ∙ some-broken rs (t .0) (t .1) (t .2))) (quiet-or-first rs), none-broken rs)
+  broken-none-iff rs = (
+    λ e. ⊎-elim (λ h. h) (λ t. no-some (sym e ∙ some-broken rs (t .0) (t .1) (t .2))) (quiet-or-first rs),
+    none-broken rs,
+  )
 
   -- region i breaks at state n, at no lower state, and no lower region breaks
   pub broken-some-iff : (rs : List Region) (i n : ℕ)
@@ -360,8 +367,8 @@ module _ (ts : List Token) (m : Monitor) where
     λ t. says-judged (sound (t .1)) ∙ ap {B = Verdict} accepted (t .0),
   )
 
-  -- demand 2: in an accepted tree, from every state that meets kept condition and guard, a body runs with each assignment in its
-  -- range and ends in a state with the kept condition true
+  -- demand 2: in an accepted tree, from every state that meets kept condition and guard, a body runs with each
+  -- assignment in its range and ends in a state with the kept condition true
   pub accepted-bodies-keep : (m′ : Monitor) → checkMeaning ts m ≡ accepted m′ → (k : ℕ) (r : Region) (as′ : List ℤ)
       → IsRegion m k r → Meets m r as′
       → (bs : List ℤ) × BlockRuns (vars m) (r .body) as′ bs × State (vars m) bs × (keptAt m bs ≡ true)

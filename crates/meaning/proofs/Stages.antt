@@ -13,7 +13,8 @@ use Rattle.syntax.specs.Decide.Reading.{got, stuck, read}
 use Rattle.meaning.specs.State.{starts}
 use Rattle.meaning.specs.Kept.{keptAt}
 use Rattle.meaning.specs.Answer.{answer, accepted, refused}
-use Rattle.meaning.specs.Decide.Check.{crowded, pastLimit, misnamed, placesOf, placeOf, leftOf, illRanged, broken, checkMeaning, checkTokens, check}
+use Rattle.meaning.specs.Decide.Check.{crowded, pastLimit, misnamed, placesOf, placeOf, leftOf, illRanged, broken}
+use Rattle.meaning.specs.Decide.Check.{checkMeaning, checkTokens, check}
 
 pub check-1 : (file : List ℕ) → 8192 < length file → check file ≡ refused (answer 1 0 0)
 unfolding check
@@ -34,7 +35,8 @@ module _ (file : List ℕ) (short : length file ≤ 8192) where
     check-3 e = cc by-tokens
 
     module _ (room : crowded 0 0 0 ts ≡ none) where
-      pub check-4 : {ls : List Lexeme} → read (lexemes ts) ≡ stuck ls → check file ≡ refused (answer 4 (placeOf (length file) (leftOf ts ls)) 0)
+      pub check-4 : {ls : List Lexeme} → read (lexemes ts) ≡ stuck ls
+          → check file ≡ refused (answer 4 (placeOf (length file) (leftOf ts ls)) 0)
       unfolding checkTokens
       check-4 e = cc by-tokens
 
@@ -53,7 +55,8 @@ module _ (file : List ℕ) (short : length file ≤ 8192) where
             unfolding checkTokens
             by-meaning = cc by-tokens
 
-            pub check-7 : {k : ℕ} → illRanged 1 (all (m .vars)) (placesOf k-var ts) ≡ some k → check file ≡ refused (answer 7 k 0)
+            pub check-7 : {k : ℕ} → illRanged 1 (all (m .vars)) (placesOf k-var ts) ≡ some k
+                → check file ≡ refused (answer 7 k 0)
             unfolding checkMeaning
             check-7 e = cc by-meaning
 

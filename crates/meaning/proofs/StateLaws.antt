@@ -1,7 +1,9 @@
--- States and their numbers match one to one, by induction on the variables: below the count of states each number has its state, and each state a number.
+-- States and their numbers match one to one, by induction on the variables: below the count of states each number has
+-- its state, and each state a number.
 use Prim.Native.Nat.{ℕ, _+_, _*_, _/_, _%_, _<_}
 use native.Mathlib.Omega.{arith}
-use native.Mathlib.Nat.{div-add-mod', mod-lt, div-lt-iff-lt-mul, mul-add-div-right, mul-add-mod-self-right, mod-eq-of-lt, div-eq-of-lt, mul-pos, mul-le-mul-right, suc-mul, add-zero}
+use native.Mathlib.Nat.{div-add-mod', mod-lt, div-lt-iff-lt-mul, mul-add-div-right, mul-add-mod-self-right}
+use native.Mathlib.Nat.{mod-eq-of-lt, div-eq-of-lt, mul-pos, mul-le-mul-right, suc-mul, add-zero}
 use mathlib.Core.Path.{_≡_, refl, ap₂, _∙_}
 use mathlib.Core.Bool.{true, false}
 use mathlib.Core.List.{List, [], _∷_}

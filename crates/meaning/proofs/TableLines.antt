@@ -3,7 +3,9 @@ use Prim.Native.Nat.{ℕ, zero, suc, _+_, _≤_, _<_}
 use native.Mathlib.Omega.{arith}
 use mathlib.Core.Path.{_≡_, refl, sym, ap₂, _∙_}
 use mathlib.Core.Logic.{_⊎_, inl, inr, ⊎-elim, _↔_}
-use mathlib.Core.List.{List, [], _∷_, _++_, append-nil, append-assoc, List·Memᴰ, List·Memᴰ·head, List·Memᴰ·tail, List·Memᴰ·append-cases, List·Memᴰ·not-nil, List·Memᴰ·eq-of-singleton, Memᴰ·append-left, Memᴰ·append-right}
+use mathlib.Core.List.{List, [], _∷_, _++_, append-nil, append-assoc, List·Memᴰ, List·Memᴰ·head, List·Memᴰ·tail}
+use mathlib.Core.List.{List·Memᴰ·append-cases, List·Memᴰ·not-nil, List·Memᴰ·eq-of-singleton, Memᴰ·append-left}
+use mathlib.Core.List.{Memᴰ·append-right}
 use lib.ListN.{drop}
 use lib.Dec.{eqb}
 use borrow.Author.Tests.{eqb-true, eqb-false}
@@ -39,7 +41,8 @@ unfolding rowLines
 rowLines-append [] b = refl
 rowLines-append (w ∷ a) b = rw (rowLines-append a b, append-assoc)
 
-each-lines : (n k : ℕ) (f : ℕ → List ℕ) (h : ℕ → List Row) → ((j : ℕ) → f j ≡ rowLines (h j)) → forEach n k f ≡ rowLines (each n k h)
+each-lines : (n k : ℕ) (f : ℕ → List ℕ) (h : ℕ → List Row) → ((j : ℕ) → f j ≡ rowLines (h j))
+    → forEach n k f ≡ rowLines (each n k h)
 unfolding forEach each rowLines
 each-lines zero k f h e = refl
 each-lines (suc n) k f h e = rw (rowLines-append (h k) (each n (k + 1) h), e k, each-lines n (k + 1) f h e)
@@ -51,11 +54,13 @@ rowsAt-lines r g (entry a b) = rw append-nil
 
 pub table-lines : (m : Monitor) → tableOf m ≡ rowLines (rowsOf m)
 unfolding tableOf rowsOf
-table-lines m = each-lines (m .regions) 0 _ _ (λ r. each-lines (m .guards) 0 _ _ (λ g. rowsAt-lines r g (entryOf m r g)))
+table-lines m =
+    each-lines (m .regions) 0 _ _ (λ r. each-lines (m .guards) 0 _ _ (λ g. rowsAt-lines r g (entryOf m r g)))
 
 -- The rows
 
-each-in : (n k : ℕ) (f : ℕ → List Row) (w : Row) → List·Memᴰ w (each n k f) → (j : ℕ) × (k ≤ j) × (j < k + n) × List·Memᴰ w (f j)
+each-in : (n k : ℕ) (f : ℕ → List Row) (w : Row) → List·Memᴰ w (each n k f) → (j : ℕ) × (k ≤ j) × (j < k + n)
+    × List·Memᴰ w (f j)
 unfolding each
 each-in (suc n) k f w m = ⊎-elim
     (λ h. (k, omega arith, omega arith, h))
@@ -63,12 +68,14 @@ each-in (suc n) k f w m = ⊎-elim
     (List·Memᴰ·append-cases (f k) m)
 each-in zero k f w m = absurd (List·Memᴰ·not-nil m)
 
-in-each : (n k : ℕ) (f : ℕ → List Row) (w : Row) (j : ℕ) → k ≤ j → j < k + n → List·Memᴰ w (f j) → List·Memᴰ w (each n k f)
+in-each : (n k : ℕ) (f : ℕ → List Row) (w : Row) (j : ℕ) → k ≤ j → j < k + n → List·Memᴰ w (f j)
+    → List·Memᴰ w (each n k f)
 unfolding each
 in-each zero k f w j l h m = absurd (omega arith)
 in-each (suc n) k f w j l h m = split (eqb k j)
     (λ e. Memᴰ·append-left (each n (k + 1) f) (rw (← (eqb-true k j e)) at m))
-    (λ e. let d : (k ≡ j → ⊥) = eqb-false k j e in Memᴰ·append-right (f k) (in-each n (k + 1) f w j (omega arith) (omega arith) m))
+    (λ e. let d : (k ≡ j → ⊥) = eqb-false k j e in
+    Memᴰ·append-right (f k) (in-each n (k + 1) f w j (omega arith) (omega arith) m))
 
 row-path : (w v : Row) → w .region ≡ v .region → w .guard ≡ v .guard → w .unconditional ≡ v .unconditional
     → w .broadcast ≡ v .broadcast → w ≡ v
@@ -84,22 +91,26 @@ rowsAt-row r g (entry a b) w = (
       let e = p .2 in
       let u : w .unconditional ≡ a = cc in
       let v : w .broadcast ≡ b = cc in
-      List·Memᴰ·head (row-path w (record { region = r; guard = g; unconditional = a; broadcast = b }) (p .0) (p .1) u v),
+      List·Memᴰ·head (row-path w (record { region = r; guard = g; unconditional = a; broadcast = b }) (p .0)
+      (p .1) u v),
 )
 
 -- exactly the entries that stand
 pub row-stands : (m : Monitor) (w : Row)
     → List·Memᴰ w (rowsOf m)
-    ↔ ((w .region < m .regions) × (w .guard < m .guards) × (entryOf m (w .region) (w .guard) ≡ entry (w .unconditional) (w .broadcast)))
+    ↔ ((w .region < m .regions) × (w .guard < m .guards)
+    × (entryOf m (w .region) (w .guard) ≡ entry (w .unconditional) (w .broadcast)))
 unfolding rowsOf
 row-stands m w = (
   forth,
   λ p. in-each (m .regions) 0 _ w (w .region) (omega arith) (omega arith)
-      (in-each (m .guards) 0 _ w (w .guard) (omega arith) (omega arith) (rowsAt-row (w .region) (w .guard) _ w .1 (refl, refl, p .2))),
+      (in-each (m .guards) 0 _ w (w .guard) (omega arith) (omega arith)
+      (rowsAt-row (w .region) (w .guard) _ w .1 (refl, refl, p .2))),
 )
   where
     forth : List·Memᴰ w (rowsOf m)
-        → (w .region < m .regions) × (w .guard < m .guards) × (entryOf m (w .region) (w .guard) ≡ entry (w .unconditional) (w .broadcast))
+        → (w .region < m .regions) × (w .guard < m .guards)
+        × (entryOf m (w .region) (w .guard) ≡ entry (w .unconditional) (w .broadcast))
     forth h =
         let a = each-in (m .regions) 0 _ w h in
         let b = each-in (m .guards) 0 _ w (a .3) in
@@ -131,9 +142,11 @@ one-increasing r g (entry a b) = one-row (λ v m. absurd (List·Memᴰ·not-nil 
 pub rows-increasing : (m : Monitor) → Increasing (rowsOf m)
 unfolding rowsOf Before
 rows-increasing m =
-    each-increasing (m .regions) 0 _ (λ r. each-increasing (m .guards) 0 _ (λ g. one-increasing r g (entryOf m r g)) (by-guard r)) by-region
+    each-increasing (m .regions) 0 _ (λ r. each-increasing (m .guards) 0 _ (λ g. one-increasing r g (entryOf m r g))
+    (by-guard r)) by-region
   where
-    by-guard : (r i j : ℕ) (w v : Row) → i < j → List·Memᴰ w (rowsAt r i (entryOf m r i)) → List·Memᴰ v (rowsAt r j (entryOf m r j))
+    by-guard : (r i j : ℕ) (w v : Row) → i < j → List·Memᴰ w (rowsAt r i (entryOf m r i))
+        → List·Memᴰ v (rowsAt r j (entryOf m r j))
         → Before w v
     by-guard r i j w v l a b =
         let p = rowsAt-row r i _ w .0 a in

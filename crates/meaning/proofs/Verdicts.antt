@@ -1,4 +1,5 @@
--- A file's verdict, computed, is the one that `Accepted` and `Refusal` say in words, for all bytes: `accepted-iff` and `refused-iff`.
+-- A file's verdict, computed, is the one that `Accepted` and `Refusal` say in words, for all bytes: `accepted-iff` and
+-- `refused-iff`.
 use Prim.Native.Nat.{ℕ, _≤_, _<_}
 use native.Mathlib.Omega.{arith}
 use mathlib.Core.Path.{_≡_, refl, sym, subst, ap, _∙_}
@@ -16,21 +17,24 @@ use Rattle.syntax.specs.Tree.{Monitor, all, spell, InGrammar, Viable}
 use Rattle.syntax.specs.Decide.Reading.{Got, got, stuck, read}
 use Rattle.syntax.proofs.Grammar.{read-spells, spelled-read, stuck-viable, stuck-not-viable, stuck-at-end}
 use Rattle.meaning.specs.Answer.{Answer, answer, Verdict, accepted, refused}
-use Rattle.meaning.specs.Decide.Check.{crowded, pastLimit, misnamed, placesOf, placeOf, leftOf, checkMeaning, checkTokens, check}
+use Rattle.meaning.specs.Decide.Check.{crowded, pastLimit, misnamed, placesOf, placeOf, leftOf, checkMeaning}
+use Rattle.meaning.specs.Decide.Check.{checkTokens, check}
 use Rattle.meaning.specs.Accepted.{NoneOffends, FirstOffends, Crowded, PastLimit, Misnamed}
 use Rattle.meaning.specs.Refusal.{HasVerdict, FirstIllRanged}
 use Rattle.meaning.proofs.Judged.{Judged, sound}
 use Rattle.meaning.proofs.Judged as judged
 use Rattle.logic.proofs.Bools.{split}
 use Rattle.logic.proofs.Bools.{different}
-use Rattle.meaning.proofs.Limits.{first-unique, crowded-first, crowded-none, past-first, past-none, misnamed-first, misnamed-none}
+use Rattle.meaning.proofs.Limits.{first-unique, crowded-first, crowded-none, past-first, past-none}
+use Rattle.meaning.proofs.Limits.{misnamed-first, misnamed-none}
 use Rattle.meaning.specs.Refusal.{NoFile}
 use Rattle.meaning.proofs.GrammarPlace.{place-first, place-end}
 use Rattle.meaning.specs.Refusal.{Stands, upTo}
 use Rattle.meaning.proofs.KeywordPlaces.{var-place, keep-place}
 use Rattle.meaning.proofs.Soundness.{check-meaning-iff}
 use Rattle.meaning.specs.Accepted.{Accepted}
-use Rattle.meaning.specs.Refusal.{Past2, Past3, Past4, Past5, Past6, Refusal, broken, ends-early, ill-ranged, no-file, no-token, past-limit, start-not-kept, too-long, too-many, wrong-name}
+use Rattle.meaning.specs.Refusal.{Past2, Past3, Past4, Past5, Past6, Refusal, broken, ends-early, ill-ranged}
+use Rattle.meaning.specs.Refusal.{no-file, no-token, past-limit, start-not-kept, too-long, too-many, wrong-name}
 
 -- 0 is no refusal
 pub refusal-number : {file : List ℕ} {a : Answer} → Refusal file a → 1 ≤ a .number
@@ -81,7 +85,13 @@ module _ {file : List ℕ} {ts : List Token} where
     unfolding checkTokens
     says-6 k p f =
         let q = p .past in
-        cc (after-2 (q .past .past), crowded-none ts .1 (q .past .limits), reads q, past-none ts .1 (p .counts), misnamed-first ts k .1 f)
+        cc (
+          after-2 (q .past .past),
+          crowded-none ts .1 (q .past .limits),
+          reads q,
+          past-none ts .1 (p .counts),
+          misnamed-first ts k .1 f,
+        )
 
     after-6 : Past6 file ts m → check file ≡ checkMeaning ts m
     unfolding checkTokens
@@ -99,7 +109,8 @@ module _ {file : List ℕ} {ts : List Token} where
 
 data Reads (end : ℕ) (ts : List Token) : Type 0 where
   whole : (m : Monitor) → spell m ≡ lexemes ts → Reads end ts
-  wrong : (us : List Lexeme) → read (lexemes ts) ≡ stuck us → FirstOffends NoFile ts (placeOf end (leftOf ts us)) → Reads end ts
+  wrong : (us : List Lexeme) → read (lexemes ts) ≡ stuck us → FirstOffends NoFile ts (placeOf end (leftOf ts us))
+      → Reads end ts
   early :
       (us : List Lexeme) → read (lexemes ts) ≡ stuck us → placeOf end (leftOf ts us) ≡ end → Viable (lexemes ts)
       → (InGrammar (lexemes ts) → ⊥) → Reads end ts
@@ -112,7 +123,8 @@ reads-as end ts = go (read (lexemes ts)) refl
     go (stuck []) e = let s = stuck-at-end (lexemes ts) e in early [] e (place-end end ts (s .0) .0) (s .0) (s .1)
     go (stuck (l ∷ us)) e =
         let s = stuck-viable (lexemes ts) (l ∷ us) e in
-        wrong (l ∷ us) e (place-first end ts (s .0) l us (s .1) (s .2) (stuck-not-viable (lexemes ts) (s .0) l us e (s .1)))
+        wrong (l ∷ us) e
+        (place-first end ts (s .0) l us (s .1) (s .2) (stuck-not-viable (lexemes ts) (s .0) l us e (s .1)))
 
 viable-no-first : (ts : List Token) (k : ℕ) → Viable (lexemes ts) → FirstOffends NoFile ts k → ⊥
 unfolding FirstOffends NoneOffends
@@ -125,7 +137,8 @@ module _ {file : List ℕ} {ts : List Token} (p : Past3 file ts) where
     where
       go : Reads (length file) ts → check file ≡ refused (answer 4 k 0)
       go (whole m e) = absurd (viable-no-first ts k (m, [], e ∙ sym (append-nil (lexemes ts))) f)
-      go (wrong us e g) = says-4 us p e ∙ ap {B = Verdict} (λ j. refused (answer 4 j 0)) (first-unique NoFile ts _ k g f)
+      go (wrong us e g) = says-4 us p e ∙ ap {B = Verdict} (λ j. refused (answer 4 j 0))
+          (first-unique NoFile ts _ k g f)
       go (early us e q v n) = absurd (viable-no-first ts k v f)
 
   says-early : Viable (lexemes ts) → (InGrammar (lexemes ts) → ⊥) → check file ≡ refused (answer 4 (length file) 0)
@@ -139,25 +152,29 @@ module _ {file : List ℕ} {ts : List Token} (p : Past3 file ts) where
 
 -- 7 and 8: one token stands behind some lexemes
 
-same-front : (a b : List Token) (t u : Token) (x y : List Token) → a ++ (t ∷ x) ≡ b ++ (u ∷ y) → lexemes a ≡ lexemes b → t ≡ u
+same-front : (a b : List Token) (t u : Token) (x y : List Token) → a ++ (t ∷ x) ≡ b ++ (u ∷ y) → lexemes a ≡ lexemes b
+    → t ≡ u
 unfolding lexemes
 same-front [] [] t u x y e h = cc
 same-front [] (c ∷ b) t u x y e h = different (cc)
 same-front (c ∷ a) [] t u x y e h = different (cc)
 same-front (c ∷ a) (d ∷ b) t u x y e h = same-front a b t u x y (cc) (cc)
 
-one-place : {ts : List Token} {pre : List Lexeme} {k : Keyword} {i j : ℕ} → Stands ts pre k i → Stands ts pre k j → i ≡ j
+one-place : {ts : List Token} {pre : List Lexeme} {k : Keyword} {i j : ℕ} → Stands ts pre k i → Stands ts pre k j
+    → i ≡ j
 one-place s t =
     sym (s .place)
     ∙ ap (λ (u : Token). u .at)
-    (same-front (s .front) (t .front) (s .token) (t .token) (s .back) (t .back) (sym (s .whole) ∙ t .whole) (s .passed ∙ sym (t .passed)))
+    (same-front (s .front) (t .front) (s .token) (t .token) (s .back) (t .back) (sym (s .whole) ∙ t .whole)
+    (s .passed ∙ sym (t .passed)))
     ∙ t .place
 
 module _ {file : List ℕ} {ts : List Token} {m : Monitor} (p : Past6 file ts m) where
   spelt : lexemes ts ≡ spell m
   spelt = sym (p .past .past .grammar)
 
-  var-at : {i : ℕ} (t : FirstIllRanged (all (m .vars)) i) → Stands ts (upTo m (t .before)) k-var (getD (placesOf k-var ts) i 0)
+  var-at : {i : ℕ} (t : FirstIllRanged (all (m .vars)) i)
+      → Stands ts (upTo m (t .before)) k-var (getD (placesOf k-var ts) i 0)
   var-at t = rw (t .place) at (var-place ts m spelt (t .before) (t .var) (t .after) (t .parts))
 
   -- 7 to 9, from and to the verdicts of a tree
@@ -186,7 +203,12 @@ of-accepted : {file : List ℕ} {m : Monitor} (a : Accepted file m) → Past6 fi
 of-accepted a =
     record {
       past = record {
-        past = record { past = record { past = record { short = a .short; cut = a .cut }; limits = a .limits }; grammar = a .grammar };
+        past =
+            record {
+              past = record { past = record { short = a .short; cut = a .cut }; limits = a .limits };
+              grammar =
+                  a .grammar;
+            };
         counts = a .counts;
       };
       names = a .names;
@@ -222,7 +244,11 @@ module _ (file : List ℕ) where
     where
       name : (o : Option ℕ) → misnamed (number 0) [] [] ts ≡ o → Past5 file ts m → Grounds
       name (some k) e q = (refused (answer 6 k 0), wrong-name q (misnamed-first ts k .0 e))
-      name none e q = (checkMeaning ts m, of-judged (record { past = q; names = misnamed-none ts .0 e }) (check-meaning-iff ts m _ .0 refl))
+      name none e q = (
+        checkMeaning ts m,
+        of-judged (record { past = q; names = misnamed-none ts .0 e })
+            (check-meaning-iff ts m _ .0 refl),
+      )
 
       limit : (o : Option ℕ) → pastLimit 0 0 0 ts ≡ o → Grounds
       limit (some k) e = (refused (answer 5 k 0), past-limit p (past-first ts k .0 e))

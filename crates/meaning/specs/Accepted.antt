@@ -1,5 +1,5 @@
--- What it is for a file to be accepted: "within the grammar and limits", "its kept condition holds at the start, and every region
--- keeps it and every range".
+-- What it is for a file to be accepted: "within the grammar and limits", "its kept condition holds at the start, and
+-- every region keeps it and every range".
 use Prim.Native.Nat.{ℕ, suc, _+_, _≤_, _<_}
 use mathlib.Core.Path.{_≡_}
 use mathlib.Core.Bool.{Bool, true, false, _||_}
@@ -45,7 +45,8 @@ closes l = isMark rbrace l || isMark rparen l
 
 unfoldable pub Crowded : List Token → Token → Type 0
 Crowded before t =
-    (mostTokens ≤ length before) ⊎ ((opens (t .lexeme) ≡ true) × (howMany closes before + mostOpen < howMany opens before + 1))
+    (mostTokens ≤ length before)
+    ⊎ ((opens (t .lexeme) ≡ true) × (howMany closes before + mostOpen < howMany opens before + 1))
 
 -- 5
 unfoldable pub PastLimit : List Token → Token → Type 0
@@ -60,7 +61,8 @@ Behind k before = (front : List Token) × (t : Token) × (before ≡ front ++ (t
 
 unfoldable pub Declared : Keyword → List ℕ → List Token → Type 0
 Declared k x ts =
-    (front back : List Token) × (t u : Token) × (ts ≡ front ++ (t ∷ u ∷ back)) × (t .lexeme ≡ key k) × (u .lexeme ≡ name x)
+    (front back : List Token) × (t u : Token) × (ts ≡ front ++ (t ∷ u ∷ back)) × (t .lexeme ≡ key k)
+    × (u .lexeme ≡ name x)
 
 unfoldable pub Misnamed : List Token → Token → Type 0
 Misnamed before t =
@@ -88,7 +90,8 @@ pub data GoodRanges : List Var → Type 0 where
 -- States: one value in its range for each variable
 pub data State : List Var → List ℤ → Type 0 where
   no-values : State [] []
-  one-value : {v : Var} {vs : List Var} {a : ℤ} {as′ : List ℤ} → inRange v a ≡ true → State vs as′ → State (v ∷ vs) (a ∷ as′)
+  one-value : {v : Var} {vs : List Var} {a : ℤ} {as′ : List ℤ} → inRange v a ≡ true → State vs as′
+      → State (v ∷ vs) (a ∷ as′)
 
 -- the values after an assignment to the variable named x: the first of that name takes the value, within its range
 pub data Assigns : List Var → List ℤ → List ℕ → ℤ → List ℤ → Type 0 where
@@ -104,16 +107,21 @@ mutual
   pub data BlockRuns (vs : List Var) : Block → List ℤ → List ℤ → Type 0 where
     ends : {as′ : List ℤ} → BlockRuns vs end as′ as′
     goes-on :
-        {s : Stmt} {b : Block} {as′ bs cs : List ℤ} → StmtRuns vs s as′ bs → BlockRuns vs b bs cs → BlockRuns vs (then s b) as′ cs
+        {s : Stmt} {b : Block} {as′ bs cs : List ℤ} → StmtRuns vs s as′ bs → BlockRuns vs b bs cs
+        → BlockRuns vs (then s b) as′ cs
 
   pub data StmtRuns (vs : List Var) : Stmt → List ℤ → List ℤ → Type 0 where
-    assigns : {x : List ℕ} {e : Expr} {as′ bs : List ℤ} → Assigns vs as′ x (exprValue vs as′ e) bs → StmtRuns vs (assign x e) as′ bs
-    if-true : {c : Cond} {b : Block} {as′ bs : List ℤ} → truth c vs as′ ≡ true → BlockRuns vs b as′ bs → StmtRuns vs (if-then c b) as′ bs
+    assigns : {x : List ℕ} {e : Expr} {as′ bs : List ℤ} → Assigns vs as′ x (exprValue vs as′ e) bs
+        → StmtRuns vs (assign x e) as′ bs
+    if-true : {c : Cond} {b : Block} {as′ bs : List ℤ} → truth c vs as′ ≡ true → BlockRuns vs b as′ bs
+        → StmtRuns vs (if-then c b) as′ bs
     if-false : {c : Cond} {b : Block} {as′ : List ℤ} → truth c vs as′ ≡ false → StmtRuns vs (if-then c b) as′ as′
     else-true :
-        {c : Cond} {a b : Block} {as′ bs : List ℤ} → truth c vs as′ ≡ true → BlockRuns vs a as′ bs → StmtRuns vs (if-else c a b) as′ bs
+        {c : Cond} {a b : Block} {as′ bs : List ℤ} → truth c vs as′ ≡ true → BlockRuns vs a as′ bs
+        → StmtRuns vs (if-else c a b) as′ bs
     else-false :
-        {c : Cond} {a b : Block} {as′ bs : List ℤ} → truth c vs as′ ≡ false → BlockRuns vs b as′ bs → StmtRuns vs (if-else c a b) as′ bs
+        {c : Cond} {a b : Block} {as′ bs : List ℤ} → truth c vs as′ ≡ false → BlockRuns vs b as′ bs
+        → StmtRuns vs (if-else c a b) as′ bs
 
 -- 9: the body keeps the kept condition and every range from these values
 unfoldable pub Keeps : Monitor → Region → List ℤ → Type 0
@@ -141,7 +149,8 @@ pub record Sound (m : Monitor) : Type 0 where
   pub start : keptAt m (starts (all (m .vars))) ≡ true
   pub keeps : (k : ℕ) (r : Region) (as′ : List ℤ) → IsRegion m k r → Meets m r as′ → Keeps m r as′
 
--- Accepted: "within document 01's grammar and limits, its kept condition holds at the start, and every region keeps it and every range"
+-- Accepted: "within document 01's grammar and limits, its kept condition holds at the start, and every region keeps it
+-- and every range"
 pub record Accepted (file : List ℕ) (m : Monitor) : Type 0 where
   pub ts : List Token
   -- not 1, 2, 3

@@ -1,4 +1,5 @@
--- What the library's calls give: of placing the answer, the length and every byte of the buffer; of a run the record or the answer.
+-- What the library's calls give: of placing the answer, the length and every byte of the buffer; of a run the record or
+-- the answer.
 use Prim.Native.Nat.{ℕ, zero, suc, _+_, _*_, _<_}
 use mathlib.Core.Path.{_≡_}
 use mathlib.Core.Bool.{Bool, true, false}
@@ -46,7 +47,8 @@ ones [] = 0
 ones (true ∷ bs) = suc (ones bs)
 ones (false ∷ bs) = ones bs
 
--- the record of a run: each variable's value, the place of each of sixteen threads, the set of notified threads and how many
+-- the record of a run: each variable's value, the place of each of sixteen threads, the set of notified threads and how
+-- many
 pub record Record : Type 0 where
   pub values : List ℤ
   pub places : List Place

@@ -62,7 +62,8 @@ noGuard = only (just (constant false))
 unfoldable pub noRegion : Region
 noRegion = record { guard = noGuard; body = end }
 
--- the number of the state after a body; the state's own where it faults, which an accepted file has at no state that counts
+-- the number of the state after a body; the state's own where it faults, which an accepted file has at no state that
+-- counts
 unfoldable pub numberAfter : List Var → ℕ → Option (List ℤ) → ℕ
 numberAfter vs n none = n
 numberAfter vs n (some as′) = numberOf vs as′

@@ -91,16 +91,20 @@ pub data Refusal (file : List ℕ) : Answer → Type 0 where
   too-long : mostBytes < length file → Refusal file (answer 1 0 0)
   -- "first byte that begins no token, or begins a word or number that is too long"
   no-token : {k : ℕ} → length file ≤ mostBytes → Stops k 0 file → Refusal file (answer 2 k 0)
-  -- "first token that is past the 1,024th, or is a ( or { that makes opened less closed (both kinds together) exceed 12"
+  -- "first token that is past the 1,024th, or is a ( or { that makes opened less closed (both kinds together) exceed
+  -- 12"
   too-many : {ts : List Token} {k : ℕ} → Past2 file ts → FirstOffends Crowded ts k → Refusal file (answer 3 k 0)
   -- "first token after which no file of the grammar can follow; the length if the file ends early"
   no-file : {ts : List Token} {k : ℕ} → Past3 file ts → FirstOffends NoFile ts k → Refusal file (answer 4 k 0)
   ends-early :
-      {ts : List Token} → Past3 file ts → Viable (lexemes ts) → (InGrammar (lexemes ts) → ⊥) → Refusal file (answer 4 (length file) 0)
+      {ts : List Token} → Past3 file ts → Viable (lexemes ts) → (InGrammar (lexemes ts) → ⊥)
+      → Refusal file (answer 4 (length file) 0)
   -- "first `var` past 6, `method` past 8 or `waituntil` past 16"
-  past-limit : {ts : List Token} {m : Monitor} {k : ℕ} → Past4 file ts m → FirstOffends PastLimit ts k → Refusal file (answer 5 k 0)
+  past-limit : {ts : List Token} {m : Monitor} {k : ℕ} → Past4 file ts m → FirstOffends PastLimit ts k
+      → Refusal file (answer 5 k 0)
   -- "first word that declares a variable or method twice among its kind, or uses a variable not declared"
-  wrong-name : {ts : List Token} {m : Monitor} {k : ℕ} → Past5 file ts m → FirstOffends Misnamed ts k → Refusal file (answer 6 k 0)
+  wrong-name : {ts : List Token} {m : Monitor} {k : ℕ} → Past5 file ts m → FirstOffends Misnamed ts k
+      → Refusal file (answer 6 k 0)
   -- "byte of `var`": the token behind the variables before the first ill-ranged one
   ill-ranged :
       {ts : List Token} {m : Monitor} {i k : ℕ} → Past6 file ts m → (t : FirstIllRanged (all (m .vars)) i)

@@ -1,5 +1,5 @@
--- States and their numbers: "A state gives each variable a value in its range. Its number counts mixed-radix, each value less its
--- lowest, the first variable weighing most."
+-- States and their numbers: "A state gives each variable a value in its range. Its number counts mixed-radix, each
+-- value less its lowest, the first variable weighing most."
 use Prim.Native.Nat.{ℕ, _+_, _*_, _/_, _%_}
 use mathlib.Core.List.{List, [], _∷_}
 use lib.IntN.{ℤ, pos, _+ℤ_, _-ℤ_, natAbs}

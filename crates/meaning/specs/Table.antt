@@ -14,7 +14,8 @@ pub record Row : Type 0 where
   pub broadcast : Bool
 
 unfoldable pub rowLine : Row → List ℕ
-rowLine w = hex2 (w .region) ++ (hex2 (w .guard) ++ (hexBool (w .unconditional) ++ (hexBool (w .broadcast) ++ (10 ∷ []))))
+rowLine w =
+    hex2 (w .region) ++ (hex2 (w .guard) ++ (hexBool (w .unconditional) ++ (hexBool (w .broadcast) ++ (10 ∷ []))))
 
 unfoldable pub rowLines : List Row → List ℕ
 rowLines [] = []

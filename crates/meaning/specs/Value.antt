@@ -1,11 +1,14 @@
--- What expressions, conditions and bodies mean: values are whole numbers, one for each variable in the order of the declarations.
+-- What expressions, conditions and bodies mean: values are whole numbers, one for each variable in the order of the
+-- declarations.
 use Prim.Native.Nat.{ℕ}
 use mathlib.Core.Bool.{Bool, true, false, not, _&&_, _||_}
 use mathlib.Core.List.{List, [], _∷_}
 use mathlib.Core.Option.{Option, none, some}
 use lib.IntN.{ℤ, pos, negsuc, negℤ, _+ℤ_, _-ℤ_}
 use Rattle.syntax.specs.Bytes.{sameBytes}
-use Rattle.syntax.specs.Tree.{Int, plain, negated, Atom, literal, variable, Sign, added, taken, Term, Expr, Comparison, eq, ne, lt, le, gt, ge, Cond, only, or, Conj, just, and, Simple, negation, bracketed, constant, compare, Block, end, then, Stmt, assign, if-then, if-else, Var}
+use Rattle.syntax.specs.Tree.{Int, plain, negated, Atom, literal, variable, Sign, added, taken, Term, Expr, Comparison}
+use Rattle.syntax.specs.Tree.{eq, ne, lt, le, gt, ge, Cond, only, or, Conj, just, and, Simple, negation, bracketed}
+use Rattle.syntax.specs.Tree.{constant, compare, Block, end, then, Stmt, assign, if-then, if-else, Var}
 use Rattle.syntax.specs.Tree.{Region}
 
 unfoldable pub intOf : Int → ℤ

@@ -1,4 +1,5 @@
--- The passes read a file's tokens by index: what stands at an index of each slice, and one step of each definition that is carried along the tokens.
+-- The passes read a file's tokens by index: what stands at an index of each slice, and one step of each definition that
+-- is carried along the tokens.
 use Prim.Native.Nat.{ℕ, zero, suc, _+_, _≤_, _<_}
 use native.Mathlib.Numerals.{add-one}
 use native.Mathlib.Omega.{arith}
@@ -78,11 +79,13 @@ module _ {file : List ℕ} {ts : List Token} {kinds values places : List ℕ} (h
 
 -- Brackets and braces by kind
 
-pub kind-opens : (l : Lexeme) → opens l ≡ (eqb (kindOf l) (kindOf (mark lbrace)) || eqb (kindOf l) (kindOf (mark lparen)))
+pub kind-opens : (l : Lexeme)
+    → opens l ≡ (eqb (kindOf l) (kindOf (mark lbrace)) || eqb (kindOf l) (kindOf (mark lparen)))
 unfolding opens
 kind-opens l = rw (kind-mark lbrace l, kind-mark lparen l)
 
-pub kind-closes : (l : Lexeme) → closes l ≡ (eqb (kindOf l) (kindOf (mark rbrace)) || eqb (kindOf l) (kindOf (mark rparen)))
+pub kind-closes : (l : Lexeme)
+    → closes l ≡ (eqb (kindOf l) (kindOf (mark rbrace)) || eqb (kindOf l) (kindOf (mark rparen)))
 unfolding closes
 kind-closes l = rw (kind-mark rbrace l, kind-mark rparen l)
 
@@ -121,10 +124,13 @@ pub record Pass (S : Type 0) : Type 0 where
   pub next : S → Lexeme → S
   pub nothing : (s : S) → find s [] ≡ none
   pub token : (s : S) (t : Token) (ts : List Token)
-      → find s (t ∷ ts) ≡ elim (test s (t .lexeme)) as (λ b. Option ℕ) [ true ↦ some (t .at) | false ↦ find (next s (t .lexeme)) ts ]
+      → find s (t ∷ ts)
+      ≡ elim (test s (t .lexeme)) as (λ b. Option ℕ) [ true ↦ some (t .at) | false ↦ find (next s (t .lexeme)) ts ]
 
--- Where a pass over the whole file is the pass over what is left, so it is behind one more token, and the answer is found at a token that offends or at the end
-module _ {S : Type 0} (p : Pass S) {file : List ℕ} {ts : List Token} {kinds values places : List ℕ} (h : Words file ts kinds values places)
+-- Where a pass over the whole file is the pass over what is left, so it is behind one more token, and the answer is
+-- found at a token that offends or at the end
+module _ {S : Type 0} (p : Pass S) {file : List ℕ} {ts : List Token} {kinds values places : List ℕ}
+    (h : Words file ts kinds values places)
     (s₀ s : S) (i : ℕ) (so-far : p .find s₀ ts ≡ p .find s (drop i ts)) where
   step : i < length kinds
       → p .find s₀ ts
@@ -132,7 +138,8 @@ module _ {S : Type 0} (p : Pass S) {file : List ℕ} {ts : List Token} {kinds va
       [ true ↦ some (tokenAt ts i .at) | false ↦ p .find (p .next s (tokenAt ts i .lexeme)) (drop (i + 1) ts) ]
   step l = so-far ∙ ap (p .find s) (here h i l) ∙ p .token s (tokenAt ts i) (drop (i + 1) ts)
 
-  pub offends : i < length kinds → p .test s (tokenAt ts i .lexeme) ≡ true → At (getD places i 0) ≡ foundOf (p .find s₀ ts)
+  pub offends : i < length kinds → p .test s (tokenAt ts i .lexeme) ≡ true → At (getD places i 0)
+      ≡ foundOf (p .find s₀ ts)
   unfolding foundOf
   offends l e = rw (step l, e, place-at h i)
 
@@ -175,9 +182,11 @@ past-nothing v m w = refl
 
 pub past-token : (v m w : ℕ) (t : Token) (ts : List Token)
     → pastLimit v m w (t ∷ ts)
-    ≡ elim ((isKey k-var (t .lexeme) && leb mostVars v) || (isKey k-method (t .lexeme) && leb mostMethods m) || (isKey k-waituntil (t .lexeme) && leb mostRegions w)) as (λ b. Option ℕ) [
+    ≡ elim ((isKey k-var (t .lexeme) && leb mostVars v) || (isKey k-method (t .lexeme) && leb mostMethods m)
+    || (isKey k-waituntil (t .lexeme) && leb mostRegions w)) as (λ b. Option ℕ) [
       | true ↦ some (t .at)
-      | false ↦ pastLimit (tally (isKey k-var (t .lexeme)) v) (tally (isKey k-method (t .lexeme)) m) (tally (isKey k-waituntil (t .lexeme)) w) ts
+      | false ↦ pastLimit (tally (isKey k-var (t .lexeme)) v) (tally (isKey k-method (t .lexeme)) m)
+          (tally (isKey k-waituntil (t .lexeme)) w) ts
     ]
 unfolding pastLimit
 past-token v m w t ts = refl
@@ -186,7 +195,8 @@ abbrev pub limiting : Pass (ℕ × ℕ × ℕ)
 limiting =
     record {
       find = λ s ts. pastLimit (s .0) (s .1) (s .2) ts;
-      test = λ s l. (isKey k-var l && leb mostVars (s .0)) || (isKey k-method l && leb mostMethods (s .1)) || (isKey k-waituntil l && leb mostRegions (s .2));
+      test = λ s l. (isKey k-var l && leb mostVars (s .0)) || (isKey k-method l && leb mostMethods (s .1))
+          || (isKey k-waituntil l && leb mostRegions (s .2));
       next = λ s l. (tally (isKey k-var l) (s .0), tally (isKey k-method l) (s .1), tally (isKey k-waituntil l) (s .2));
       nothing = λ s. past-nothing (s .0) (s .1) (s .2);
       token = λ s t ts. past-token (s .0) (s .1) (s .2) t ts;
@@ -204,16 +214,27 @@ pub record Few (ts : List Token) (i : ℕ) (last : Lexeme) (vs ms : ℕ) : Type 
 
 pub few-first : (ts : List Token) → Few ts 0 (number 0) 0 0
 unfolding isKey tally
-few-first ts = record { counts = (0, 0, 0); so-far = refl; vars = omega arith; methods = omega arith; few-vars = omega arith; few-methods = omega arith }
+few-first ts = record {
+  counts = (0, 0, 0);
+  so-far = refl;
+  vars = omega arith;
+  methods = omega arith;
+  few-vars =
+      omega arith;
+  few-methods = omega arith;
+}
 
-pub few-next : {file : List ℕ} {ts : List Token} {kinds values places : List ℕ} → Words file ts kinds values places → pastLimit 0 0 0 ts ≡ none
+pub few-next : {file : List ℕ} {ts : List Token} {kinds values places : List ℕ} → Words file ts kinds values places
+    → pastLimit 0 0 0 ts ≡ none
     → {i : ℕ} {last : Lexeme} {vs ms : ℕ} (vs′ ms′ : ℕ) → Few ts i last vs ms → i < length kinds
-    → vs′ ≤ tally (isKey k-var last) vs → ms′ ≤ tally (isKey k-method last) ms → Few ts (i + 1) (tokenAt ts i .lexeme) vs′ ms′
+    → vs′ ≤ tally (isKey k-var last) vs → ms′ ≤ tally (isKey k-method last) ms
+    → Few ts (i + 1) (tokenAt ts i .lexeme) vs′ ms′
 few-next {ts = ts} h n {i = i} vs′ ms′ f l v m =
     let s = f .counts in
     let t = tokenAt ts i .lexeme in
     let e = passed limiting h (0, 0, 0) s i (f .so-far) l n in
-    let k = neither (isKey k-var t && leb mostVars (s .0)) (isKey k-method t && leb mostMethods (s .1)) (isKey k-waituntil t && leb mostRegions (s .2)) e in
+    let k = neither (isKey k-var t && leb mostVars (s .0)) (isKey k-method t && leb mostMethods (s .1))
+    (isKey k-waituntil t && leb mostRegions (s .2)) e in
     record {
       counts = limiting .next s t;
       so-far = goes-on limiting h (0, 0, 0) s i (f .so-far) l e;

@@ -1,4 +1,5 @@
--- 6 as a pass over the tokens: what one token does to the names declared, which are held in the order in which they come.
+-- 6 as a pass over the tokens: what one token does to the names declared, which are held in the order in which they
+-- come.
 use Prim.Native.Nat.{ℕ, _+_, _≤_, _<_}
 use native.Mathlib.Omega.{arith}
 use mathlib.Core.Path.{_≡_, refl, sym, ap, _∙_}
@@ -27,7 +28,8 @@ one-keyword : (l : Lexeme) → isKey k-var l ≡ true → isKey k-method l ≡ t
 one-keyword l v m = let e = decides-key k-var l .0 v in let f = decides-key k-method l .0 m in different (cc)
 
 -- the cases of `misnamed` at a name, in order
-picked : (v m o a b : Bool) → (v ≡ true → m ≡ true → ⊥) → (found : Option ℕ) (next : List (List ℕ) → List (List ℕ) → Option ℕ)
+picked : (v m o a b : Bool) → (v ≡ true → m ≡ true → ⊥)
+    → (found : Option ℕ) (next : List (List ℕ) → List (List ℕ) → Option ℕ)
     (x : List ℕ) (vs ms : List (List ℕ))
     → _≡_ {A = Option ℕ}
     (elim v [
@@ -60,7 +62,8 @@ unfolding misnamed wrongly added
 misnamed-token last vs ms at (key k) ts = refl
 misnamed-token last vs ms at (number n) ts = refl
 misnamed-token last vs ms at (mark m) ts = refl
-misnamed-token last vs ms at (name x) ts = picked _ _ _ _ _ (one-keyword last) (some at) (λ vs ms. misnamed (name x) vs ms ts) x vs ms
+misnamed-token last vs ms at (name x) ts =
+    picked _ _ _ _ _ (one-keyword last) (some at) (λ vs ms. misnamed (name x) vs ms ts) x vs ms
 
 abbrev pub naming : Pass (Lexeme × List (List ℕ) × List (List ℕ))
 naming =
@@ -93,7 +96,8 @@ member-reverse x [] = refl
 member-reverse x (y ∷ xs) = ap (member x) (reverse-cons y xs) ∙ member-append x (reverse xs) (y ∷ [])
     ∙ rw (member-reverse x xs, or-false (sameBytes x y)) (or-comm (member x xs) (sameBytes x y))
 
-wrong-reverse : (last l : Lexeme) (vs ms : List (List ℕ)) → wrongly last (reverse vs) (reverse ms) l ≡ wrongly last vs ms l
+wrong-reverse : (last l : Lexeme) (vs ms : List (List ℕ)) → wrongly last (reverse vs) (reverse ms) l
+    ≡ wrongly last vs ms l
 unfolding wrongly
 wrong-reverse last (name x) vs ms = rw (member-reverse x vs, member-reverse x ms)
 wrong-reverse last (key k) vs ms = refl
@@ -110,23 +114,38 @@ pub record Naming (file : List ℕ) (ts : List Token) (vars methods : Names) (be
   pub methods-held : Titles file (reverse ms) methods
   pub few : Few ts i last (length vs) (length ms)
 
-pub naming-first : (file : List ℕ) (ts : List Token) (vars methods : Names) → Titles file [] vars → Titles file [] methods → Naming file ts vars methods numberKind 0
+pub naming-first : (file : List ℕ) (ts : List Token) (vars methods : Names) → Titles file [] vars
+    → Titles file [] methods → Naming file ts vars methods numberKind 0
 unfolding kindOf
 naming-first file ts vars methods t u =
-    record { last = number 0; known = refl; vs = []; ms = []; so-far = refl; vars-held = t; methods-held = u; few = few-first ts }
+    record {
+      last = number 0;
+      known = refl;
+      vs = [];
+      ms = [];
+      so-far = refl;
+      vars-held = t;
+      methods-held = u;
+      few =
+          few-first ts;
+    }
 
-module _ {file : List ℕ} {ts : List Token} {kinds values places : List ℕ} (h : Words file ts kinds values places) {vars methods : Names} {before i : ℕ}
+module _ {file : List ℕ} {ts : List Token} {kinds values places : List ℕ} (h : Words file ts kinds values places)
+    {vars methods : Names} {before i : ℕ}
     (s : Naming file ts vars methods before i) where
   abbrev summary : Lexeme × List (List ℕ) × List (List ℕ)
   summary = (s .last, s .vs, s .ms)
 
-  judged : i < length kinds → (r : Bool) → Judges file vars methods (getD kinds i 0) before (getD places i 0) (getD values i 0) r
+  judged : i < length kinds → (r : Bool) → Judges file vars methods (getD kinds i 0) before (getD places i 0)
+      (getD values i 0) r
       → wrongly (s .last) (s .vs) (s .ms) (tokenAt ts i .lexeme) ≡ r
   judged l r d = sym
-      (d (reverse (s .vs)) (reverse (s .ms)) (tokenAt ts i .lexeme) (s .last) (s .vars-held) (s .methods-held) (kind-at h i) (s .known) (name-stands h i l)
+      (d (reverse (s .vs)) (reverse (s .ms)) (tokenAt ts i .lexeme) (s .last) (s .vars-held) (s .methods-held)
+      (kind-at h i) (s .known) (name-stands h i l)
       ∙ wrong-reverse (s .last) (tokenAt ts i .lexeme) (s .vs) (s .ms))
 
-  pub naming-offends : i < length kinds → (r : Bool) → Judges file vars methods (getD kinds i 0) before (getD places i 0) (getD values i 0) r → r ≡ true
+  pub naming-offends : i < length kinds → (r : Bool)
+      → Judges file vars methods (getD kinds i 0) before (getD places i 0) (getD values i 0) r → r ≡ true
       → At (getD places i 0) ≡ foundOf (misnamed (number 0) [] [] ts)
   naming-offends l r d e = offends naming h (number 0, [], []) summary i (s .so-far) l (judged l r d ∙ e)
 
@@ -136,8 +155,10 @@ module _ {file : List ℕ} {ts : List Token} {kinds values places : List ℕ} (h
   pub naming-next : pastLimit 0 0 0 ts ≡ none → i < length kinds → (r : Bool)
       → Judges file vars methods (getD kinds i 0) before (getD places i 0) (getD values i 0) r → r ≡ false
       → {vars′ methods′ : Names} (a b : Bool)
-      → a ≡ (eqb (getD kinds i 0) nameKind && eqb before (kindOf (key k-var))) → Grows vars a (getD places i 0) (getD values i 0) vars′
-      → b ≡ (eqb (getD kinds i 0) nameKind && eqb before (kindOf (key k-method))) → Grows methods b (getD places i 0) (getD values i 0) methods′
+      → a ≡ (eqb (getD kinds i 0) nameKind && eqb before (kindOf (key k-var)))
+      → Grows vars a (getD places i 0) (getD values i 0) vars′
+      → b ≡ (eqb (getD kinds i 0) nameKind && eqb before (kindOf (key k-method)))
+      → Grows methods b (getD places i 0) (getD values i 0) methods′
       → Naming file ts vars′ methods′ (getD kinds i 0) (i + 1)
   naming-next n l r d e a b f p g q =
       let t = tokenAt ts i in
@@ -149,9 +170,13 @@ module _ {file : List ℕ} {ts : List Token} {kinds values places : List ℕ} (h
         vs = added v (t .lexeme) ++ s .vs;
         ms = added m (t .lexeme) ++ s .ms;
         so-far = goes-on naming h (number 0, [], []) summary i (s .so-far) l (judged l r d ∙ e);
-        vars-held = rw (reverse-added v (t .lexeme) (s .vs)) (grown-at h i l k-var (s .last) a (s .known) f p (s .vars-held)
+        vars-held =
+            rw (reverse-added v (t .lexeme) (s .vs)) (grown-at h i l k-var (s .last) a (s .known) f p (s .vars-held)
             (rw length-reverse (room v _ _ mostVars (s .few .vars) (s .few .few-vars) (omega arith))));
-        methods-held = rw (reverse-added m (t .lexeme) (s .ms)) (grown-at h i l k-method (s .last) b (s .known) g q (s .methods-held)
+        methods-held =
+            rw (reverse-added m (t .lexeme) (s .ms))
+            (grown-at h i l k-method (s .last) b (s .known) g q (s .methods-held)
             (rw length-reverse (room m _ _ mostMethods (s .few .methods) (s .few .few-methods) (omega arith))));
-        few = few-next h n _ _ (s .few) l (rw length-append (added-few v (t .lexeme) (length (s .vs)))) (rw length-append (added-few m (t .lexeme) (length (s .ms))));
+        few = few-next h n _ _ (s .few) l (rw length-append (added-few v (t .lexeme) (length (s .vs))))
+            (rw length-append (added-few m (t .lexeme) (length (s .ms))));
       }

@@ -1,4 +1,5 @@
--- Names by where they stand in the file: equal bytes, the slot of a name among others, one name more, and a token's name by its kind and place.
+-- Names by where they stand in the file: equal bytes, the slot of a name among others, one name more, and a token's
+-- name by its kind and place.
 use Prim.Native.Nat.{ℕ, suc, _+_, _-_, _≤_, _<_}
 use native.Mathlib.Omega.{arith}
 use mathlib.Core.Path.{_≡_, refl, sym, ap, _∙_}
@@ -34,20 +35,24 @@ pub same-sym : (x y : List ℕ) → sameBytes x y ≡ sameBytes y x
 same-sym x y = same-test (sameBytes x y) y x (λ h. sym (decides-same x y .0 h)) (λ e. decides-same x y .1 (sym e))
 
 -- the bytes between a name's start and its end
-pub stood : {file x : List ℕ} {start len : ℕ} → Stands file x start len → take (start + len - start) (drop start file) ≡ x
-stood {file} {x} {start} {len} s = ap (λ (n : ℕ). take n (drop start file)) (let e : start + len - start ≡ len = omega arith in e) ∙ s .bytes
+pub stood : {file x : List ℕ} {start len : ℕ} → Stands file x start len → take (start + len - start) (drop start file)
+    ≡ x
+stood {file} {x} {start} {len} s = ap (λ (n : ℕ). take n (drop start file)) (let e : start + len - start ≡ len =
+    omega arith in e) ∙ s .bytes
 
 -- Slots
 
 module _ (titles : List (List ℕ)) (x : List ℕ) (i : ℕ) where
-  slot-here : i < length titles → slotIn (drop i titles) x ≡ elim (sameBytes (getD titles i []) x) as (λ b. ℕ) [ true ↦ 0 | false ↦ suc (slotIn (drop (i + 1) titles) x) ]
+  slot-here : i < length titles → slotIn (drop i titles) x
+      ≡ elim (sameBytes (getD titles i []) x) as (λ b. ℕ) [ true ↦ 0 | false ↦ suc (slotIn (drop (i + 1) titles) x) ]
   unfolding slotIn
   slot-here l = ap (λ (l : List (List ℕ)). slotIn l x) (rest-at titles i [] l)
 
   pub slot-hit : i < length titles → sameBytes (getD titles i []) x ≡ true → slotIn (drop i titles) x ≡ 0
   slot-hit l e = slot-here l ∙ rw e
 
-  pub slot-miss : i < length titles → sameBytes (getD titles i []) x ≡ false → slotIn (drop i titles) x ≡ suc (slotIn (drop (i + 1) titles) x)
+  pub slot-miss : i < length titles → sameBytes (getD titles i []) x ≡ false → slotIn (drop i titles) x
+      ≡ suc (slotIn (drop (i + 1) titles) x)
   slot-miss l e = slot-here l ∙ rw e
 
   pub slot-end : length titles ≤ i → slotIn (drop i titles) x ≡ 0
@@ -64,15 +69,22 @@ slot-member (y ∷ ys) x = split (sameBytes y x)
 
 -- One name more
 
-pub one-more : {file : List ℕ} {titles : List (List ℕ)} {names : Names} (x : List ℕ) (start len : ℕ) → Titles file titles names → length titles < mostMethods
+pub one-more : {file : List ℕ} {titles : List (List ℕ)} {names : Names} (x : List ℕ) (start len : ℕ)
+    → Titles file titles names → length titles < mostMethods
     → length (names .starts) ≡ mostMethods → length (names .lens) ≡ mostMethods → Stands file x start len
     → Titles file (titles ++ (x ∷ []))
-    (record { starts = set (names .starts) (names .count) start; lens = set (names .lens) (names .count) len; count = names .count + 1 })
+    (record {
+      starts = set (names .starts) (names .count) start;
+      lens = set (names .lens) (names .count) len;
+      count =
+          names .count + 1;
+    })
 one-more {file} {titles} {names} x start len t room a b s =
     record {
       counted = rw length-append (omega (arith, t .counted));
       room = rw length-append (omega arith);
-      held = λ k l. split (ltb k (length titles)) (λ e. earlier k (ltb-true k (length titles) e)) (λ e. last k (fits k l) (ltb-false k (length titles) e));
+      held = λ k l. split (ltb k (length titles)) (λ e. earlier k (ltb-true k (length titles) e))
+          (λ e. last k (fits k l) (ltb-false k (length titles) e));
     }
   where
     fits : (k : ℕ) → k < length (titles ++ (x ∷ [])) → k ≤ length titles
@@ -92,7 +104,12 @@ one-more {file} {titles} {names} x start len t room a b s =
         (getD (set (names .starts) (names .count) start) k 0) (getD (set (names .lens) (names .count) len) k 0)
     last k l m =
         let e : names .count ≡ k = omega (arith, t .counted) in
-        rw (getD-at titles x [] [] k (omega arith), e, getD-set-same (names .starts) k start 0 (omega arith), getD-set-same (names .lens) k len 0 (omega arith)) s
+        rw (
+          getD-at titles x [] [] k (omega arith),
+          e,
+          getD-set-same (names .starts) k start 0 (omega arith),
+          getD-set-same (names .lens) k len 0 (omega arith),
+        ) s
 
 -- A name token's bytes stand at its place
 
@@ -102,7 +119,8 @@ spelled x (named a b c) e = cc
 spelled x (valued a b) e = different (cc)
 spelled x (marked a) e = different (cc)
 
-pub name-stands : {file : List ℕ} {ts : List Token} {kinds values places : List ℕ} → Words file ts kinds values places → (i : ℕ) → i < length kinds
+pub name-stands : {file : List ℕ} {ts : List Token} {kinds values places : List ℕ} → Words file ts kinds values places
+    → (i : ℕ) → i < length kinds
     → (x : List ℕ) → tokenAt ts i .lexeme ≡ name x → Stands file x (getD places i 0) (getD values i 0)
 unfolding valueOf
 name-stands {file} {ts} {values = values} {places = places} h i l x e =
@@ -135,7 +153,8 @@ unfolding slotOrValue valueOf
 value-other titles = other-kind (λ l. slotOrValue titles l ≡ valueOf l) (λ k. refl) (λ n. refl) (λ m. refl)
 
 pub wrong-name : (last : Lexeme) (vs ms : List (List ℕ)) (x : List ℕ)
-    → wrongly last vs ms (name x) ≡ wrongBy (eqb (kindOf last) (kindOf (key k-var))) (eqb (kindOf last) (kindOf (key k-method)))
+    → wrongly last vs ms (name x) ≡ wrongBy (eqb (kindOf last) (kindOf (key k-var)))
+    (eqb (kindOf last) (kindOf (key k-method)))
     (eqb (kindOf last) (kindOf (key k-monitor))) (member x vs) (member x ms)
 unfolding wrongly
 wrong-name last vs ms x = rw (kind-key k-var last, kind-key k-method last, kind-key k-monitor last)

@@ -57,14 +57,16 @@ pub record Stands (file x : List ℕ) (start len : ℕ) : Type 0 where
 pub record Titles (file : List ℕ) (titles : List (List ℕ)) (names : Names) : Type 0 where
   pub counted : names .count ≡ length titles
   pub room : length titles ≤ mostMethods
-  pub held : (k : ℕ) → k < length titles → Stands file (getD titles k []) (getD (names .starts) k 0) (getD (names .lens) k 0)
+  pub held : (k : ℕ) → k < length titles
+      → Stands file (getD titles k []) (getD (names .starts) k 0) (getD (names .lens) k 0)
 
 -- the names as they were, or with a name that stands at a start behind them
 abbrev pub Grows : Names → Bool → ℕ → ℕ → Names → Type 0
 Grows names adds start len after =
     (file : List ℕ) (titles : List (List ℕ)) → Titles file titles names
     → (adds ≡ false → Titles file titles after)
-    × ((x : List ℕ) → adds ≡ true → length titles < mostMethods → Stands file x start len → Titles file (titles ++ (x ∷ [])) after)
+    × ((x : List ℕ) → adds ≡ true → length titles < mostMethods → Stands file x start len
+    → Titles file (titles ++ (x ∷ [])) after)
 
 -- is a name wrong: does it follow `var`, `method` or `monitor`, and is it declared as a variable and as a method
 unfoldable pub wrongBy : Bool → Bool → Bool → Bool → Bool → Bool
@@ -83,5 +85,6 @@ wrongly last vs ms (mark m) = false
 -- a test of a token, by its kind and the kind before it, where it stands if it is a name: whether it offends 6
 abbrev pub Judges : List ℕ → Names → Names → ℕ → ℕ → ℕ → ℕ → Bool → Type 0
 Judges file vars methods kind before start len r =
-    (vs ms : List (List ℕ)) (l last : Lexeme) → Titles file vs vars → Titles file ms methods → kind ≡ kindOf l → before ≡ kindOf last
+    (vs ms : List (List ℕ)) (l last : Lexeme) → Titles file vs vars → Titles file ms methods → kind ≡ kindOf l
+    → before ≡ kindOf last
     → ((x : List ℕ) → l ≡ name x → Stands file x start len) → r ≡ wrongly last vs ms l

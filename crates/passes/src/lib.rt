@@ -44,7 +44,9 @@ fn more(n: usize, one: bool) -> usize
 // Is this token past the 1,024th, or one that opens the thirteenth level?
 fn crowds(kind: u8, passed: usize, opened: usize, closed: usize) -> bool
     requires { ⌜ closed ≤ passed ⌝ }
-    ensures { λ r. ⌜ ((l : Lexeme) → kind ≡ kindOf l → r ≡ (leb mostTokens passed || (opens l && leb (closed + mostOpen) opened))) ⌝ }
+    ensures { λ r.
+        ⌜ ((l : Lexeme) → kind ≡ kindOf l → r ≡ (leb mostTokens passed || (opens l && leb (closed + mostOpen) opened)))
+        ⌝ }
 {
     if syntax::TOKENS <= passed {
         return true;
@@ -80,7 +82,9 @@ pub fn find_crowded(kinds: &[u8], places: &[u16]) -> Found
 
 // Is this token a var past 6, a method past 8 or a waituntil past 16?
 fn exceeds(kind: u8, vars: usize, methods: usize, regions: usize) -> bool
-    ensures { λ r. ⌜ ((l : Lexeme) → kind ≡ kindOf l → r ≡ ((isKey k-var l && leb mostVars vars) || (isKey k-method l && leb mostMethods methods)
+    ensures { λ r.
+        ⌜ ((l : Lexeme) → kind ≡ kindOf l
+        → r ≡ ((isKey k-var l && leb mostVars vars) || (isKey k-method l && leb mostMethods methods)
         || (isKey k-waituntil l && leb mostRegions regions))) ⌝ }
 {
     if kind == syntax::KEY_VAR {

@@ -1,4 +1,5 @@
--- How a lexeme is held, and what is found at a place of a file: its length, that it lies in the file, and how it is held.
+-- How a lexeme is held, and what is found at a place of a file: its length, that it lies in the file, and how it is
+-- held.
 use Prim.Native.Nat.{ℕ, _+_, _≤_, _<_}
 use mathlib.Core.Path.{_≡_, refl}
 use mathlib.Core.Bool.{true}
@@ -18,19 +19,22 @@ use Rattle.syntax.proofs.ByKind.{keyword-few}
 use Rattle.scanner.specs.declared.Token.the-variants.{Word}
 use Rattle.scanner.proofs.FirstElement.{by-cases, leading-le, leading-more-at}
 use Rattle.scanner.proofs.Marks.{MarkOr, none, one, marks-or}
-use Rattle.scanner.proofs.Scanning.{WordOr, a-name, a-key, word-or, over, within, scan-end, scan-word, scan-number, scan-mark}
+use Rattle.scanner.proofs.Scanning.{WordOr, a-name, a-key, word-or, over, within, scan-end, scan-word}
+use Rattle.scanner.proofs.Scanning.{scan-number, scan-mark}
 
 pub key-at-most : {w : List ℕ} {l : Lexeme} → WordOr w l → keyCode l ≤ keywordCount
 unfolding keyCode
 key-at-most a-name = omega arith
 key-at-most (a-key k) = omega (arith, keyword-few k)
 
-pub name-code : {w : List ℕ} {l : Lexeme} → WordOr w l → keyCode l ≡ keywordCount → lexemeCode l ≡ record { kind = nameKind; value = length w }
+pub name-code : {w : List ℕ} {l : Lexeme} → WordOr w l → keyCode l ≡ keywordCount
+    → lexemeCode l ≡ record { kind = nameKind; value = length w }
 unfolding keyCode kindOf valueOf
 name-code a-name e = refl
 name-code (a-key k) e = absurd (omega (arith, keyword-few k))
 
-pub key-code : {w : List ℕ} {l : Lexeme} → WordOr w l → (keyCode l ≡ keywordCount → ⊥) → lexemeCode l ≡ record { kind = firstKeyword + keyCode l; value = 0 }
+pub key-code : {w : List ℕ} {l : Lexeme} → WordOr w l → (keyCode l ≡ keywordCount → ⊥)
+    → lexemeCode l ≡ record { kind = firstKeyword + keyCode l; value = 0 }
 unfolding keyCode kindOf valueOf
 key-code a-name n = absurd (n refl)
 key-code (a-key k) n = refl
@@ -74,7 +78,8 @@ module _ (file : List ℕ) (s : ℕ) (h : s < length file) where
       let l = number (decimal 0 (take n bs)) in
       by-cases (leb n 3)
       (λ t. rw (within 3 n l (leb-true n 3 t))
-      (there l n (omega (arith, leading-more-at digit file s h e)) (omega (arith, leading-le digit bs, length-drop s file)) tt refl))
+      (there l n (omega (arith, leading-more-at digit file s h e))
+      (omega (arith, leading-le digit bs, length-drop s file)) tt refl))
       (λ f. rw (over 3 n l (leb-false n 3 f)) missing)
 
   mark-there : {c : Scan} → MarkOr (drop s file) c → Found file s c

@@ -1,5 +1,5 @@
--- Marks: what two bytes begin with, where the first is known and the second is not the one that makes a longer mark, and where the
--- first begins no mark. A mark has no more than two bytes, and none has the byte 0.
+-- Marks: what two bytes begin with, where the first is known and the second is not the one that makes a longer mark,
+-- and where the first begins no mark. A mark has no more than two bytes, and none has the byte 0.
 use Prim.Native.Nat.{ℕ, suc, _+_, _≤_, _<_}
 use Prim.Native.String.{String}
 use mathlib.Core.Path.{_≡_, refl, sym, _∙_}
@@ -124,7 +124,8 @@ module _ (a : ℕ) where
   starts-two (x ∷ y ∷ []) (b ∷ bs) e = refl
   starts-two (x ∷ y ∷ z ∷ xs) bs e = absurd (false≢true e)
 
-  starts-all : (ms : List (String × Mark)) (bs : List ℕ) → all-short ms ≡ true → markOf ms (a ∷ bs) ≡ markOf ms (a ∷ getD bs 0 0 ∷ [])
+  starts-all : (ms : List (String × Mark)) (bs : List ℕ) → all-short ms ≡ true → markOf ms (a ∷ bs)
+      ≡ markOf ms (a ∷ getD bs 0 0 ∷ [])
   unfolding all-short
   starts-all [] bs e = no-marks (a ∷ bs) ∙ sym (no-marks (a ∷ getD bs 0 0 ∷ []))
   starts-all (m ∷ ms) bs e =

@@ -1,5 +1,5 @@
--- The token at a place of a file: what `scan` finds there, by the class of the byte that stands there; and the number of a reserved word by its
--- place among words.
+-- The token at a place of a file: what `scan` finds there, by the class of the byte that stands there; and the number
+-- of a reserved word by its place among words.
 use Prim.Native.Nat.{ℕ, suc, _+_, _≤_, _<_}
 use Prim.Native.String.{String}
 use mathlib.Core.Path.{_≡_, refl, sym, ap, _∙_}
@@ -56,7 +56,8 @@ module _ (w : List ℕ) where
   place-front (x ∷ xs) ys h =
       by-cases (sameBytes x w)
       (λ e. sym (hit x xs w refl e) ∙ hit x (xs ++ ys) w refl e)
-      (λ e. sym (miss x xs w refl e refl) ∙ miss x (xs ++ ys) w refl e (place-front xs ys (omega (arith, miss x xs w refl e refl))))
+      (λ e. sym (miss x xs w refl e refl)
+      ∙ miss x (xs ++ ys) w refl e (place-front xs ys (omega (arith, miss x xs w refl e refl))))
 
   place-behind : (xs ys : List (List ℕ)) → length xs ≤ place xs w → length xs + place ys w ≡ place (xs ++ ys) w
   place-behind [] ys h = omega arith
@@ -81,14 +82,17 @@ ordered : ℕ → List (String × Keyword) → Bool
 ordered n [] = eqb n 10
 ordered n (k ∷ ks) = eqb (keywordNumber (k .1)) n && ordered (suc n) ks
 
-key-place : (n : ℕ) (ks : List (String × Keyword)) (w : List ℕ) → ordered n ks ≡ true → n + place (texts ks) w ≡ keyCode (wordOf ks w)
+key-place : (n : ℕ) (ks : List (String × Keyword)) (w : List ℕ) → ordered n ks ≡ true → n + place (texts ks) w
+    ≡ keyCode (wordOf ks w)
 unfolding ordered texts keyCode wordOf
 key-place n [] w o = omega (arith, eqb-true n 10 o, no-place w)
 key-place n (k ∷ ks) w o =
     let h = and-true (eqb (keywordNumber (k .1)) n) (ordered (suc n) ks) o in
     by-cases (sameBytes (bytes (k .0)) w)
-    (λ e. rw (word-hit k ks w e) (omega (arith, eqb-true (keywordNumber (k .1)) n (h .0), hit (bytes (k .0)) (texts ks) w refl e)))
-    (λ e. rw (word-miss k ks w e) (omega (arith, miss (bytes (k .0)) (texts ks) w refl e refl, key-place (suc n) ks w (h .1))))
+    (λ e. rw (word-hit k ks w e)
+    (omega (arith, eqb-true (keywordNumber (k .1)) n (h .0), hit (bytes (k .0)) (texts ks) w refl e)))
+    (λ e. rw (word-miss k ks w e)
+    (omega (arith, miss (bytes (k .0)) (texts ks) w refl e refl, key-place (suc n) ks w (h .1))))
 
 keyword-place : (w : List ℕ) → place (texts keywords) w ≡ keyCode (wordOf keywords w)
 unfolding ordered keywords keywordNumber
@@ -98,7 +102,8 @@ keyword-place w = omega (arith, key-place 0 keywords w refl)
 module _ (w : List ℕ) (m : ℕ) (front : m ≡ place (texts (take 5 keywords)) w) where
   pub key-front : m < 5 → m ≡ keyCode (wordOf keywords w)
   unfolding keywords texts
-  key-front h = front ∙ place-front w (texts (take 5 keywords)) (texts (drop 5 keywords)) (rw front at h) ∙ keyword-place w
+  key-front h = front ∙ place-front w (texts (take 5 keywords)) (texts (drop 5 keywords)) (rw front at h)
+      ∙ keyword-place w
 
   pub key-behind : 5 ≤ m → (n : ℕ) → n ≡ place (texts (drop 5 keywords)) w → 5 + n ≡ keyCode (wordOf keywords w)
   unfolding keywords texts
@@ -118,7 +123,8 @@ word-or (k ∷ ks) w =
     (λ t. rw (word-hit k ks w t) (a-key (k .1)))
     (λ f. rw (word-miss k ks w f) (word-or ks w))
 
-pub word-step : (s n : ℕ) {w : List ℕ} {l : Lexeme} → WordOr w l → stepOf s (found l n) ≡ stepTo (token.Word s (s + n)) s (s + n)
+pub word-step : (s n : ℕ) {w : List ℕ} {l : Lexeme} → WordOr w l → stepOf s (found l n)
+    ≡ stepTo (token.Word s (s + n)) s (s + n)
 unfolding stepOf tokenOf
 word-step s n a-name = refl
 word-step s n (a-key k) = refl
@@ -137,10 +143,12 @@ module _ (file : List ℕ) (i : ℕ) where
     unfolding scan
     scan-word e = rw (drop-cons file i 0) (rw (scan, e))
 
-    pub scan-number : letter (getD file i 0) ≡ false → digit (getD file i 0) ≡ true → scan (drop i file) ≡ numberAt (drop i file)
+    pub scan-number : letter (getD file i 0) ≡ false → digit (getD file i 0) ≡ true → scan (drop i file)
+        ≡ numberAt (drop i file)
     unfolding scan
     scan-number e d = rw (drop-cons file i 0) (rw (scan, e, d))
 
-    pub scan-mark : letter (getD file i 0) ≡ false → digit (getD file i 0) ≡ false → scan (drop i file) ≡ markOf marks (drop i file)
+    pub scan-mark : letter (getD file i 0) ≡ false → digit (getD file i 0) ≡ false → scan (drop i file)
+        ≡ markOf marks (drop i file)
     unfolding scan
     scan-mark e d = rw (drop-cons file i 0) (rw (scan, e, d))

@@ -41,7 +41,8 @@ blanks at (b ∷ bs) =
     (λ f. rw (leading-stop blank b bs f, add-zero))
 
 -- behind them stands no blank
-no-blank : (bs : List ℕ) → 0 < length (drop (leading blank bs) bs) → blank (getD (drop (leading blank bs) bs) 0 0) ≡ false
+no-blank : (bs : List ℕ) → 0 < length (drop (leading blank bs) bs) → blank (getD (drop (leading blank bs) bs) 0 0)
+    ≡ false
 no-blank [] h = absurd (omega (arith, rw leading-none at h))
 no-blank (b ∷ bs) h =
     by-cases (blank b)
@@ -49,12 +50,14 @@ no-blank (b ∷ bs) h =
     (λ f. rw (leading-stop blank b bs f) f)
 
 module _ (s : ℕ) where
-  tokens-none : (bs : List ℕ) → 0 < length bs → blank (getD bs 0 0) ≡ false → scan bs ≡ nothing → tokensFrom s 0 bs ≡ none-at s
+  tokens-none : (bs : List ℕ) → 0 < length bs → blank (getD bs 0 0) ≡ false → scan bs ≡ nothing → tokensFrom s 0 bs
+      ≡ none-at s
   unfolding tokensFrom
   tokens-none [] h f e = absurd (omega arith)
   tokens-none (b ∷ bs) h f e = rw (tokensFrom, f, e)
 
-  tokens-found : (bs : List ℕ) (l : Lexeme) (n : ℕ) → 0 < length bs → 1 ≤ n → blank (getD bs 0 0) ≡ false → scan bs ≡ found l n
+  tokens-found : (bs : List ℕ) (l : Lexeme) (n : ℕ) → 0 < length bs → 1 ≤ n → blank (getD bs 0 0) ≡ false
+      → scan bs ≡ found l n
       → tokensFrom s 0 bs ≡ prepend s l (tokensFrom (s + n) 0 (drop n bs))
   unfolding tokensFrom
   tokens-found [] l n h k f e = absurd (omega arith)
@@ -68,14 +71,16 @@ pub tokens-end : (file : List ℕ) (at : ℕ) → length file ≤ at → tokensF
 unfolding tokensFrom
 tokens-end file at h = rw drop-of-length-le
 
--- what a step that found a token says: the lexeme, that the cursor moved on within the file, how the token is held, and what is left
+-- what a step that found a token says: the lexeme, that the cursor moved on within the file, how the token is held, and
+-- what is left
 pub record Taken (file : List ℕ) (at : ℕ) (st : Step) : Type 0 where
   pub lexeme : Lexeme
   pub ahead : at < st .next .at
   pub inside : st .start < length file
   pub held-as : codeOf file (st .token) ≡ lexemeCode lexeme
   pub words : Within file (st .token)
-  pub rest : tokensFrom at 0 (drop at file) ≡ prepend (st .start) lexeme (tokensFrom (st .next .at) 0 (drop (st .next .at) file))
+  pub rest : tokensFrom at 0 (drop at file)
+      ≡ prepend (st .start) lexeme (tokensFrom (st .next .at) 0 (drop (st .next .at) file))
 
 module _ (file : List ℕ) (at : ℕ) where
   start : ℕ
@@ -90,7 +95,8 @@ module _ (file : List ℕ) (at : ℕ) where
   no-blank-there h =
       rw drop-drop at (no-blank (drop at file) (rw drop-drop (omega (arith, length-drop start file))))
 
-  taken-from : {c : Scan} → scan (drop start file) ≡ c → Found file start c → (stepOf start c .next .at ≡ stepOf start c .start → ⊥)
+  taken-from : {c : Scan} → scan (drop start file) ≡ c → Found file start c
+      → (stepOf start c .next .at ≡ stepOf start c .start → ⊥)
       → Taken file at (stepOf start c)
   unfolding start stepOf
   taken-from e missing n = absurd (n refl)
@@ -103,11 +109,13 @@ module _ (file : List ℕ) (at : ℕ) where
         words = w;
         rest =
             to-start
-            ∙ tokens-found start (drop start file) l n (omega (arith, length-drop start file)) k (no-blank-there (omega arith)) e
+            ∙ tokens-found start (drop start file) l n (omega (arith, length-drop start file)) k
+            (no-blank-there (omega arith)) e
             ∙ rw drop-drop;
       }
 
-  ended-from : {c : Scan} → Found file start c → stepOf start c .next .at ≡ stepOf start c .start → (c ≡ nothing) × (stepOf start c .start ≡ start)
+  ended-from : {c : Scan} → Found file start c → stepOf start c .next .at ≡ stepOf start c .start
+      → (c ≡ nothing) × (stepOf start c .start ≡ start)
   unfolding stepOf
   ended-from missing e = (refl, refl)
   ended-from (there l n k i w q) e = absurd (omega arith)
@@ -122,7 +130,8 @@ module _ (file : List ℕ) (at : ℕ) where
   ended-bad e h =
       let q = ended-from (found-at file start) e in
       let i : start < length file = omega (arith, q .1) in
-      rw (q .1) (to-start ∙ tokens-none start (drop start file) (omega (arith, length-drop start file)) (no-blank-there i) (q .0))
+      rw (q .1) (to-start ∙ tokens-none start (drop start file) (omega (arith, length-drop start file))
+      (no-blank-there i) (q .0))
 
   pub ended-all : stepAt file at .next .at ≡ stepAt file at .start → length file ≤ stepAt file at .start
       → tokensFrom at 0 (drop at file) ≡ tokens []
@@ -150,7 +159,8 @@ map-more f [] t = refl
 map-more f (u ∷ ts) t = ap (λ (r : List ℕ). f u ∷ r) (map-more f ts t)
 
 -- one more token, written at the place behind those that are held
-held-more : (f : Token → ℕ) (ts : List Token) (t : Token) (xs : List ℕ) → take (length ts) xs ≡ map f ts → length ts < length xs
+held-more : (f : Token → ℕ) (ts : List Token) (t : Token) (xs : List ℕ) → take (length ts) xs ≡ map f ts
+    → length ts < length xs
     → take (length (ts ++ t ∷ [])) (set xs (length ts) (f t)) ≡ map f (ts ++ t ∷ [])
 held-more f ts t xs e h =
     let n : length (ts ++ t ∷ []) ≡ suc (length ts) = omega (arith, length-append ts (t ∷ [])) in
@@ -181,7 +191,8 @@ in-bounds file h = rw (scannedOf, le-ltb 8192 (length file) h)
 
 module _ (file kinds values places : List ℕ) (n at : ℕ) (h : Held file kinds values places n at) where
   pub held-one : (st : Step) → Taken file at st → n < length kinds → n < length values → n < length places
-      → Held file (set kinds n (codeOf file (st .token) .kind)) (set values n (codeOf file (st .token) .value)) (set places n (st .start)) (n + 1) (st .next .at)
+      → Held file (set kinds n (codeOf file (st .token) .kind)) (set values n (codeOf file (st .token) .value))
+      (set places n (st .start)) (n + 1) (st .next .at)
   held-one st t lk lv lp =
       let new : Token = record { at = st .start; lexeme = t .lexeme } in
       record {
@@ -189,9 +200,14 @@ module _ (file kinds values places : List ℕ) (n at : ℕ) (h : Held file kinds
         count = omega (arith, h .count, length-append (h .held) (new ∷ []));
         coded =
             record {
-              by-kind = rw (t .held-as, ← (h .count)) (held-more (λ t. kindOf (t .lexeme)) (h .held) new kinds (h .coded .by-kind) (omega arith));
-              by-value = rw (t .held-as, ← (h .count)) (held-more (λ t. valueOf (t .lexeme)) (h .held) new values (h .coded .by-value) (omega arith));
-              by-place = rw (← (h .count)) (held-more (λ t. t .at) (h .held) new places (h .coded .by-place) (omega arith));
+              by-kind =
+                  rw (t .held-as, ← (h .count)) (held-more (λ t. kindOf (t .lexeme)) (h .held) new kinds
+                  (h .coded .by-kind) (omega arith));
+              by-value =
+                  rw (t .held-as, ← (h .count)) (held-more (λ t. valueOf (t .lexeme)) (h .held) new values
+                  (h .coded .by-value) (omega arith));
+              by-place =
+                  rw (← (h .count)) (held-more (λ t. t .at) (h .held) new places (h .coded .by-place) (omega arith));
             };
         whole = h .whole ∙ ap (after (h .held)) (t .rest) ∙ after-more (h .held) (st .start) (t .lexeme) _;
         behind = omega (arith, h .behind, t .ahead);
@@ -201,13 +217,15 @@ module _ (file kinds values places : List ℕ) (n at : ℕ) (h : Held file kinds
     pub scans-all : tokensFrom at 0 (drop at file) ≡ tokens [] → Scans file (scanned.Tokens n) kinds values places
     unfolding after scannedAs
     scans-all e =
-        let whole : tokenize file ≡ tokens (h .held) = h .whole ∙ ap (after (h .held)) e ∙ ap tokens (append-nil (h .held)) in
+        let whole : tokenize file ≡ tokens (h .held) = h .whole ∙ ap (after (h .held)) e
+        ∙ ap tokens (append-nil (h .held)) in
         record {
           answer = sym (in-bounds file short ∙ ap scannedAs whole ∙ ap scanned.Tokens (h .count));
           coded = λ ts _ q. let same : h .held ≡ ts = cc in rw same at (h .coded);
         }
 
-    pub scans-bad : (k : ℕ) → tokensFrom at 0 (drop at file) ≡ none-at k → Scans file (scanned.Bad k) kinds values places
+    pub scans-bad : (k : ℕ) → tokensFrom at 0 (drop at file) ≡ none-at k
+        → Scans file (scanned.Bad k) kinds values places
     unfolding after scannedAs
     scans-bad k e =
         let whole : tokenize file ≡ none-at k = h .whole ∙ ap (after (h .held)) e in
@@ -216,7 +234,8 @@ module _ (file kinds values places : List ℕ) (n at : ℕ) (h : Held file kinds
           coded = λ ts _ q. let z : _≡_ {A = ℕ} 0 1 = cc in absurd (omega arith);
         }
 
-pub scans-long : (file kinds values places : List ℕ) → 8192 < length file → Scans file scanned.TooLong kinds values places
+pub scans-long : (file kinds values places : List ℕ) → 8192 < length file
+    → Scans file scanned.TooLong kinds values places
 unfolding scannedOf
 scans-long file kinds values places h =
     let long : scannedOf file ≡ scanned.TooLong = rw (scannedOf, lt-ltb 8192 (length file) h) in

@@ -48,4 +48,5 @@ scannedOf file = elim (ltb mostBytes (length file)) [ true ↦ scanned.TooLong |
 -- the whole promise of a scan: its answer, and the tokens where it answers with their count
 pub record Scans (file : List ℕ) (r : Scanned) (kinds values places : List ℕ) : Type 0 where
   pub answer : r ≡ scannedOf file
-  pub coded : (ts : List Token) → scannedOf file ≡ scanned.Tokens (length ts) → tokenize file ≡ tokens ts → Coded ts kinds values places
+  pub coded : (ts : List Token) → scannedOf file ≡ scanned.Tokens (length ts) → tokenize file ≡ tokens ts
+      → Coded ts kinds values places

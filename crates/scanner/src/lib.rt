@@ -1,6 +1,6 @@
-// Cuts a file into tokens: a cursor by value whose method hands out the token and the advanced cursor, a reader that holds the
-// file's slice and calls the cursor, and the tokens of a whole file as numbers in lent arrays. Each promise cites the
-// definitions of `syntax`.
+// Cuts a file into tokens: a cursor by value whose method hands out the token and the advanced cursor, a reader that
+// holds the file's slice and calls the cursor, and the tokens of a whole file as numbers in lent arrays. Each promise
+// cites the definitions of `syntax`.
 ghost use mathlib.Core.Path.{_≡_};
 ghost use mathlib.Core.List.{[], _∷_};
 ghost use Prim.Native.Nat.{_+_, _-_, _≤_, _<_};
@@ -24,7 +24,8 @@ pub struct Cursor {
     pub at: usize,
 }
 
-// A file and a byte of it. Its functions are thin: each unpacks the slice and the byte and leaves the work to the cursor.
+// A file and a byte of it. Its functions are thin: each unpacks the slice and the byte and leaves the work to the
+// cursor.
 pub struct Reader<'a> {
     pub file: &'a [u8],
     pub at: usize,
@@ -185,7 +186,8 @@ fn is_word(part: &[u8], word: &[u8]) -> bool
 
 // The number of the first of five words that a part of the file is, and 5 where it is none of them.
 fn place_of(part: &[u8], a: &[u8], b: &[u8], c: &[u8], d: &[u8], e: &[u8]) -> u8
-    ensures { λ r. ⌜ r ≡ place (now (a .entry) ∷ now (b .entry) ∷ now (c .entry) ∷ now (d .entry) ∷ now (e .entry) ∷ []) (now (part .entry)) ⌝ }
+    ensures { λ r. ⌜ r ≡ place (now (a .entry) ∷ now (b .entry) ∷ now (c .entry) ∷ now (d .entry) ∷ now (e .entry) ∷ [])
+        (now (part .entry)) ⌝ }
 {
     if is_word(part, a) {
         0
@@ -339,8 +341,8 @@ impl<'a> Reader<'a> {
     }
 }
 
-// The next token behind blanks from a byte of a file, by a reader that is opened there: callers have plain parameters, and
-// their proofs no walk.
+// The next token behind blanks from a byte of a file, by a reader that is opened there: callers have plain parameters,
+// and their proofs no walk.
 fn read_token(file: &[u8], at: usize) -> Step
     ensures { λ r. ⌜ r ≡ stepAt (now (file .entry)) at ⌝ }
 {

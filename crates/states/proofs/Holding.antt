@@ -58,7 +58,8 @@ module _ (m : Monitor) where
   unfolding KeptAll TruthRow
   kept-of-row row k s h = k s h ∙ ap bit (sym (kept-is s h))
 
-  pub held : {kept′ holds′ after′ guardOf′ : List ℕ} → Sound m → length (regions m) ≤ 16 → KeptAll m kept′ → HoldsAll m holds′
+  pub held : {kept′ holds′ after′ guardOf′ : List ℕ} → Sound m → length (regions m) ≤ 16 → KeptAll m kept′
+      → HoldsAll m holds′
       → AfterAll m after′ → GuardNumbers m guardOf′ → Held (model m) kept′ holds′ after′ guardOf′
   unfolding model KeptAll HoldsAll AfterAll GuardNumbers runs
   held ok few k h a g =

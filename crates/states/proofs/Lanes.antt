@@ -44,7 +44,8 @@ pub bit-other : (b : Bool) → (bit b ≡ 1 → ⊥) → b ≡ false
 bit-other b n = is-false (λ t. n (bit-true t))
 
 -- what holds of each place below n, and of what is stored at n, holds of each place below n + 1
-pub stored : (P : ℕ → ℕ → Type 0) (xs : List ℕ) (n a : ℕ) → n < length xs → ((k : ℕ) → k < n → P k (getD xs k 0)) → P n a → (k : ℕ)
+pub stored : (P : ℕ → ℕ → Type 0) (xs : List ℕ) (n a : ℕ) → n < length xs → ((k : ℕ) → k < n → P k (getD xs k 0))
+    → P n a → (k : ℕ)
     → k < n + 1 → P k (getD (set xs n a) k 0)
 stored P xs n a h below here k low =
     split (eqb k n) (λ e. let same = eqb-true k n e in rw (same, getD-set-same xs n a 0 h) here)
@@ -67,7 +68,8 @@ module _ (r set g : ℕ) (e : (u : ℕ) → member r u ≡ (eqb u g && ltb g 16)
 
 -- Lanes
 
-pub lane-is : (xs values : List ℕ) (j : ℕ) → length values ≡ 6 → ((k : ℕ) → k < 6 → (n : ℕ) → n ≡ k * 16 + j → getD xs n 0 ≡ getD values k 0)
+pub lane-is : (xs values : List ℕ) (j : ℕ) → length values ≡ 6
+    → ((k : ℕ) → k < 6 → (n : ℕ) → n ≡ k * 16 + j → getD xs n 0 ≡ getD values k 0)
     → lane xs j ≡ values
 unfolding lane
 lane-is xs (a ∷ b ∷ c ∷ d ∷ e ∷ f ∷ []) j six h =

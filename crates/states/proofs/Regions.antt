@@ -43,7 +43,8 @@ module _ (xs ys : List ℕ) (g n : ℕ) (w : n ≡ 4096) (room : g * 4096 + n �
 
   pub row-before : (j s : ℕ) → j < g → s < 4096 → getD back (j * 4096 + s) 0 ≡ getD xs (j * 4096 + s) 0
   row-before j s h low =
-      List·getD-append (take (g * 4096) xs) (ys ++ drop n (drop (g * 4096) xs)) 0 (j * 4096 + s) (omega (arith, front-long))
+      List·getD-append (take (g * 4096) xs) (ys ++ drop n (drop (g * 4096) xs)) 0 (j * 4096 + s)
+      (omega (arith, front-long))
       ∙ getD-take (g * 4096) xs (j * 4096 + s) 0 (omega arith)
 
   pub row-at : (s : ℕ) → s < 4096 → getD back (g * 4096 + s) 0 ≡ getD ys s 0
@@ -81,7 +82,8 @@ pub record Filling (m : Monitor) (keep : List ℤ → Bool) (kinds values : List
 
 pub filling : (m : Monitor) (keep : List ℤ → Bool) (kinds values : List ℕ) (bounds : Bounds) (ats numbers : List ℕ)
     (n : ℕ) (kept′ holds′ : List ℕ) (ls : List Lexeme)
-    → Codes (vars m) ls kinds values → Bounded (vars m) bounds → length ls ≤ 8192 → n ≡ length (regions m) → n ≤ 16 → BodiesAt m ls ats
+    → Codes (vars m) ls kinds values → Bounded (vars m) bounds → length ls ≤ 8192 → n ≡ length (regions m) → n ≤ 16
+    → BodiesAt m ls ats
     → GuardNumbers m numbers → TruthRow (vars m) keep kept′ → HoldsAll m holds′
     → Filling m keep kinds values bounds ats numbers n kept′ holds′
 filling m keep kinds values bounds ats numbers n kept′ holds′ ls c b few counted small bodies ns k h =

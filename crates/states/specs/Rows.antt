@@ -26,7 +26,8 @@ TruthRow vs p row = (s : ℕ) → s < count vs → getD row s 0 ≡ bit (p (stat
 -- each guard, and each region's body, begins at these tokens
 unfoldable pub GuardsAt : Monitor → List Lexeme → List ℕ → Type 0
 GuardsAt m ls ats =
-    (g : ℕ) → g < length (guards m) → (us : List Lexeme) × (drop (getD ats g 0) ls ≡ spellCond (getD (guards m) g noGuard) ++ us) × EndsCond us
+    (g : ℕ) → g < length (guards m)
+    → (us : List Lexeme) × (drop (getD ats g 0) ls ≡ spellCond (getD (guards m) g noGuard) ++ us) × EndsCond us
 
 unfoldable pub BodiesAt : Monitor → List Lexeme → List ℕ → Type 0
 BodiesAt m ls ats =

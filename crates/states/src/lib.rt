@@ -1,5 +1,5 @@
-// Goes through the states of a file, sixteen at a time, into lent slices: the truth of the kept condition and the guards that hold
-// at every state, and the outcome of each region's body; then refusal 9, by looking those up.
+// Goes through the states of a file, sixteen at a time, into lent slices: the truth of the kept condition and the
+// guards that hold at every state, and the outcome of each region's body; then refusal 9, by looking those up.
 use variables::Bounds;
 ghost use mathlib.Core.Path.{_≡_};
 ghost use mathlib.Core.Bool.{Bool};
@@ -123,7 +123,9 @@ fn guards_from(
     known: &mut [u16],
 )
     requires { ⌜ (count ≤ mostRegions) × (length (now known) ≡ mostRegions) ⌝ }
-    ensures { λ _. ⌜ ((m : Monitor) (bounds : Bounds) (from : ℕ) → Guards m (now (kinds .entry)) (now (values .entry)) bounds ats count
+    ensures { λ _.
+        ⌜ ((m : Monitor) (bounds : Bounds) (from : ℕ)
+        → Guards m (now (kinds .entry)) (now (values .entry)) bounds ats count
         → Sixteen (vars m) (Values (vars m) (now (lanes .entry))) from
         → Sixteen (vars m) (Truths m (now (known .exit))) from) ⌝ }
 {
@@ -278,7 +280,8 @@ fn moves_from(
 )
     requires { ⌜ (from ≤ 4080) × (from % 16 ≡ 0) × (length (now moves) ≡ 16) ⌝ }
     ensures { λ _. ⌜ ((vs : List Var) (keep : List ℤ → Bool) (q : Region)
-        → Body vs keep q (now (kinds .entry)) (now (values .entry)) bounds at guard (now (kept .entry)) (now (holds .entry))
+        → Body vs keep q (now (kinds .entry)) (now (values .entry)) bounds at guard (now (kept .entry))
+        (now (holds .entry))
         → Sixteen vs (Moves vs keep q (now (moves .exit))) from) ⌝ }
 {
     let states = bounds.states;
@@ -312,7 +315,8 @@ fn after_row(
 )
     requires { ⌜ (bounds .states ≤ mostStates) × (mostStates ≤ length (now after)) ⌝ }
     ensures { λ _. ⌜ ((vs : List Var) (keep : List ℤ → Bool) (q : Region)
-        → Body vs keep q (now (kinds .entry)) (now (values .entry)) bounds at guard (now (kept .entry)) (now (holds .entry))
+        → Body vs keep q (now (kinds .entry)) (now (values .entry)) bounds at guard (now (kept .entry))
+        (now (holds .entry))
         → Row vs keep q (count vs) (λ k. getD (now (after .exit)) k 0)) ⌝ }
 {
     let states = bounds.states;

@@ -1,4 +1,5 @@
--- The monitor of the lent slices answers and moves as the monitor that they hold: from what the code does to what the machine does.
+-- The monitor of the lent slices answers and moves as the monitor that they hold: from what the code does to what the
+-- machine does.
 use Prim.Native.Nat.{ℕ, zero, suc, _+_, _*_, _%_, _<_}
 use mathlib.Core.Path.{_≡_, refl, sym, ap, ap₂, _∙_, subst}
 use mathlib.Core.Bool.{Bool, true, false, not, _&&_, _||_, Bool·beq}
@@ -44,12 +45,14 @@ shows-alike r d c a h = record {
 }
 
 -- an outcome of the code, where the number that answers the frame is known
-steps-refused : (r : Run) (k n : ℕ) (d : Config) → k ≡ n → (k ≡ 0 → ⊥) → Steps r (record { number = k; run = r }) (outcome n d)
+steps-refused : (r : Run) (k n : ℕ) (d : Config) → k ≡ n → (k ≡ 0 → ⊥)
+    → Steps r (record { number = k; run = r }) (outcome n d)
 unfolding Steps outcome
 steps-refused r k zero d e l = absurd (l e)
 steps-refused r k (suc n) d e l = (e, refl)
 
-steps-moved : (r next : Run) (n : ℕ) (d : Config) → n ≡ 0 → Shows next d → Steps r (record { number = 0; run = next }) (outcome n d)
+steps-moved : (r next : Run) (n : ℕ) (d : Config) → n ≡ 0 → Shows next d
+    → Steps r (record { number = 0; run = next }) (outcome n d)
 unfolding Steps outcome
 steps-moved r next zero d e s = (refl, s)
 steps-moved r next (suc n) d e s = absurd (omega arith)
@@ -74,7 +77,8 @@ module _ (m : Monitor) (kept hs as′ gs : List ℕ) (held : Held m kept hs as�
   unfolding guardAt
   guard-held w h =
       let small : w < 16 = omega (arith, held .few-regions) in
-      let known : getD gs (w % 16) 0 ≡ m .guardOf w = ap (λ (k : ℕ). getD gs k 0) (mod-eq-of-lt small) ∙ held .by-guard w h in
+      let known : getD gs (w % 16) 0 ≡ m .guardOf w = ap (λ (k : ℕ). getD gs k 0) (mod-eq-of-lt small)
+      ∙ held .by-guard w h in
       ap (λ (g : ℕ). g % 16) known ∙ mod-eq-of-lt (omega (arith, held .guard-below w h, held .few-guards))
 
   pub holds-held : (g s : ℕ) → g < m .guards → s < m .states → holdsAt hs g s ≡ m .holds g s
@@ -90,12 +94,14 @@ module _ (m : Monitor) (kept hs as′ gs : List ℕ) (held : Held m kept hs as�
       let low : s % 4096 ≡ s = mod-eq-of-lt (omega (arith, held .few-states)) in
       ap₂ (λ (x y : ℕ). getD as′ (x * 4096 + y) 0) small low ∙ held .by-after r s h e
 
-  pub entry-held : (es : List ℕ) → HeldEntries m es → (r g : ℕ) → r < m .regions → g < m .guards → entryAt es r g ≡ entryOf m r g
+  pub entry-held : (es : List ℕ) → HeldEntries m es → (r g : ℕ) → r < m .regions → g < m .guards → entryAt es r g
+      ≡ entryOf m r g
   unfolding entryAt HeldEntries
   entry-held es all r g h l =
       let small : r % 16 ≡ r = mod-eq-of-lt (omega (arith, held .few-regions)) in
       let low : g % 16 ≡ g = mod-eq-of-lt (omega (arith, held .few-guards)) in
-      ap₂ (λ (x y : ℕ). entryBy (getD es (x * 16 + y) 0)) small low ∙ ap entryBy (all r g h l) ∙ entry-back (entryOf m r g)
+      ap₂ (λ (x y : ℕ). entryBy (getD es (x * 16 + y) 0)) small low ∙ ap entryBy (all r g h l)
+      ∙ entry-back (entryOf m r g)
 
   module _ (bs os : List ℕ) (places : HeldPlaces m bs os) where
     pub begins-held : (r : ℕ) → r < m .regions → beginsAt bs r ≡ m .begins r
@@ -107,7 +113,8 @@ module _ (m : Monitor) (kept hs as′ gs : List ℕ) (held : Held m kept hs as�
     pub follows-held : (r : ℕ) → r < m .regions → followsAt os r ≡ m .follows r
     unfolding followsAt
     follows-held r h =
-        ap (λ (k : ℕ). followsBy k (getD os k 0)) (mod-eq-of-lt (omega (arith, held .few-regions))) ∙ sym (places .by-follows r h)
+        ap (λ (k : ℕ). followsBy k (getD os k 0)) (mod-eq-of-lt (omega (arith, held .few-regions)))
+        ∙ sym (places .by-follows r h)
 
     at-same : (n : ℕ) → m .regions ≡ n → (q : Place) (r : ℕ) → mayBeAt (slices hs [] gs bs [] n) q r ≡ mayBeAt m q r
     unfolding mayBeAt
@@ -122,7 +129,8 @@ module _ (m : Monitor) (kept hs as′ gs : List ℕ) (held : Held m kept hs as�
     at-same n e (due w) r = refl
 
     -- ---- a whole frame
-    module _ (c : Config) (f : Frame) (run : Run) (thread : f .thread < 16) (reached : Reached m c) (shows : Shows run c) where
+    module _ (c : Config) (f : Frame) (run : Run) (thread : f .thread < 16) (reached : Reached m c)
+        (shows : Shows run c) where
       state-below : c .state < m .states
       state-below = held .kept-below (c .state) (reached .is-kept)
 
@@ -164,7 +172,8 @@ module _ (m : Monitor) (kept hs as′ gs : List ℕ) (held : Held m kept hs as�
         unfolding verdictOf
         taken-alike below =
             let guard : guardAt gs (f .region) ≡ m .guardOf (f .region) = guard-held (f .region) below in
-            let truth : holdsAt hs (guardAt gs (f .region)) (configOf run .state) ≡ m .holds (m .guardOf (f .region)) (c .state) =
+            let truth : holdsAt hs (guardAt gs (f .region)) (configOf run .state)
+            ≡ m .holds (m .guardOf (f .region)) (c .state) =
             ap₂ (λ (g s : ℕ). holdsAt hs g s) guard state-same
             ∙ holds-held (m .guardOf (f .region)) (c .state) (held .guard-below (f .region) below) state-below in
             same-verdict there-same (ap (Bool·beq (f .flag)) truth) (ap isWaiting (place-same (f .thread) thread)) refl
@@ -181,97 +190,107 @@ module _ (m : Monitor) (kept hs as′ gs : List ℕ) (held : Held m kept hs as�
             go true q = taken-alike (there-below m c f reached q)
             go false q = absent read (configOf run) f (there-same ∙ q) ∙ sym (absent m c f q)
 
-      module _ (es : List ℕ) (table : Bool) (entries : table ≡ true → HeldEntries m es) (taken : verdictOf m c f ≡ 0) where
-        abbrev moves : Monitor
-        moves = slices hs as′ gs [] os 0
+      module _ (es : List ℕ) (table : Bool) (entries : table ≡ true → HeldEntries m es) (taken : verdictOf m c f ≡ 0)
+        where
+          abbrev moves : Monitor
+          moves = slices hs as′ gs [] os 0
 
-        below : f .region < m .regions
-        below = there-below m c f reached (taken-there m c f taken)
+          below : f .region < m .regions
+          below = there-below m c f reached (taken-there m c f taken)
 
-        -- the threads after a body
-        abbrev left-of : Threads
-        left-of = leave (c .threads) (f .thread) (m .follows (f .region))
+          -- the threads after a body
+          abbrev left-of : Threads
+          left-of = leave (c .threads) (f .thread) (m .follows (f .region))
 
-        abbrev left-read : Threads
-        left-read = leave (configOf run .threads) (f .thread) (followsAt os (f .region))
+          abbrev left-read : Threads
+          left-read = leave (configOf run .threads) (f .thread) (followsAt os (f .region))
 
-        left-alike : SameThreads left-read left-of
-        left-alike =
-            subst (λ (q : Place). SameThreads (leave (configOf run .threads) (f .thread) q) left-of)
-            (sym (follows-held (f .region) below)) (left-same m threads-same (f .thread) (m .follows (f .region)))
+          left-alike : SameThreads left-read left-of
+          left-alike =
+              subst (λ (q : Place). SameThreads (leave (configOf run .threads) (f .thread) q) left-of)
+              (sym (follows-held (f .region) below)) (left-same m threads-same (f .thread) (m .follows (f .region)))
 
-        left-below : (u w : ℕ) → left-of .place u ≡ waiting w → w < m .regions
-        left-below = taken-frame.left-below m c f reached bs os places below
+          left-below : (u w : ℕ) → left-of .place u ≡ waiting w → w < m .regions
+          left-below = taken-frame.left-below m c f reached bs os places below
 
-        module _ (flag : f .flag ≡ true) where
-          runs-now : runs m (f .region) (c .state) ≡ true
-          runs-now = taken-runs m c f taken (reached .is-kept) flag
+          module _ (flag : f .flag ≡ true) where
+            runs-now : runs m (f .region) (c .state) ≡ true
+            runs-now = taken-runs m c f taken (reached .is-kept) flag
 
-          abbrev to : ℕ
-          to = m .after (f .region) (c .state)
+            abbrev to : ℕ
+            to = m .after (f .region) (c .state)
 
-          to-below : to < m .states
-          to-below = held .after-below (f .region) (c .state) below runs-now
+            to-below : to < m .states
+            to-below = held .after-below (f .region) (c .state) below runs-now
 
-          to-same : afterAt as′ (f .region) (configOf run .state) ≡ to
-          to-same = ap (afterAt as′ (f .region)) state-same ∙ after-held (f .region) (c .state) below state-below runs-now
+            to-same : afterAt as′ (f .region) (configOf run .state) ≡ to
+            to-same = ap (afterAt as′ (f .region)) state-same ∙ after-held (f .region) (c .state) below state-below
+                runs-now
 
-          told-on : (t : Bool) → (t ≡ true → HeldEntries m es) → (u : ℕ) → u < 16
-              → toldAt hs gs es t to left-read (f .region) u ≡ toldOn m t to left-of (f .region) u
-          unfolding toldAt toldOn
-          told-on true all u h =
-              table-same (truths hs gs) m left-read left-of left-alike (λ v w l q. guard-held w (left-below v w q)) to
-              (λ v w l q. holds-held (m .guardOf w) to (held .guard-below w (left-below v w q)) to-below) (entryAt es) (entryOf m) (f .region)
-              (λ v w l q. entry-held es (all refl) (f .region) (m .guardOf w) below (held .guard-below w (left-below v w q))) u h
-          told-on false all u h =
-              plain-same (truths hs gs) m left-read left-of left-alike (λ v w l q. guard-held w (left-below v w q)) to
-              (λ v w l q. holds-held (m .guardOf w) to (held .guard-below w (left-below v w q)) to-below) (f .region) u h
+            told-on : (t : Bool) → (t ≡ true → HeldEntries m es) → (u : ℕ) → u < 16
+                → toldAt hs gs es t to left-read (f .region) u ≡ toldOn m t to left-of (f .region) u
+            unfolding toldAt toldOn
+            told-on true all u h =
+                table-same (truths hs gs) m left-read left-of left-alike (λ v w l q. guard-held w (left-below v w q)) to
+                (λ v w l q. holds-held (m .guardOf w) to (held .guard-below w (left-below v w q)) to-below) (entryAt es)
+                (entryOf m) (f .region)
+                (λ v w l q. entry-held es (all refl) (f .region) (m .guardOf w) below
+                (held .guard-below w (left-below v w q))) u h
+            told-on false all u h =
+                plain-same (truths hs gs) m left-read left-of left-alike (λ v w l q. guard-held w (left-below v w q)) to
+                (λ v w l q. holds-held (m .guardOf w) to (held .guard-below w (left-below v w q)) to-below) (f .region) u
+                h
 
-          ran-alike : Alike (ran moves (toldAt hs gs es table) (configOf run) f) (ran m (toldOn m table) c f)
-          unfolding ran without
-          ran-alike = record {
-            state = to-same;
-            threads = left-alike;
-            notices = λ u h.
-                ap₂ (λ (x y : Bool). (not (eqb u (f .thread)) && x) || y) (notice-same u h)
-                (ap (λ (s : ℕ). toldAt hs gs es table s left-read (f .region) u) to-same ∙ told-on table entries u h);
+            ran-alike : Alike (ran moves (toldAt hs gs es table) (configOf run) f) (ran m (toldOn m table) c f)
+            unfolding ran without
+            ran-alike = record {
+              state = to-same;
+              threads = left-alike;
+              notices = λ u h.
+                  ap₂ (λ (x y : Bool). (not (eqb u (f .thread)) && x) || y) (notice-same u h)
+                  (ap (λ (s : ℕ). toldAt hs gs es table s left-read (f .region) u) to-same ∙ told-on table entries u h);
+            }
+
+          alike : (flag waits : Bool) → f .flag ≡ flag
+              → Alike (nextBy moves (toldAt hs gs es table) (configOf run) f flag waits)
+              (nextBy m (toldOn m table) c f flag waits)
+          unfolding nextBy rechecked waited without
+          alike true waits q = ran-alike q
+          alike false true q = record {
+            state = state-same;
+            threads = threads-same;
+            notices = λ u h. ap (λ (x : Bool). not (eqb u (f .thread)) && x) (notice-same u h);
+          }
+          alike false false q = record {
+            state = state-same;
+            threads = began-same m threads-same (f .thread) (f .region);
+            notices = notice-same;
           }
 
-        alike : (flag waits : Bool) → f .flag ≡ flag
-            → Alike (nextBy moves (toldAt hs gs es table) (configOf run) f flag waits) (nextBy m (toldOn m table) c f flag waits)
-        unfolding nextBy rechecked waited without
-        alike true waits q = ran-alike q
-        alike false true q = record {
-          state = state-same;
-          threads = threads-same;
-          notices = λ u h. ap (λ (x : Bool). not (eqb u (f .thread)) && x) (notice-same u h);
-        }
-        alike false false q = record {
-          state = state-same;
-          threads = began-same m threads-same (f .thread) (f .region);
-          notices = notice-same;
-        }
-
-        pub next-held : Alike (nextOf moves (toldAt hs gs es table) (configOf run) f) (nextOf m (toldOn m table) c f)
-        unfolding nextOf
-        next-held =
-            subst (λ (w : Bool). Alike (nextBy moves (toldAt hs gs es table) (configOf run) f (f .flag) w) (nextOf m (toldOn m table) c f))
-            (sym (ap isWaiting (place-same (f .thread) thread)))
-            (alike (f .flag) (isWaiting (c .threads .place (f .thread))) refl)
+          pub next-held : Alike (nextOf moves (toldAt hs gs es table) (configOf run) f) (nextOf m (toldOn m table) c f)
+          unfolding nextOf
+          next-held =
+              subst (λ (w : Bool). Alike (nextBy moves (toldAt hs gs es table) (configOf run) f (f .flag) w)
+              (nextOf m (toldOn m table) c f))
+              (sym (ap isWaiting (place-same (f .thread) thread)))
+              (alike (f .flag) (isWaiting (c .threads .place (f .thread))) refl)
 
       -- ---- the code's two answers against the machine's step
-      module _ (n : ℕ) (e : m .regions ≡ n) (es : List ℕ) (table : Bool) (entries : table ≡ true → HeldEntries m es) where
-        pub refuses : (k : ℕ) → k ≡ verdictOf (slices hs [] gs bs [] n) (configOf run) f → (k ≡ 0 → ⊥)
-            → Steps run (record { number = k; run = run }) (step m (toldOn m table) c f)
-        refuses k q l =
-            subst (λ (o : Outcome). Steps run (record { number = k; run = run }) o) (sym (step-parts m (toldOn m table) c f))
-            (steps-refused run k (verdictOf m c f) (nextOf m (toldOn m table) c f) (q ∙ verdict-held n e) l)
+      module _ (n : ℕ) (e : m .regions ≡ n) (es : List ℕ) (table : Bool) (entries : table ≡ true → HeldEntries m es)
+        where
+          pub refuses : (k : ℕ) → k ≡ verdictOf (slices hs [] gs bs [] n) (configOf run) f → (k ≡ 0 → ⊥)
+              → Steps run (record { number = k; run = run }) (step m (toldOn m table) c f)
+          refuses k q l =
+              subst (λ (o : Outcome). Steps run (record { number = k; run = run }) o)
+              (sym (step-parts m (toldOn m table) c f))
+              (steps-refused run k (verdictOf m c f) (nextOf m (toldOn m table) c f) (q ∙ verdict-held n e) l)
 
-        pub takes : (k : ℕ) (next : Run) → k ≡ verdictOf (slices hs [] gs bs [] n) (configOf run) f → k ≡ 0
-            → Shows next (nextOf (slices hs as′ gs [] os 0) (toldAt hs gs es table) (configOf run) f)
-            → Steps run (record { number = 0; run = next }) (step m (toldOn m table) c f)
-        takes k next q l shown =
-            let taken : verdictOf m c f ≡ 0 = sym (q ∙ verdict-held n e) ∙ l in
-            subst (λ (o : Outcome). Steps run (record { number = 0; run = next }) o) (sym (step-parts m (toldOn m table) c f))
-            (steps-moved run next (verdictOf m c f) (nextOf m (toldOn m table) c f) taken
-            (shows-alike next _ (nextOf m (toldOn m table) c f) (next-held es table entries taken) shown))
+          pub takes : (k : ℕ) (next : Run) → k ≡ verdictOf (slices hs [] gs bs [] n) (configOf run) f → k ≡ 0
+              → Shows next (nextOf (slices hs as′ gs [] os 0) (toldAt hs gs es table) (configOf run) f)
+              → Steps run (record { number = 0; run = next }) (step m (toldOn m table) c f)
+          takes k next q l shown =
+              let taken : verdictOf m c f ≡ 0 = sym (q ∙ verdict-held n e) ∙ l in
+              subst (λ (o : Outcome). Steps run (record { number = 0; run = next }) o)
+              (sym (step-parts m (toldOn m table) c f))
+              (steps-moved run next (verdictOf m c f) (nextOf m (toldOn m table) c f) taken
+              (shows-alike next _ (nextOf m (toldOn m table) c f) (next-held es table entries taken) shown))

@@ -1,4 +1,5 @@
--- What number answers a frame, by what the code has tested: a law for each answer. Each is the verdict at the Booleans that the tests give.
+-- What number answers a frame, by what the code has tested: a law for each answer. Each is the verdict at the Booleans
+-- that the tests give.
 use Prim.Native.Nat.{ℕ}
 use mathlib.Core.Path.{_≡_, refl, ap, ap₂, _∙_}
 use mathlib.Core.Bool.{Bool, true, false, not, _&&_, Bool·beq, and-false}
@@ -77,10 +78,12 @@ module _ (m : Monitor) (c : Config) (f : Frame) where
   unfolding verdictOf verdict
   recheck t s w n l = same-verdict t s w l n (as-is first)
 
-  pub resumes : there ≡ true → same ≡ true → waits ≡ true → notice ≡ true → f .flag ≡ true → first ≡ true → verdictOf m c f ≡ 0
+  pub resumes : there ≡ true → same ≡ true → waits ≡ true → notice ≡ true → f .flag ≡ true → first ≡ true
+      → verdictOf m c f ≡ 0
   unfolding verdictOf verdict
   resumes t s w n l p = same-verdict t s w l n p
 
-  pub not-first : there ≡ true → same ≡ true → waits ≡ true → notice ≡ true → f .flag ≡ true → first ≡ false → verdictOf m c f ≡ 14
+  pub not-first : there ≡ true → same ≡ true → waits ≡ true → notice ≡ true → f .flag ≡ true → first ≡ false
+      → verdictOf m c f ≡ 14
   unfolding verdictOf verdict
   not-first t s w n l p = same-verdict t s w l n p

@@ -1,4 +1,5 @@
--- Laws of `any`, of a set that a loop gathers thread by thread, and of places after one is replaced: for the loops of the stepper.
+-- Laws of `any`, of a set that a loop gathers thread by thread, and of places after one is replaced: for the loops of
+-- the stepper.
 use Prim.Native.Nat.{ℕ, zero, suc, _+_, _/_, _%_, _≤_, _<_}
 use mathlib.Core.Path.{_≡_, refl, sym, ap, ap₂, _∙_}
 use mathlib.Core.Bool.{Bool, true, false, _&&_, _||_, and-true, and-false, or-true, false≢true}
@@ -72,10 +73,12 @@ any-below (suc n) u f h = go (decLt n u) (λ l. any-below n u f l)
     go (yes l) rest =
         let same : u ≡ suc n = omega arith in
         ap₂ (λ (x y : Bool). x || y) (ap (λ (b : Bool). f n && b) (lt-ltb n u l) ∙ and-true (f n))
-        (any-same n (λ v. f v && ltb v u) f (λ k q. ap (λ (b : Bool). f k && b) (lt-ltb k u (omega arith)) ∙ and-true (f k)))
+        (any-same n (λ v. f v && ltb v u) f (λ k q. ap (λ (b : Bool). f k && b) (lt-ltb k u (omega arith))
+        ∙ and-true (f k)))
         ∙ sym (ap (λ (k : ℕ). any k f) same)
     go (no l) rest =
-        ap (λ (x : Bool). x || any n (λ v. f v && ltb v u)) (ap (λ (b : Bool). f n && b) (le-ltb n u (omega arith)) ∙ and-false (f n))
+        ap (λ (x : Bool). x || any n (λ v. f v && ltb v u)) (ap (λ (b : Bool). f n && b) (le-ltb n u (omega arith))
+        ∙ and-false (f n))
         ∙ rest (omega arith)
 
 -- ---- a set that a loop gathers: of the threads below u it has those that pass a test
@@ -86,7 +89,8 @@ ltb-more v u = go (decLt v u) (decLt u v)
     go : Dec (v < u) → Dec (u < v) → ltb v (u + 1) ≡ eqb v u || ltb v u
     go (yes l) d = lt-ltb v (u + 1) (omega arith) ∙ sym (or-right (eqb v u) (ltb v u) (lt-ltb v u l))
     go (no l) (yes k) =
-        le-ltb v (u + 1) (omega arith) ∙ sym (or-none (eqb v u) (ltb v u) (ne-eqb v u (λ e. omega arith)) (le-ltb v u (omega arith)))
+        le-ltb v (u + 1) (omega arith)
+        ∙ sym (or-none (eqb v u) (ltb v u) (ne-eqb v u (λ e. omega arith)) (le-ltb v u (omega arith)))
     go (no l) (no k) = lt-ltb v (u + 1) (omega arith) ∙ sym (or-left (eqb v u) (ltb v u) (eq-eqb v u (omega arith)))
 
 pub record Gathered (s u : ℕ) (f : ℕ → Bool) : Type 0 where
@@ -140,13 +144,16 @@ unfolding put placesOf
 places-set ts t q h u = go (eqb u t) refl
   where
     go : (b : Bool) → eqb u t ≡ b
-        → placeOf (getD (set ts t (record { place = q })) u idleThread .place) ≡ elim b [ true ↦ placeOf q | false ↦ placesOf ts u ]
+        → placeOf (getD (set ts t (record { place = q })) u idleThread .place)
+        ≡ elim b [ true ↦ placeOf q | false ↦ placesOf ts u ]
     go true e =
         let at : getD (set ts t (record { place = q })) u idleThread ≡ record { place = q } =
-        ap (λ (k : ℕ). getD (set ts t (record { place = q })) k idleThread) (eqb-true u t e) ∙ getD-set-same ts t (record { place = q }) idleThread h in
+        ap (λ (k : ℕ). getD (set ts t (record { place = q })) k idleThread) (eqb-true u t e)
+        ∙ getD-set-same ts t (record { place = q }) idleThread h in
         ap (λ (x : Thread). placeOf (x .place)) at
     go false e =
-        ap (λ (x : Thread). placeOf (x .place)) (getD-set-other ts t u (record { place = q }) idleThread (eqb-false u t e))
+        ap (λ (x : Thread). placeOf (x .place))
+        (getD-set-other ts t u (record { place = q }) idleThread (eqb-false u t e))
 
 -- ---- a region's entry, and where a thread is after a body
 

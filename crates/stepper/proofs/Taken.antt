@@ -32,7 +32,8 @@ module _ (m : Monitor) (c : Config) (f : Frame) where
   taken-there taken = there-of _ _ _ _ _ _ taken
 
   -- with 01 the body may run
-  pub taken-runs : verdictOf m c f ≡ 0 → m .kept (c .state) ≡ true → f .flag ≡ true → runs m (f .region) (c .state) ≡ true
+  pub taken-runs : verdictOf m c f ≡ 0 → m .kept (c .state) ≡ true → f .flag ≡ true → runs m (f .region) (c .state)
+      ≡ true
   unfolding runs verdictOf
   taken-runs taken k l =
       ap (λ (b : Bool). b && m .holds (m .guardOf (f .region)) (c .state)) k

@@ -1,12 +1,14 @@
--- The machine's step in two parts, as the code takes it: the number that answers a frame, 0 where it is taken, and the point after it.
--- `step-parts` shows that the two make the step.
+-- The machine's step in two parts, as the code takes it: the number that answers a frame, 0 where it is taken, and the
+-- point after it. `step-parts` shows that the two make the step.
 use Prim.Native.Nat.{ℕ, zero, suc}
 use mathlib.Core.Path.{_≡_, refl}
 use mathlib.Core.Bool.{Bool, true, false, _&&_, Bool·beq}
 use Rattle.machine.specs.Monitor.{Monitor, Config, Frame}
-use Rattle.machine.specs.Decide.Step.{Outcome, moved, refused, Told, may, isWaiting, firstNotified, ran, waited, rechecked, allowed, act, judged, step}
+use Rattle.machine.specs.Decide.Step.{Outcome, moved, refused, Told, may, isWaiting, firstNotified, ran, waited}
+use Rattle.machine.specs.Decide.Step.{rechecked, allowed, act, judged, step}
 
--- may the thread be there, is the flag the guard's truth, does the thread wait, the flag, has it a notice, is it the first with one
+-- may the thread be there, is the flag the guard's truth, does the thread wait, the flag, has it a notice, is it the
+-- first with one
 unfoldable pub verdict : Bool → Bool → Bool → Bool → Bool → Bool → ℕ
 verdict false same waits flag notice first = 13
 verdict true false waits flag notice first = 14
@@ -51,7 +53,8 @@ module _ (m : Monitor) (told : Told) (c : Config) (f : Frame) where
 
   act-parts : (waits flag : Bool) →
       let first = firstNotified m (c .threads) (c .notified) (m .guardOf (f .region)) (f .thread) in
-      act m told c f waits flag ≡ outcome (verdict true true waits flag (c .notified (f .thread)) first) (nextBy m told c f flag waits)
+      act m told c f waits flag ≡ outcome (verdict true true waits flag (c .notified (f .thread)) first)
+      (nextBy m told c f flag waits)
   unfolding act outcome verdict nextBy
   act-parts false false = refl
   act-parts false true = refl
@@ -63,7 +66,8 @@ module _ (m : Monitor) (told : Told) (c : Config) (f : Frame) where
   judged-parts : (there same : Bool) →
       let first = firstNotified m (c .threads) (c .notified) (m .guardOf (f .region)) (f .thread) in
       let waits = isWaiting (c .threads .place (f .thread)) in
-      judged m told c f there same ≡ outcome (verdict there same waits (f .flag) (c .notified (f .thread)) first) (nextOf m told c f)
+      judged m told c f there same ≡ outcome (verdict there same waits (f .flag) (c .notified (f .thread)) first)
+      (nextOf m told c f)
   unfolding judged outcome verdict nextOf
   judged-parts false same = refl
   judged-parts true false = refl

@@ -45,7 +45,8 @@ unfoldable pub toldOn : Monitor → Bool → Told
 toldOn m true = tableTold m (entryOf m)
 toldOn m false = plainTold m
 
--- the code's outcome against the machine's: a refusal's number and the run as it was, or 0 and a run that shows the next point
+-- the code's outcome against the machine's: a refusal's number and the run as it was, or 0 and a run that shows the
+-- next point
 unfoldable pub Steps : Run → code.Outcome → Outcome → Type 0
 Steps before o (moved c) = (o .number ≡ 0) × Shows (o .run) c
 Steps before o (refused a) = (o .number ≡ a) × (o .run ≡ before)

@@ -1,4 +1,5 @@
--- The monitor that lent slices give by look-ups alone, each index taken by a remainder: total, and the held monitor's where that is asked.
+-- The monitor that lent slices give by look-ups alone, each index taken by a remainder: total, and the held monitor's
+-- where that is asked.
 use Prim.Native.Nat.{ℕ, zero, suc, _+_, _*_, _/_, _%_}
 use mathlib.Core.Bool.{Bool, true, false, not}
 use mathlib.Core.List.{List, []}
@@ -69,5 +70,6 @@ configOf r = record { state = r .state; threads = threadsOf (r .threads); notifi
 module _ (hs gs es : List ℕ) (s r met : ℕ) where
   unfoldable pub toldBehind : Place → Bool
   toldBehind idle = false
-  toldBehind (waiting w) = acts (entryAt es r (guardAt gs w)) (holdsAt hs (guardAt gs w) s) (not (member met (guardAt gs w)))
+  toldBehind (waiting w) = acts (entryAt es r (guardAt gs w)) (holdsAt hs (guardAt gs w) s)
+      (not (member met (guardAt gs w)))
   toldBehind (due w) = false

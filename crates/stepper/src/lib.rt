@@ -255,7 +255,8 @@ fn entry_acts(
 
 // The guards met so far, with that of a thread at a place.
 fn met_with(met: u16, place: Place, guard_of: &[u8; machine::REGIONS]) -> u16
-    ensures { λ r. ⌜ ((g : ℕ) → member r g ≡ onGuard (guardsOnly (now («guard_of» .entry))) g (placeOf place) || member met g) ⌝ }
+    ensures { λ r.
+        ⌜ ((g : ℕ) → member r g ≡ onGuard (guardsOnly (now («guard_of» .entry))) g (placeOf place) || member met g) ⌝ }
 {
     match place {
         Place::Idle => met,
@@ -326,7 +327,8 @@ fn behind(region: u8, goes_on: &[u8; machine::REGIONS]) -> Place
     }
 }
 
-// The number that answers a frame: 0 where it is taken, 13 where the thread may not be at the region, 14 where the rules do not allow it.
+// The number that answers a frame: 0 where it is taken, 13 where the thread may not be at the region, 14 where the
+// rules do not allow it.
 fn judge(
     run: Run,
     frame: Frame,
@@ -385,8 +387,10 @@ fn ran(
 ) -> Run
     requires { ⌜ frame .thread < 16 ⌝ }
     ensures { λ r. ⌜ Shows r
-        (ranTo (slices (now (holds .entry)) (now (after .entry)) (now («guard_of» .entry)) [] (now («goes_on» .entry)) 0)
-        (toldAt (now (holds .entry)) (now («guard_of» .entry)) (now (entries .entry)) table) (configOf run) (frameOf frame)) ⌝ }
+        (ranTo (slices (now (holds .entry)) (now (after .entry)) (now («guard_of» .entry)) [] (now («goes_on» .entry))
+        0)
+        (toldAt (now (holds .entry)) (now («guard_of» .entry)) (now (entries .entry)) table) (configOf run)
+        (frameOf frame)) ⌝ }
 {
     let t = frame.thread;
     let region = frame.region;

@@ -1,5 +1,5 @@
--- Kinds tell lexemes apart: a lexeme's kind decides its class, its mark and its keyword, so each test of a kind is a test of the
--- lexeme; with its value it decides the lexeme, but for names.
+-- Kinds tell lexemes apart: a lexeme's kind decides its class, its mark and its keyword, so each test of a kind is a
+-- test of the lexeme; with its value it decides the lexeme, but for names.
 use Prim.Native.Nat.{ℕ, _+_, _≤_, _<_}
 use mathlib.Core.Bool.{Bool, true, false}
 use mathlib.Core.Path.{_≡_, refl, sym, _∙_, ap}
@@ -78,19 +78,23 @@ eqb-by a b c d f g = split (eqb a b)
 pub kind-mark : (m : Mark) (l : Lexeme) → isMark m l ≡ eqb (kindOf l) (kindOf (mark m))
 unfolding isMark kindOf
 kind-mark m (name x) = sym (ne-eqb nameKind (firstMark + markNumber m) (λ e. omega arith))
-kind-mark m (key k) = sym (ne-eqb (firstKeyword + keywordNumber k) (firstMark + markNumber m) (λ e. omega (arith, mark-few m)))
+kind-mark m (key k) =
+    sym (ne-eqb (firstKeyword + keywordNumber k) (firstMark + markNumber m) (λ e. omega (arith, mark-few m)))
 kind-mark m (number n) = sym (ne-eqb numberKind (firstMark + markNumber m) (λ e. omega arith))
 kind-mark m (mark o) =
-    eqb-by (markNumber m) (markNumber o) (firstMark + markNumber o) (firstMark + markNumber m) (λ e. omega arith) (λ e. omega arith)
+    eqb-by (markNumber m) (markNumber o) (firstMark + markNumber o) (firstMark + markNumber m) (λ e. omega arith)
+    (λ e. omega arith)
 
 pub kind-key : (k : Keyword) (l : Lexeme) → isKey k l ≡ eqb (kindOf l) (kindOf (key k))
 unfolding isKey kindOf
 kind-key k (name x) = sym (ne-eqb nameKind (firstKeyword + keywordNumber k) (λ e. omega arith))
 kind-key k (key j) =
-    eqb-by (keywordNumber k) (keywordNumber j) (firstKeyword + keywordNumber j) (firstKeyword + keywordNumber k) (λ e. omega arith)
+    eqb-by (keywordNumber k) (keywordNumber j) (firstKeyword + keywordNumber j) (firstKeyword + keywordNumber k)
+    (λ e. omega arith)
     (λ e. omega arith)
 kind-key k (number n) = sym (ne-eqb numberKind (firstKeyword + keywordNumber k) (λ e. omega arith))
-kind-key k (mark o) = sym (ne-eqb (firstMark + markNumber o) (firstKeyword + keywordNumber k) (λ e. omega (arith, mark-few o)))
+kind-key k (mark o) =
+    sym (ne-eqb (firstMark + markNumber o) (firstKeyword + keywordNumber k) (λ e. omega (arith, mark-few o)))
 
 pub kind-name : (l : Lexeme) → isName l ≡ eqb (kindOf l) nameKind
 unfolding isName kindOf

@@ -1,5 +1,6 @@
--- What `read` answers for every list of lexemes: the one tree that spells it, or the first place where no file of the grammar goes on.
--- Each reader is shown to be a phrase (`Phrase`) of what its trees spell; a lexeme costs at most three calls' fuel.
+-- What `read` answers for every list of lexemes: the one tree that spells it, or the first place where no file of the
+-- grammar goes on. Each reader is shown to be a phrase (`Phrase`) of what its trees spell; a lexeme costs at most three
+-- calls' fuel.
 use Prim.Native.Nat.{ℕ, zero, suc, _+_, _*_, _-_, _≤_}
 use native.Mathlib.Nat.{zero-add, suc-add}
 use native.Mathlib.Omega.{arith}
@@ -33,7 +34,8 @@ use Rattle.syntax.proofs.Phrase.{pairs, cases, exact, clear}
 
 abbrev allMarks : List Mark
 allMarks =
-    lbrace ∷ rbrace ∷ lparen ∷ rparen ∷ semicolon ∷ equals ∷ dots ∷ becomes ∷ same ∷ differs ∷ below ∷ at-most ∷ above ∷ at-least
+    lbrace ∷ rbrace ∷ lparen ∷ rparen ∷ semicolon ∷ equals ∷ dots ∷ becomes ∷ same ∷ differs ∷ below ∷ at-most ∷ above ∷
+    at-least
     ∷ plus ∷ minus ∷ bang ∷ and-and ∷ or-or ∷ []
 
 mark-at : (m : Mark) → getD allMarks (markNumber m) lbrace ≡ m
@@ -87,7 +89,9 @@ the-mark m = record { alone = alone; itself = eq-eqb (markNumber m) (markNumber 
     alone (key k) e = absurd (false≢true e)
     alone (number n) e = absurd (false≢true e)
     alone (mark o) e =
-        ap mark (sym (mark-at o) ∙ ap (λ (n : ℕ). getD allMarks n lbrace) (sym (eqb-true (markNumber m) (markNumber o) e)) ∙ mark-at m)
+        ap mark
+        (sym (mark-at o) ∙ ap (λ (n : ℕ). getD allMarks n lbrace) (sym (eqb-true (markNumber m) (markNumber o) e))
+        ∙ mark-at m)
 
 the-key : (k : Keyword) → Accepts (isKey k) (key k)
 unfolding isKey
@@ -96,7 +100,9 @@ the-key k = record { alone = alone; itself = eq-eqb (keywordNumber k) (keywordNu
     alone : (x : Lexeme) → isKey k x ≡ true → x ≡ key k
     alone (name x) e = absurd (false≢true e)
     alone (key j) e =
-        ap key (sym (key-at j) ∙ ap (λ (n : ℕ). getD allKeys n k-monitor) (sym (eqb-true (keywordNumber k) (keywordNumber j) e)) ∙ key-at k)
+        ap key
+        (sym (key-at j) ∙ ap (λ (n : ℕ). getD allKeys n k-monitor)
+        (sym (eqb-true (keywordNumber k) (keywordNumber j) e)) ∙ key-at k)
     alone (number n) e = absurd (false≢true e)
     alone (mark o) e = absurd (false≢true e)
 
@@ -173,7 +179,8 @@ term-front t us = go (t .sign)
 exprs : (k n : ℕ) → n ≤ k → Phrase (of spellExpr) no-sign n (readExpr k) (readExpr (suc k))
 unfolding readExpr spellExpr
 exprs k n h = spelled
-    (thens atoms (λ a. turns (λ (ts : List Term). record { first = a; more = ts }) (manys spellTerm isSign term-front k n h terms)))
+    (thens atoms (λ a. turns (λ (ts : List Term). record { first = a; more = ts })
+    (manys spellTerm isSign term-front k n h terms)))
     exact (λ e. ((e .first, e .more), refl))
 
 comparisons : {F : Follow} {n : ℕ} → Phrase (of (λ o. mark (comparisonMark o) ∷ [])) F n readComparison readComparison
@@ -198,7 +205,8 @@ unfolding isSign isMark comparisonMark markNumber
 comparison-no-sign o = elim o [ eq ↦ refl | ne ↦ refl | lt ↦ refl | le ↦ refl | gt ↦ refl | ge ↦ refl ]
 
 -- an expression begins with a name, a number or a minus
-expr-front : (t : Lexeme → Bool) → ((x : List ℕ) → t (name x) ≡ false) → ((n : ℕ) → t (number n) ≡ false) → t (mark minus) ≡ false
+expr-front : (t : Lexeme → Bool) → ((x : List ℕ) → t (name x) ≡ false) → ((n : ℕ) → t (number n) ≡ false)
+    → t (mark minus) ≡ false
     → (e : Expr) (v us : List Lexeme) → begins t (spellExpr e ++ v ++ us) ≡ false
 unfolding spellExpr begins spellAtom
 expr-front t nam num neg e v us = simp append-assoc (go (e .first) (each spellTerm (e .more) ++ (v ++ us)))
@@ -254,7 +262,8 @@ mutual
   simples (suc k) (suc n) h = spelled
       (picks₁ (the-mark bang) (turns negation (simples k n (omega arith)))
       (picks₁ (the-mark lparen)
-      (meets (conds k n (omega arith)) (λ c. skips (the-mark rparen) (gives (bracketed c))) (λ _ _ _ _. (refl, refl, refl)))
+      (meets (conds k n (omega arith)) (λ c. skips (the-mark rparen) (gives (bracketed c)))
+      (λ _ _ _ _. (refl, refl, refl)))
       (picks (the-key k-true) (gives (constant true))
       (picks (the-key k-false) (gives (constant false))
       (meets (exprs k (suc n) (omega arith))
@@ -351,7 +360,8 @@ mutual
 regions : (k n : ℕ) → 3 * n + 1 ≤ k → {F : Follow} → Phrase (of spellRegion) F n (readRegion k) (readRegion (suc k))
 unfolding readRegion spellRegion begins isMark markNumber isSign
 regions k n h = spelled
-    (skips (the-key k-waituntil) (skips (the-mark lparen) (meets (conds k n h) (λ c. skips (the-mark rparen) (skips (the-mark lbrace)
+    (skips (the-key k-waituntil)
+    (skips (the-mark lparen) (meets (conds k n h) (λ c. skips (the-mark rparen) (skips (the-mark lbrace)
     (meets (blocks k n h) (λ b. skips (the-mark rbrace) (gives (record { guard = c; body = b }))) (λ _ _ _ _. refl))))
     (λ _ _ _ _. (refl, refl, refl)))))
     exact (λ r. ((r .guard, (r .body, tt)), refl))
@@ -367,8 +377,10 @@ methods k n h = spelled
 vars : {F : Follow} {n : ℕ} → Phrase (of spellVar) F n readVar readVar
 unfolding readVar spellVar
 vars = spelled
-    (skips (the-key k-var) (thens names λ x. skips (the-mark equals) (thens ints λ s. skips (the-key k-in) (thens ints λ l.
-    skips (the-mark dots) (thens ints λ h. skips (the-mark semicolon) (gives (record { title = x; start = s; low = l; high = h })))))))
+    (skips (the-key k-var)
+    (thens names λ x. skips (the-mark equals) (thens ints λ s. skips (the-key k-in) (thens ints λ l.
+    skips (the-mark dots)
+    (thens ints λ h. skips (the-mark semicolon) (gives (record { title = x; start = s; low = l; high = h })))))))
     exact (λ v. ((v .title, (v .start, (v .low, (v .high, tt)))), refl))
 
 abbrev at-end : Follow
@@ -393,7 +405,8 @@ ends = record {
     leaves (some a) [] us e = cc
     leaves (some a) (l ∷ ls) us e = cc
 
-    still : (o : Option (Unit {0})) (us us′ : List Lexeme) → front us ≡ front us′ → atEnd us ≡ said o us → atEnd us′ ≡ said o us′
+    still : (o : Option (Unit {0})) (us us′ : List Lexeme) → front us ≡ front us′ → atEnd us ≡ said o us
+        → atEnd us′ ≡ said o us′
     still o [] [] f e = e
     still o [] (x ∷ xs) f e = cc
     still o (l ∷ ls) [] f e = cc
@@ -407,7 +420,8 @@ monitors k n h = spelled
     (meets (somes spellVar (isKey k-var) (λ _ _. refl) k n (omega arith) vars) (λ vs. skips (the-key k-keep)
     (meets (conds k n h) (λ c. skips (the-mark semicolon)
     (meets (somes spellMethod (isKey k-method) (λ _ _. refl) k n (omega arith) (methods k n h))
-    (λ ms. skips (the-mark rbrace) (turns (λ _. record { title = x; vars = vs; keep = c; methods = ms }) ends)) (λ _ _ _ _. refl)))
+    (λ ms. skips (the-mark rbrace) (turns (λ _. record { title = x; vars = vs; keep = c; methods = ms }) ends))
+    (λ _ _ _ _. refl)))
     (λ _ _ _ _. (refl, refl, refl)))) (λ _ _ _ _. refl))))
     exact (λ m. ((m .title, (m .vars, (m .keep, (m .methods, tt)))), refl))
 
@@ -432,7 +446,8 @@ ended x (l ∷ ls) a us e = cc
 reads-all : (k : ℕ) → Exhausts (readMonitor k)
 unfolding readMonitor
 reads-all k =
-    after _ λ _. after _ λ _. after _ λ _. after _ λ _. after _ λ _. after _ λ _. after _ λ _. after _ λ _. after _ λ _. ended _
+    after _ λ _. after _ λ _. after _ λ _. after _ λ _. after _ λ _. after _ λ _. after _ λ _. after _ λ _. after _ λ _.
+    ended _
 
 -- The theorems
 
@@ -446,10 +461,13 @@ fuel-enough ls k h =
   where
     go : (d : ℕ) → readMonitor (d + 4 * (length ls + 1)) ls ≡ readMonitor (4 * (length ls + 1)) ls
     go zero = rw zero-add
-    go (suc d) = rw suc-add (sym (monitors (d + 4 * (length ls + 1)) (suc (length ls)) (omega arith) .agree ls (omega arith)) ∙ go d)
+    go (suc d) =
+        rw suc-add (sym (monitors (d + 4 * (length ls + 1)) (suc (length ls)) (omega arith) .agree ls (omega arith))
+        ∙ go d)
 
 reading : (ls : List Lexeme)
-    → Phrase (of spell) at-end (suc (length ls)) (readMonitor (4 * (length ls + 1))) (readMonitor (suc (4 * (length ls + 1))))
+    → Phrase (of spell) at-end (suc (length ls)) (readMonitor (4 * (length ls + 1)))
+    (readMonitor (suc (4 * (length ls + 1))))
 reading ls = monitors (4 * (length ls + 1)) (suc (length ls)) (omega arith)
 
 -- a tree that is read spells the whole list
@@ -475,7 +493,8 @@ unfolding read Viable
 stuck-viable ls us e = let s = reading ls .prefix ls us (omega arith) e in (s .0, s .1, (s .2, s .3, s .4))
 
 -- .. and with the next lexeme it begins none
-pub stuck-not-viable : (ls pre : List Lexeme) (l : Lexeme) (us : List Lexeme) → read ls ≡ stuck (l ∷ us) → ls ≡ pre ++ (l ∷ us)
+pub stuck-not-viable : (ls pre : List Lexeme) (l : Lexeme) (us : List Lexeme) → read ls ≡ stuck (l ∷ us)
+    → ls ≡ pre ++ (l ∷ us)
     → Viable (pre ++ (l ∷ [])) → ⊥
 unfolding Viable
 stuck-not-viable ls pre l us e c v =
@@ -512,7 +531,12 @@ keeping c =
       title = [];
       vars = record { head = record { title = []; start = plain 0; low = plain 0; high = plain 0 }; more = [] };
       keep = c;
-      methods = record { head = record { title = []; regions = record { head = record { guard = c; body = end }; more = [] } }; more = [] };
+      methods =
+          record {
+            head =
+                record { title = []; regions = record { head = record { guard = c; body = end }; more = [] } };
+            more = [];
+          };
     }
 
 -- no two conditions spell one list

@@ -1,5 +1,5 @@
--- Tests of lexemes that decide: equal bytes, and a lexeme that is a given keyword or mark. Keywords and marks are found again from
--- their numbers.
+-- Tests of lexemes that decide: equal bytes, and a lexeme that is a given keyword or mark. Keywords and marks are found
+-- again from their numbers.
 use Prim.Native.Nat.{ℕ}
 use mathlib.Core.Path.{_≡_, refl}
 use mathlib.Core.Bool.{_||_, false≢true}
@@ -28,7 +28,8 @@ decides-same (a ∷ x) (b ∷ y) = decides-by
 
 keywordAt : ℕ → Keyword
 keywordAt n =
-    getD (k-monitor ∷ k-var ∷ k-in ∷ k-keep ∷ k-method ∷ k-waituntil ∷ k-if ∷ k-else ∷ k-true ∷ k-false ∷ []) n k-monitor
+    getD (k-monitor ∷ k-var ∷ k-in ∷ k-keep ∷ k-method ∷ k-waituntil ∷ k-if ∷ k-else ∷ k-true ∷ k-false ∷ []) n
+    k-monitor
 
 keyword-again : (k : Keyword) → keywordAt (keywordNumber k) ≡ k
 unfolding keywordAt keywordNumber

@@ -10,7 +10,8 @@ use mathlib.Core.List.{List, [], _∷_, _++_, append-nil, append-assoc, append-c
 use lib.ListN.{length, length-append}
 use Rattle.syntax.specs.Token.{Lexeme}
 use Rattle.syntax.specs.Tree.{each, Some, all}
-use Rattle.syntax.specs.Decide.Reading.{Got, got, stuck, Reader, onwards, _>>=_, give, begins, rest, choose, expect, readMany, readSome}
+use Rattle.syntax.specs.Decide.Reading.{Got, got, stuck, Reader, onwards, _>>=_, give, begins, rest, choose}
+use Rattle.syntax.specs.Decide.Reading.{expect, readMany, readSome}
 
 -- what the trees of a part spell: an index, and for each its tree and its word
 pub record Words (A : Type 0) : Type 1 where
@@ -68,19 +69,22 @@ abbrev pub front : List Lexeme → List Lexeme
 front [] = []
 front (l ∷ ls) = l ∷ []
 
--- A reader r of words, where F holds of what follows them, on lists shorter than n; r′ is the same reader with more fuel.
+-- A reader r of words, where F holds of what follows them, on lists shorter than n; r′ is the same reader with more
+-- fuel.
 pub record Phrase {A : Type 0} (W : Words A) (F : Follow) (n : ℕ) (r r′ : Reader A) : Type 0 where
   pub witness : W .index
   -- it reads words only
   pub sound : (ls : List Lexeme) (a : A) (us : List Lexeme) → length ls < n → r ls ≡ got a us
       → (i : W .index) × (a ≡ W .value i) × (ls ≡ W .word i ++ us)
   -- it reads every word
-  pub complete : (i : W .index) (us : List Lexeme) → F us → length (W .word i ++ us) < n → r (W .word i ++ us) ≡ got (W .value i) us
+  pub complete : (i : W .index) (us : List Lexeme) → F us → length (W .word i ++ us) < n → r (W .word i ++ us)
+      ≡ got (W .value i) us
   -- where it is stuck a word goes on
   pub prefix : (ls us : List Lexeme) → length ls < n → r ls ≡ stuck us
       → (pre : List Lexeme) × (ls ≡ pre ++ us) × (i : W .index) × (more : List Lexeme) × (W .word i ≡ pre ++ more)
   -- of what it leaves it sees one lexeme
-  pub local : (o : Option A) (pre us us′ : List Lexeme) → front us ≡ front us′ → length (pre ++ us) < n → length (pre ++ us′) < n
+  pub local : (o : Option A) (pre us us′ : List Lexeme) → front us ≡ front us′ → length (pre ++ us) < n
+      → length (pre ++ us′) < n
       → r (pre ++ us) ≡ said o us → r (pre ++ us′) ≡ said o us′
   -- more fuel changes nothing
   pub agree : (ls : List Lexeme) → length ls < n → r ls ≡ r′ ls
@@ -104,7 +108,8 @@ vacuous z i = record {
 }
 
 -- a smaller bound
-within : {A : Type 0} {W : Words A} {F : Follow} {n m : ℕ} {r r′ : Reader A} → m ≤ n → Phrase W F n r r′ → Phrase W F m r r′
+within : {A : Type 0} {W : Words A} {F : Follow} {n m : ℕ} {r r′ : Reader A} → m ≤ n → Phrase W F n r r′
+    → Phrase W F m r r′
 within le p = record {
   witness = p .witness;
   sound = λ ls a us h e. p .sound ls a us (omega arith) e;
@@ -145,7 +150,8 @@ pub record Every {I : Type 0} (P : I → Type 0) : Type 0 where
 pub every : {I : Type 0} {P : I → Type 0} → ((i : I) → P i) → Every P
 every h = record { at = h }
 
-pub pairs : {I : Type 0} {J : I → Type 0} {P : (i : I) × J i → Type 0} → ((i : I) → Every (λ (j : J i). P (i, j))) → Every P
+pub pairs : {I : Type 0} {J : I → Type 0} {P : (i : I) × J i → Type 0} → ((i : I) → Every (λ (j : J i). P (i, j)))
+    → Every P
 pairs h = record { at = λ x. h (x .0) .at (x .1) }
 
 pub cases : {I J : Type 0} {P : I ⊎ J → Type 0} → Every (λ (i : I). P (inl i)) → Every (λ (j : J). P (inr j)) → Every P
@@ -157,11 +163,13 @@ exact = every λ i. refl
 
 -- all trees of a type, by their spelling
 pub spelled : {A : Type 0} {W : Words A} {F : Follow} {n : ℕ} {r r′ : Reader A} {s : A → List Lexeme}
-    → Phrase W F n r r′ → Every (λ (i : W .index). W .word i ≡ s (W .value i)) → ((a : A) → (i : W .index) × (W .value i ≡ a))
+    → Phrase W F n r r′ → Every (λ (i : W .index). W .word i ≡ s (W .value i))
+    → ((a : A) → (i : W .index) × (W .value i ≡ a))
     → Phrase (of s) F n r r′
 unfolding Same
 spelled {W = W} {s = s} p word back =
-    reword (λ i. (W .value i, refl, word .at i)) (λ a. let b = back a in (b .0, sym (b .1), sym (word .at (b .0) ∙ ap s (b .1)))) p
+    reword (λ i. (W .value i, refl, word .at i)) (λ a. let b = back a in
+    (b .0, sym (b .1), sym (word .at (b .0) ∙ ap s (b .1)))) p
 
 -- Laws of the combinators
 
@@ -187,91 +195,97 @@ gives {A} a = record {
 module _ {A B : Type 0} {W : Words A} {U : A → Words B} {F G : Follow} {n m : ℕ} {r r′ : Reader A} {f f′ : A → Reader B}
     (p : Phrase W F n r r′) (q : (a : A) → Phrase (U a) G m (f a) (f′ a))
     (room : (i : W .index) → n ≤ length (W .word i) + m)
-    (joins : (i : W .index) (j : U (W .value i) .index) (us : List Lexeme) → G us → F (U (W .value i) .word j ++ us)) where
-  shorter : (i : W .index) (ls vs : List Lexeme) → ls ≡ W .word i ++ vs → length ls < n → length vs < m
-  shorter i ls vs e h = omega (arith, room i, simp length-append at (ap length e))
+    (joins : (i : W .index) (j : U (W .value i) .index) (us : List Lexeme) → G us → F (U (W .value i) .word j ++ us))
+  where
+    shorter : (i : W .index) (ls vs : List Lexeme) → ls ≡ W .word i ++ vs → length ls < n → length vs < m
+    shorter i ls vs e h = omega (arith, room i, simp length-append at (ap length e))
 
-  -- what is left is an end of what was read
-  end-of : (a : A) (o : Option B) (ls us : List Lexeme) → length ls < m → f a ls ≡ said o us → (pre : List Lexeme) × (ls ≡ pre ++ us)
-  end-of a none ls us h e = let s = q a .prefix ls us h e in (s .0, s .1)
-  end-of a (some b) ls us h e = let s = q a .sound ls b us h e in (U a .word (s .0), s .2)
+    -- what is left is an end of what was read
+    end-of : (a : A) (o : Option B) (ls us : List Lexeme) → length ls < m → f a ls ≡ said o us
+        → (pre : List Lexeme) × (ls ≡ pre ++ us)
+    end-of a none ls us h e = let s = q a .prefix ls us h e in (s .0, s .1)
+    end-of a (some b) ls us h e = let s = q a .sound ls b us h e in (U a .word (s .0), s .2)
 
-  chain-sound : (ls : List Lexeme) (b : B) (us : List Lexeme) → length ls < n → (g : Got A) → r ls ≡ g → onwards g f ≡ got b us
-      → (x : chain W U .index) × (b ≡ chain W U .value x) × (ls ≡ chain W U .word x ++ us)
-  unfolding onwards
-  chain-sound ls b us h (stuck vs) d e = got-stuck (sym e)
-  chain-sound ls b us h (got a vs) d e =
-      let s = p .sound ls a vs h d in
-      let i = s .0 in
-      let t = q (W .value i) .sound vs b us (shorter i ls vs (s .2) h) (rw (s .1) at e) in
-      ((i, t .0), t .1, s .2 ∙ ap (λ (x : List Lexeme). W .word i ++ x) (t .2) ∙ sym (append-assoc (W .word i) _ us))
+    chain-sound : (ls : List Lexeme) (b : B) (us : List Lexeme) → length ls < n → (g : Got A) → r ls ≡ g
+        → onwards g f ≡ got b us
+        → (x : chain W U .index) × (b ≡ chain W U .value x) × (ls ≡ chain W U .word x ++ us)
+    unfolding onwards
+    chain-sound ls b us h (stuck vs) d e = got-stuck (sym e)
+    chain-sound ls b us h (got a vs) d e =
+        let s = p .sound ls a vs h d in
+        let i = s .0 in
+        let t = q (W .value i) .sound vs b us (shorter i ls vs (s .2) h) (rw (s .1) at e) in
+        ((i, t .0), t .1, s .2 ∙ ap (λ (x : List Lexeme). W .word i ++ x) (t .2) ∙ sym (append-assoc (W .word i) _ us))
 
-  chain-prefix : (ls us : List Lexeme) → length ls < n → (g : Got A) → r ls ≡ g → onwards g f ≡ stuck us
-      → (pre : List Lexeme) × (ls ≡ pre ++ us) × (x : chain W U .index) × (more : List Lexeme) × (chain W U .word x ≡ pre ++ more)
-  unfolding onwards
-  chain-prefix ls us h (stuck vs) d e =
-      let s = p .prefix ls us h (cc) in
-      let i = s .2 in
-      let j = q (W .value i) .witness in
-      (s .0, s .1, (i, j), s .3 ++ U (W .value i) .word j, rw (s .4, append-assoc))
-  chain-prefix ls us h (got a vs) d e =
-      let s = p .sound ls a vs h d in
-      let i = s .0 in
-      let t = q (W .value i) .prefix vs us (shorter i ls vs (s .2) h) (rw (s .1) at e) in (
-        W .word i ++ t .0,
-        s .2 ∙ ap (λ (x : List Lexeme). W .word i ++ x) (t .1) ∙ sym (append-assoc (W .word i) (t .0) us),
-        (i, t .2),
-        t .3,
-        ap (λ (x : List Lexeme). W .word i ++ x) (t .4) ∙ sym (append-assoc (W .word i) (t .0) (t .3)),
-      )
+    chain-prefix : (ls us : List Lexeme) → length ls < n → (g : Got A) → r ls ≡ g → onwards g f ≡ stuck us
+        → (pre : List Lexeme) × (ls ≡ pre ++ us) × (x : chain W U .index) × (more : List Lexeme)
+        × (chain W U .word x ≡ pre ++ more)
+    unfolding onwards
+    chain-prefix ls us h (stuck vs) d e =
+        let s = p .prefix ls us h (cc) in
+        let i = s .2 in
+        let j = q (W .value i) .witness in
+        (s .0, s .1, (i, j), s .3 ++ U (W .value i) .word j, rw (s .4, append-assoc))
+    chain-prefix ls us h (got a vs) d e =
+        let s = p .sound ls a vs h d in
+        let i = s .0 in
+        let t = q (W .value i) .prefix vs us (shorter i ls vs (s .2) h) (rw (s .1) at e) in (
+          W .word i ++ t .0,
+          s .2 ∙ ap (λ (x : List Lexeme). W .word i ++ x) (t .1) ∙ sym (append-assoc (W .word i) (t .0) us),
+          (i, t .2),
+          t .3,
+          ap (λ (x : List Lexeme). W .word i ++ x) (t .4) ∙ sym (append-assoc (W .word i) (t .0) (t .3)),
+        )
 
-  chain-complete : (x : chain W U .index) (us : List Lexeme) → G us → length (chain W U .word x ++ us) < n
-      → (r >>= f) (chain W U .word x ++ us) ≡ got (chain W U .value x) us
-  unfolding _>>=_ onwards
-  chain-complete x us g h =
-      let i = x .0 in
-      let j = x .1 in
-      let v = U (W .value i) .word j ++ us in
-      let e : W .word i ++ U (W .value i) .word j ++ us ≡ W .word i ++ v = append-assoc (W .word i) (U (W .value i) .word j) us in
-      rw (e, p .complete i v (joins i j us g) (rw e at h)) (q (W .value i) .complete j us g (shorter i _ v e h))
+    chain-complete : (x : chain W U .index) (us : List Lexeme) → G us → length (chain W U .word x ++ us) < n
+        → (r >>= f) (chain W U .word x ++ us) ≡ got (chain W U .value x) us
+    unfolding _>>=_ onwards
+    chain-complete x us g h =
+        let i = x .0 in
+        let j = x .1 in
+        let v = U (W .value i) .word j ++ us in
+        let e : W .word i ++ U (W .value i) .word j ++ us ≡ W .word i ++ v =
+        append-assoc (W .word i) (U (W .value i) .word j) us in
+        rw (e, p .complete i v (joins i j us g) (rw e at h)) (q (W .value i) .complete j us g (shorter i _ v e h))
 
-  chain-local : (o : Option B) (pre us us′ : List Lexeme) → front us ≡ front us′ → length (pre ++ us) < n → length (pre ++ us′) < n
-      → (g : Got A) → r (pre ++ us) ≡ g → onwards g f ≡ said o us → onwards (r (pre ++ us′)) f ≡ said o us′
-  unfolding onwards
-  chain-local none pre us us′ s h h′ (stuck vs) d e = rw (p .local none pre us us′ s h h′ (cc))
-  chain-local (some b) pre us us′ s h h′ (stuck vs) d e = got-stuck (sym e)
-  chain-local o pre us us′ s h h′ (got a vs) d e =
-      let t = p .sound (pre ++ us) a vs h d in
-      let w = W .word (t .0) in
-      let x = end-of a o vs us (shorter (t .0) (pre ++ us) vs (t .2) h) e in
-      let y = x .0 in
-      let whole : pre ≡ w ++ y = append-cancel-right pre (w ++ y) us
-      (t .2 ∙ ap (λ (z : List Lexeme). w ++ z) (x .1) ∙ sym (append-assoc w y us)) in
-      let cut : (z : List Lexeme) → pre ++ z ≡ w ++ (y ++ z) =
-      λ z. ap (λ (v : List Lexeme). v ++ z) whole ∙ append-assoc w y z in
-      let first : r (w ++ (y ++ us′)) ≡ got a (y ++ us′) =
-      p .local (some a) w (y ++ us) (y ++ us′) (same-front y us us′ s) (rw (cut us) at h) (rw (cut us′) at h′)
-      (rw (← (cut us), ← (x .1)) d) in
-      rw (cut us′, first) (q a .local o y us us′ s (shorter (t .0) (pre ++ us) (y ++ us) (cut us) h)
-      (shorter (t .0) (pre ++ us′) (y ++ us′) (cut us′) h′) (rw (x .1) at e))
+    chain-local : (o : Option B) (pre us us′ : List Lexeme) → front us ≡ front us′ → length (pre ++ us) < n
+        → length (pre ++ us′) < n
+        → (g : Got A) → r (pre ++ us) ≡ g → onwards g f ≡ said o us → onwards (r (pre ++ us′)) f ≡ said o us′
+    unfolding onwards
+    chain-local none pre us us′ s h h′ (stuck vs) d e = rw (p .local none pre us us′ s h h′ (cc))
+    chain-local (some b) pre us us′ s h h′ (stuck vs) d e = got-stuck (sym e)
+    chain-local o pre us us′ s h h′ (got a vs) d e =
+        let t = p .sound (pre ++ us) a vs h d in
+        let w = W .word (t .0) in
+        let x = end-of a o vs us (shorter (t .0) (pre ++ us) vs (t .2) h) e in
+        let y = x .0 in
+        let whole : pre ≡ w ++ y = append-cancel-right pre (w ++ y) us
+        (t .2 ∙ ap (λ (z : List Lexeme). w ++ z) (x .1) ∙ sym (append-assoc w y us)) in
+        let cut : (z : List Lexeme) → pre ++ z ≡ w ++ (y ++ z) =
+        λ z. ap (λ (v : List Lexeme). v ++ z) whole ∙ append-assoc w y z in
+        let first : r (w ++ (y ++ us′)) ≡ got a (y ++ us′) =
+        p .local (some a) w (y ++ us) (y ++ us′) (same-front y us us′ s) (rw (cut us) at h) (rw (cut us′) at h′)
+        (rw (← (cut us), ← (x .1)) d) in
+        rw (cut us′, first) (q a .local o y us us′ s (shorter (t .0) (pre ++ us) (y ++ us) (cut us) h)
+        (shorter (t .0) (pre ++ us′) (y ++ us′) (cut us′) h′) (rw (x .1) at e))
 
-  chain-agree : (ls : List Lexeme) → length ls < n → (g : Got A) → r ls ≡ g → onwards (r ls) f ≡ onwards (r′ ls) f′
-  unfolding onwards
-  chain-agree ls h (stuck vs) d = rw (← (p .agree ls h), d)
-  chain-agree ls h (got a vs) d =
-      let s = p .sound ls a vs h d in
-      rw (← (p .agree ls h), d) (q a .agree vs (shorter (s .0) ls vs (s .2) h))
+    chain-agree : (ls : List Lexeme) → length ls < n → (g : Got A) → r ls ≡ g → onwards (r ls) f ≡ onwards (r′ ls) f′
+    unfolding onwards
+    chain-agree ls h (stuck vs) d = rw (← (p .agree ls h), d)
+    chain-agree ls h (got a vs) d =
+        let s = p .sound ls a vs h d in
+        rw (← (p .agree ls h), d) (q a .agree vs (shorter (s .0) ls vs (s .2) h))
 
-  pub chains : Phrase (chain W U) G n (r >>= f) (r′ >>= f′)
-  unfolding _>>=_
-  chains = record {
-    witness = (p .witness, q _ .witness);
-    sound = λ ls b us h e. chain-sound ls b us h (r ls) refl e;
-    complete = chain-complete;
-    prefix = λ ls us h e. chain-prefix ls us h (r ls) refl e;
-    local = λ o pre us us′ s h h′ e. chain-local o pre us us′ s h h′ (r (pre ++ us)) refl e;
-    agree = λ ls h. chain-agree ls h (r ls) refl;
-  }
+    pub chains : Phrase (chain W U) G n (r >>= f) (r′ >>= f′)
+    unfolding _>>=_
+    chains = record {
+      witness = (p .witness, q _ .witness);
+      sound = λ ls b us h e. chain-sound ls b us h (r ls) refl e;
+      complete = chain-complete;
+      prefix = λ ls us h e. chain-prefix ls us h (r ls) refl e;
+      local = λ o pre us us′ s h h′ e. chain-local o pre us us′ s h h′ (r (pre ++ us)) refl e;
+      agree = λ ls h. chain-agree ls h (r ls) refl;
+    }
 
 -- Tests
 
@@ -292,7 +306,8 @@ abbrev pub Fronts : {A : Type 0} → (Lexeme → Bool) → Words A → Follow �
 Fronts t W F b = Every (λ (i : W .index). (us : List Lexeme) → F us → begins t (W .word i ++ us) ≡ b)
 
 -- a test that computes
-pub clear : {I : Type 0} {F : Follow} {f : I → List Lexeme → Bool} → Every (λ i. (us : List Lexeme) → F us → f i us ≡ f i us)
+pub clear : {I : Type 0} {F : Follow} {f : I → List Lexeme → Bool}
+    → Every (λ i. (us : List Lexeme) → F us → f i us ≡ f i us)
 clear = every λ i us h. refl
 
 -- one reader or another, by the lexeme in front
@@ -364,7 +379,8 @@ module _ {A : Type 0} {s : A → Lexeme} {r : Reader A} (k : Takes s r) where
       go none e = cc
       go (some b) e = got-stuck e
 
-  one-local : (o : Option A) (pre us us′ : List Lexeme) → front us ≡ front us′ → r (pre ++ us) ≡ said o us → r (pre ++ us′) ≡ said o us′
+  one-local : (o : Option A) (pre us us′ : List Lexeme) → front us ≡ front us′ → r (pre ++ us) ≡ said o us
+      → r (pre ++ us′) ≡ said o us′
   one-local none pre us us′ f e =
       let q : pre ≡ [] = append-cancel-right pre [] us (one-stuck (pre ++ us) us e) in
       rw q (still us us′ f (rw q at e))
@@ -442,7 +458,8 @@ module _ {A : Type 0} {W : Words A} {F : Follow} {n : ℕ} {r r′ : Reader A} {
   picks u fail = chooses p skips u (every λ i us f. acc .itself) fail
 
 -- one part, then another that may follow it
-pub meets : {A B : Type 0} {W : Words A} {U : A → Words B} {F G : Follow} {n : ℕ} {r r′ : Reader A} {f f′ : A → Reader B}
+pub meets : {A B : Type 0} {W : Words A} {U : A → Words B} {F G : Follow} {n : ℕ} {r r′ : Reader A} {f f′ : A
+    → Reader B}
     → Phrase W F n r r′ → ((a : A) → Phrase (U a) G n (f a) (f′ a))
     → ((i : W .index) (j : U (W .value i) .index) (us : List Lexeme) → G us → F (U (W .value i) .word j ++ us))
     → Phrase (chain W U) G n (r >>= f) (r′ >>= f′)
@@ -450,18 +467,21 @@ meets {n = n} p q joins = chains {m = n} p q (λ i. omega arith) joins
 
 -- one part that anything may follow, then another
 pub thens : {A B : Type 0} {W : Words A} {U : A → Words B} {G : Follow} {n : ℕ} {r r′ : Reader A} {f f′ : A → Reader B}
-    → Phrase W anything n r r′ → ((a : A) → Phrase (U a) G n (f a) (f′ a)) → Phrase (chain W U) G n (r >>= f) (r′ >>= f′)
+    → Phrase W anything n r r′ → ((a : A) → Phrase (U a) G n (f a) (f′ a))
+    → Phrase (chain W U) G n (r >>= f) (r′ >>= f′)
 thens p q = meets p q (λ _ _ _ _. tt)
 
 -- one part, made into another tree
 pub turns : {A B : Type 0} (g : A → B) {W : Words A} {F : Follow} {n : ℕ} {r r′ : Reader A}
     → Phrase W F n r r′ → Phrase (turned g W) F n (r >>= λ a. give (g a)) (r′ >>= λ a. give (g a))
 unfolding Same
-turns g {W = W} p = reword (λ x. (x .0, refl, append-nil (W .word (x .0)))) (λ i. ((i, tt), refl, sym (append-nil (W .word i))))
+turns g {W = W} p =
+    reword (λ x. (x .0, refl, append-nil (W .word (x .0)))) (λ i. ((i, tt), refl, sym (append-nil (W .word i))))
     (meets p (λ a. gives (g a)) (λ _ _ _ f. f))
 
 -- Repetition, of a part whose words begin with a lexeme that passes a test
-module _ {A : Type 0} (s : A → List Lexeme) (p : Lexeme → Bool) (starts : (a : A) (us : List Lexeme) → begins p (s a ++ us) ≡ true) where
+module _ {A : Type 0} (s : A → List Lexeme) (p : Lexeme → Bool) (starts : (a : A) (us : List Lexeme)
+    → begins p (s a ++ us) ≡ true) where
   not-empty : (a : A) → 1 ≤ length (s a)
   unfolding begins
   not-empty a = go (s a) (starts a [])
@@ -484,7 +504,8 @@ module _ {A : Type 0} (s : A → List Lexeme) (p : Lexeme → Bool) (starts : (a
       (λ x. elim x [ [] ↦ (inr tt, refl) | a ∷ as′ ↦ (inl (a, as′), refl) ])
 
   pub somes : {r r′ : Reader A} (k n : ℕ) → n ≤ k → Phrase (of s) anything n r r′
-      → Phrase (of (λ (x : Some A). each s (all x))) (λ us. begins p us ≡ false) n (readSome p r k) (readSome p r′ (suc k))
+      → Phrase (of (λ (x : Some A). each s (all x))) (λ us. begins p us ≡ false) n (readSome p r k)
+      (readSome p r′ (suc k))
   unfolding readSome each
   somes k n h q = spelled
       (thens q λ a. turns (λ (x : List A). record { head = a; more = x }) (manys k n h q))

@@ -1,19 +1,24 @@
--- Scanning takes the longest token at a place, and a file is its tokens and blanks: each answer has its declared meaning, by induction on the bytes, and each meaning one answer.
+-- Scanning takes the longest token at a place, and a file is its tokens and blanks: each answer has its declared
+-- meaning, by induction on the bytes, and each meaning one answer.
 use Prim.Native.Nat.{ℕ, zero, suc, _+_, _≤_, _<_}
 use Prim.Native.String.{String}
 use native.Mathlib.Omega.{arith}
 use mathlib.Core.Bool.{Bool, true, false, not, _&&_, _||_, true≢false, false≢true}
-use mathlib.Core.List.{List, [], _∷_, map, List·Memᴰ, List·Memᴰ·head, List·Memᴰ·tail, List·Memᴰ·not-nil, List·Memᴰ·cases-cons, head-eq-of-cons-eq, tail-eq-of-cons-eq}
+use mathlib.Core.List.{List, [], _∷_, map, List·Memᴰ, List·Memᴰ·head, List·Memᴰ·tail, List·Memᴰ·not-nil}
+use mathlib.Core.List.{List·Memᴰ·cases-cons, head-eq-of-cons-eq, tail-eq-of-cons-eq}
 use mathlib.Core.Logic.{_⊎_, inl, inr, ⊎-elim, _↔_}
 use mathlib.Core.Path.{_≡_, refl, sym, ap, subst, _∙_}
 use lib.ListN.{length, take, drop, getD, length-drop}
 use lib.Seq.{length-take-le, take-length, drop-drop, getD-drop}
 use lib.Dec.{leb, eqb}
 use borrow.Author.Tests.{leb-true, leb-false, le-leb, lt-leb, eqb-true, eq-eqb, ne-eqb, not-true}
-use Rattle.syntax.specs.Bytes.{bytes, between, blank, letter, digit, wordByte, leading, decimal, sameBytes, startsWith}
+use Rattle.syntax.specs.Bytes.{bytes, between, blank, letter, digit, wordByte, leading, decimal, sameBytes}
+use Rattle.syntax.specs.Bytes.{startsWith}
 use Rattle.syntax.specs.Token.{Mark, Keyword, Lexeme, name, key, number, mark, Token, keywords, marks}
-use Rattle.syntax.specs.Decide.Scan.{wordOf, Scan, nothing, found, atMost, markOf, scan, Tokens, tokens, none-at, prepend, tokensFrom, tokenize}
-use Rattle.syntax.specs.Spelling.{Every, Run, Word, Digits, Listed, TokenShape, Spells, Longest, BeginsNone, no-token, long-word, long-number, Cover, Stops, Rising}
+use Rattle.syntax.specs.Decide.Scan.{wordOf, Scan, nothing, found, atMost, markOf, scan, Tokens, tokens, none-at}
+use Rattle.syntax.specs.Decide.Scan.{prepend, tokensFrom, tokenize}
+use Rattle.syntax.specs.Spelling.{Every, Run, Word, Digits, Listed, TokenShape, Spells, Longest, BeginsNone}
+use Rattle.syntax.specs.Spelling.{no-token, long-word, long-number, Cover, Stops, Rising}
 
 -- Tests
 
@@ -56,7 +61,12 @@ digit-not-letter b h = split (letter b) (λ e. absurd (omega (arith, letter-abov
 
 above-not-blank : (b : ℕ) → 32 < b → blank b ≡ false
 unfolding blank
-above-not-blank b h = rw (ne-eqb b 9 (omega arith), ne-eqb b 10 (omega arith), ne-eqb b 13 (omega arith), ne-eqb b 32 (omega arith))
+above-not-blank b h = rw (
+  ne-eqb b 9 (omega arith),
+  ne-eqb b 10 (omega arith),
+  ne-eqb b 13 (omega arith),
+  ne-eqb b 32 (omega arith),
+)
 
 letter-word : (b : ℕ) → letter b ≡ true → wordByte b ≡ true
 unfolding wordByte
@@ -67,7 +77,8 @@ letter-word b h = rw h
 leading-within : (p : ℕ → Bool) (bs : List ℕ) → leading p bs ≤ length bs
 unfolding leading
 leading-within p [] = omega arith
-leading-within p (b ∷ bs) = split (p b) (λ e. rw (e, leading) (let r = leading-within p bs in omega arith)) (λ e. rw (e, leading) (omega arith))
+leading-within p (b ∷ bs) = split (p b) (λ e. rw (e, leading) (let r = leading-within p bs in omega arith))
+    (λ e. rw (e, leading) (omega arith))
 
 leading-every : (p : ℕ → Bool) (bs : List ℕ) → Every p (take (leading p bs) bs)
 unfolding leading
@@ -78,7 +89,8 @@ leading-most : (p : ℕ → Bool) (bs : List ℕ) (k : ℕ) → k ≤ length bs 
 unfolding leading
 leading-most p bs zero h e = omega arith
 leading-most p [] (suc k) h e = absurd (omega arith)
-leading-most p (b ∷ bs) (suc k) h e = rw (e .0, leading) (let r = leading-most p bs k (omega arith) (e .1) in omega arith)
+leading-most p (b ∷ bs) (suc k) h e = rw (e .0, leading) (let r = leading-most p bs k (omega arith) (e .1) in
+    omega arith)
 
 -- such a run of bytes is all of a list whose bytes all pass
 leading-all : (p : ℕ → Bool) (w : List ℕ) → Every p w → leading p w ≡ length w
@@ -128,7 +140,8 @@ same-refl [] = refl
 same-refl (b ∷ w) = rw (eq-eqb b b refl, same-refl w)
 
 -- what is listed and is not the first of the list is listed in the rest
-later : {A : Type 0} (e : String × A) (l : List (String × A)) (w : List ℕ) (a : A) → (bytes (e .0) ≡ w → ⊥) → Listed (e ∷ l) w a → Listed l w a
+later : {A : Type 0} (e : String × A) (l : List (String × A)) (w : List ℕ) (a : A) → (bytes (e .0) ≡ w → ⊥)
+    → Listed (e ∷ l) w a → Listed l w a
 later e l w a differs i = ⊎-elim
     (λ (q : (i .0, a) ≡ e). absurd (differs (ap (λ (x : String × _). bytes (x .0)) (sym q) ∙ i .2)))
     (λ m. (i .0, m, i .2))
@@ -142,7 +155,8 @@ unfolding wordOf
 word-cases [] w C f g = g (λ k i. List·Memᴰ·not-nil (i .1))
 word-cases (e ∷ ks) w C f g = split (sameBytes (bytes (e .0)) w)
     (λ h. rw (h, wordOf) (f (e .1) (e .0, List·Memᴰ·head refl, same-eq (bytes (e .0)) w h)))
-    (λ h. rw (h, wordOf) (word-cases ks w C (λ k i. f k (i .0, List·Memᴰ·tail (i .1), i .2)) (λ none. g (λ k i. none k (later e ks w k (other h) i)))))
+    (λ h. rw (h, wordOf) (word-cases ks w C (λ k i. f k (i .0, List·Memᴰ·tail (i .1), i .2))
+    (λ none. g (λ k i. none k (later e ks w k (other h) i)))))
   where
     other : sameBytes (bytes (e .0)) w ≡ false → bytes (e .0) ≡ w → ⊥
     other h q = clash (rw q (same-refl w)) h
@@ -153,7 +167,8 @@ unfolding keywords wordOf bytes sameBytes
 keywords-found = refl
 
 keyword-found : (w : List ℕ) (k : Keyword) → Listed keywords w k → wordOf keywords w ≡ key k
-keyword-found w k i = ap (wordOf keywords) (sym (i .2)) ∙ agree-at (λ e. wordOf keywords (bytes (e .0))) (λ e. key (e .1)) keywords keywords-found (i .1)
+keyword-found w k i = ap (wordOf keywords) (sym (i .2)) ∙ agree-at (λ e. wordOf keywords (bytes (e .0)))
+    (λ e. key (e .1)) keywords keywords-found (i .1)
 
 -- Marks: those of two bytes stand first, so that the first mark in front is the longest
 
@@ -194,7 +209,8 @@ mark-cases (e ∷ ms) bs C d f g =
     (λ n m i top. f n m (i .0, (i .1 .0, List·Memᴰ·tail (i .1 .1), i .1 .2)) (λ j o k. top j o (rest h j o k)))
     (λ none. g (λ j o k. none j o (rest h j o k)))))
   where
-    bounded : passes (λ y. leb (size y) (size e)) (e ∷ ms) ≡ true → (j : ℕ) (o : Mark) → Front (e ∷ ms) bs j o → j ≤ size e
+    bounded : passes (λ y. leb (size y) (size e)) (e ∷ ms) ≡ true → (j : ℕ) (o : Mark) → Front (e ∷ ms) bs j o
+        → j ≤ size e
     bounded h j o i =
         let l = leb-true (size (i .1 .0, o)) (size e) (passes-at (λ y. leb (size y) (size e)) (e ∷ ms) h (i .1 .1)) in
         omega (arith, ap length (i .1 .2) ∙ length-take-le j bs (i .0))
@@ -207,13 +223,15 @@ unfolding falling passes size marks bytes
 marks-falling = refl
 
 -- each mark is found by its text
-marks-found : map (λ e. markOf marks (bytes (e .0))) marks ≡ map (λ e. found (mark (e .1)) (length (bytes (e .0)))) marks
+marks-found : map (λ e. markOf marks (bytes (e .0))) marks
+    ≡ map (λ e. found (mark (e .1)) (length (bytes (e .0)))) marks
 unfolding marks markOf bytes startsWith
 marks-found = refl
 
 mark-found : (w : List ℕ) (m : Mark) → Listed marks w m → markOf marks w ≡ found (mark m) (length w)
 mark-found w m i = subst (λ (v : List ℕ). markOf marks v ≡ found (mark m) (length v)) (i .2)
-    (agree-at (λ e. markOf marks (bytes (e .0))) (λ e. found (mark (e .1)) (length (bytes (e .0)))) marks marks-found (i .1))
+    (agree-at (λ e. markOf marks (bytes (e .0))) (λ e. found (mark (e .1)) (length (bytes (e .0)))) marks marks-found
+    (i .1))
 
 -- no mark begins with a letter, a digit or a blank
 apart : List ℕ → Bool
@@ -252,7 +270,8 @@ digit-shape b w d (TokenShape.a-word h) = clash (h .0) (digit-not-letter b d)
 digit-shape b w d (TokenShape.a-number h) = h
 digit-shape b w d (TokenShape.a-mark {m = m} i) = clash d (apart-not b w (mark-apart (b ∷ w) m i) .1)
 
-other-shape : (b : ℕ) (w : List ℕ) → letter b ≡ false → digit b ≡ false → TokenShape (b ∷ w) → (m : Mark) × Listed marks (b ∷ w) m
+other-shape : (b : ℕ) (w : List ℕ) → letter b ≡ false → digit b ≡ false → TokenShape (b ∷ w)
+    → (m : Mark) × Listed marks (b ∷ w) m
 other-shape b w l d (TokenShape.a-word h) = clash (h .0) l
 other-shape b w l d (TokenShape.a-number h) = clash (h .0) d
 other-shape b w l d (TokenShape.a-mark {m = m} i) = (m, i)
@@ -268,7 +287,8 @@ abbrev Means : List ℕ → Scan → Type 0
 Means bs nothing = BeginsNone bs
 Means bs (found l n) = Longest bs n × Spells (take n bs) l
 
-at-most-means : (bs : List ℕ) (limit n : ℕ) (l : Lexeme) → (n ≤ limit → Longest bs n × Spells (take n bs) l) → (limit < n → BeginsNone bs)
+at-most-means : (bs : List ℕ) (limit n : ℕ) (l : Lexeme) → (n ≤ limit → Longest bs n × Spells (take n bs) l)
+    → (limit < n → BeginsNone bs)
     → Means bs (atMost limit n l)
 unfolding atMost
 at-most-means bs limit n l f g = split (leb n limit)
@@ -277,7 +297,8 @@ at-most-means bs limit n l f g = split (leb n limit)
 
 -- a word or a number at the front: a run of bytes in which every shape at the front lies
 module _ (first rest : ℕ → Bool) (b : ℕ) (bs : List ℕ) (f : first b ≡ true) (r : rest b ≡ true)
-    (shaped : (w : List ℕ) → Run first rest w → TokenShape w) (holds : (w : List ℕ) → TokenShape (b ∷ w) → Every rest (b ∷ w)) where
+    (shaped : (w : List ℕ) → Run first rest w → TokenShape w) (holds : (w : List ℕ) → TokenShape (b ∷ w)
+    → Every rest (b ∷ w)) where
   run-leading : Run first rest (take (leading rest (b ∷ bs)) (b ∷ bs))
   unfolding leading
   run-leading = rw (r, leading) (f, leading-every rest bs)
@@ -294,13 +315,17 @@ module _ (first rest : ℕ → Bool) (b : ℕ) (bs : List ℕ) (f : first b ≡ 
       no-longer (suc k) h i s = let m = leading-most rest (b ∷ bs) (suc k) i (holds (take k bs) s) in omega arith
 
   -- of a length that is allowed it spells something, and beyond it is too long
-  run-means : (limit : ℕ) (lexeme : List ℕ → Lexeme) → ((w : List ℕ) → Run first rest w → length w ≤ limit → Spells w (lexeme w))
+  run-means : (limit : ℕ) (lexeme : List ℕ → Lexeme)
+      → ((w : List ℕ) → Run first rest w → length w ≤ limit → Spells w (lexeme w))
       → ((n : ℕ) → Longest (b ∷ bs) n → Run first rest (take n (b ∷ bs)) → limit < n → BeginsNone (b ∷ bs))
       → Means (b ∷ bs) (atMost limit (leading rest (b ∷ bs)) (lexeme (take (leading rest (b ∷ bs)) (b ∷ bs))))
   run-means limit lexeme s t =
       let n = leading rest (b ∷ bs) in
       at-most-means (b ∷ bs) limit n (lexeme (take n (b ∷ bs)))
-      (λ h. (run-longest, s (take n (b ∷ bs)) run-leading (rw (length-take-le n (b ∷ bs) (leading-within rest (b ∷ bs))) h)))
+      (λ h. (
+        run-longest,
+        s (take n (b ∷ bs)) run-leading (rw (length-take-le n (b ∷ bs) (leading-within rest (b ∷ bs))) h),
+      ))
       (λ h. t n run-longest run-leading h)
 
 word-spells : (w : List ℕ) → Word w → length w ≤ 16 → Spells w (wordOf keywords w)
@@ -325,7 +350,10 @@ unfolding scan
 mark-means b bs l d =
     rw (l, scan, d, scan)
     (mark-cases marks (b ∷ bs) (Means (b ∷ bs)) marks-falling
-    (λ n m i top. (record { within = i .0; shape = TokenShape.a-mark (i .1); longest = no-longer n top }, Spells.marked (i .1)))
+    (λ n m i top. (
+      record { within = i .0; shape = TokenShape.a-mark (i .1); longest = no-longer n top },
+      Spells.marked (i .1),
+    ))
     (λ none. no-token (λ k w s. let f = front k w s in none k (f .0) (f .1))))
   where
     -- a shape at the front is a mark
@@ -349,7 +377,8 @@ scan-means (b ∷ bs) = split (letter b) (word-means b bs) (λ l. split (digit b
 -- A meaning has one answer only
 
 longest-most : (bs : List ℕ) (m n : ℕ) → Longest bs m → Longest bs n → n ≤ m
-longest-most bs m n p q = split (leb n m) (leb-true n m) (λ h. absurd (p .longest n (leb-false n m h) (q .within) (q .shape)))
+longest-most bs m n p q =
+    split (leb n m) (leb-true n m) (λ h. absurd (p .longest n (leb-false n m h) (q .within) (q .shape)))
 
 longest-unique : (bs : List ℕ) (m n : ℕ) → Longest bs m → Longest bs n → m ≡ n
 longest-unique bs m n p q = omega (arith, longest-most bs m n p q, longest-most bs n m q p)
@@ -387,9 +416,11 @@ name-found w h = word-cases keywords w (λ l. l ≡ name w) (λ k i. absurd (h k
 
 spells-scan : (w : List ℕ) {l : Lexeme} → Spells w l → scan w ≡ found l (length w)
 spells-scan w (Spells.reserved {k = k} h n i) =
-    scan-word w h ∙ at-most-found 16 (length w) (wordOf keywords w) n ∙ ap (λ (x : Lexeme). found x (length w)) (keyword-found w k i)
+    scan-word w h ∙ at-most-found 16 (length w) (wordOf keywords w) n ∙ ap (λ (x : Lexeme). found x (length w))
+    (keyword-found w k i)
 spells-scan w (Spells.named h n i) =
-    scan-word w h ∙ at-most-found 16 (length w) (wordOf keywords w) n ∙ ap (λ (x : Lexeme). found x (length w)) (name-found w i)
+    scan-word w h ∙ at-most-found 16 (length w) (wordOf keywords w) n ∙ ap (λ (x : Lexeme). found x (length w))
+    (name-found w i)
 spells-scan w (Spells.valued h n) = scan-digits w h ∙ at-most-found 3 (length w) (number (decimal 0 w)) n
 spells-scan w (Spells.marked {m = m} i) = scan-mark w m i
 
@@ -410,11 +441,13 @@ begins-none-alone bs n (no-token f) p s = f n (p .within) (p .shape)
 begins-none-alone bs n (long-word {n = m} q h i) p s =
     let e = longest-unique bs m n q p in
     let k : 16 < length (take n bs) = rw (length-take-le n bs (p .within)) (omega arith) in
-    spells-no-other (take n bs) s (scan-word (take n bs) (rw e at h) ∙ at-most-nothing 16 (length (take n bs)) (wordOf keywords (take n bs)) k)
+    spells-no-other (take n bs) s (scan-word (take n bs) (rw e at h) ∙ at-most-nothing 16 (length (take n bs))
+    (wordOf keywords (take n bs)) k)
 begins-none-alone bs n (long-number {n = m} q h i) p s =
     let e = longest-unique bs m n q p in
     let k : 3 < length (take n bs) = rw (length-take-le n bs (p .within)) (omega arith) in
-    spells-no-other (take n bs) s (scan-digits (take n bs) (rw e at h) ∙ at-most-nothing 3 (length (take n bs)) (number (decimal 0 (take n bs))) k)
+    spells-no-other (take n bs) s (scan-digits (take n bs) (rw e at h) ∙ at-most-nothing 3 (length (take n bs))
+    (number (decimal 0 (take n bs))) k)
 
 -- Theorem 1: what scanning finds is the longest token that stands there, and it finds nothing where none begins
 
@@ -468,13 +501,15 @@ cover-tokens : {at : ℕ} {bs : List ℕ} {ts : List Token} → Cover at bs ts �
 unfolding tokensFrom prepend
 cover-tokens Cover.done = refl
 cover-tokens (Cover.skip {at = at} {b = b} {bs = bs} h c) = step-blank at b bs h ∙ cover-tokens c
-cover-tokens (Cover.token {at = at} {n = n} {l = l} {bs = bs} p s c) = step-token at n bs l p s ∙ ap (prepend at l) (cover-tokens c)
+cover-tokens (Cover.token {at = at} {n = n} {l = l} {bs = bs} p s c) =
+    step-token at n bs l p s ∙ ap (prepend at l) (cover-tokens c)
 
 stops-none : {k at : ℕ} {bs : List ℕ} → Stops k at bs → tokensFrom at 0 bs ≡ none-at k
 unfolding prepend
 stops-none (Stops.here {b = b} {bs = bs} h p) = step-none _ b bs h p
 stops-none (Stops.skip {at = at} {b = b} {bs = bs} h c) = step-blank at b bs h ∙ stops-none c
-stops-none (Stops.token {at = at} {n = n} {l = l} {bs = bs} p s c) = step-token at n bs l p s ∙ ap (prepend at l) (stops-none c)
+stops-none (Stops.token {at = at} {n = n} {l = l} {bs = bs} p s c) =
+    step-token at n bs l p s ∙ ap (prepend at l) (stops-none c)
 
 -- The answer has its meaning: shown of all that a list ends in, as the bytes behind a token are
 abbrev Answers : ℕ → List ℕ → Tokens → Type 0
@@ -505,7 +540,8 @@ answered (b ∷ bs) zero at = split (blank b)
     scanned q behind nothing m = rw (step-none at b bs q m) (Stops.here q m)
     scanned q behind (found l zero) m = absurd (no-shape (m .0 .shape))
     scanned q behind (found l (suc n)) m = rw (step-token at (suc n) (b ∷ bs) l (m .0) (m .1))
-        (answers-token at (suc n) (b ∷ bs) l (tokensFrom (at + suc n) 0 (drop n bs)) (m .0) (m .1) (behind n (at + suc n)))
+        (answers-token at (suc n) (b ∷ bs) l (tokensFrom (at + suc n) 0 (drop n bs)) (m .0) (m .1)
+        (behind n (at + suc n)))
 
 -- Theorem 2: tokens and blanks make up the whole file, or make it up as far as the first place that begins no token
 
@@ -526,7 +562,8 @@ longest-some bs (suc n) p = omega arith
 stops-place : {k at : ℕ} {bs : List ℕ} → Stops k at bs
     → (j : ℕ) × (k ≡ at + j) × (j < length bs) × (blank (getD bs j 0) ≡ false) × BeginsNone (drop j bs)
 stops-place (Stops.here h p) = (0, omega arith, omega arith, h, p)
-stops-place (Stops.skip h c) = let r = stops-place c in let e = r .1 in let l = r .2 in (suc (r .0), omega arith, omega arith, r .3, r .4)
+stops-place (Stops.skip h c) = let r = stops-place c in let e = r .1 in let l = r .2 in
+    (suc (r .0), omega arith, omega arith, r .3, r .4)
 stops-place (Stops.token {n = n} {bs = bs} p s c) =
     let r = stops-place c in
     let e = r .1 in
@@ -548,7 +585,8 @@ token-place Cover.done m = absurd (List·Memᴰ·not-nil m)
 token-place (Cover.skip h c) m = let r = token-place c m in let e = r .2 in (suc (r .0), r .1, omega arith, r .3, r .4)
 token-place {t = t} (Cover.token {at = at} {n = n} {l = l} {bs = bs} p s c) m = ⊎-elim
     (λ (e : t ≡ record { at = at; lexeme = l }). (0, n, ap (λ (x : Token). x .at) e ∙ omega arith, p, rw e s))
-    (λ i. let r = token-place c i in let e = r .2 in (n + r .0, r .1, omega arith, rw drop-drop at (r .3), rw drop-drop at (r .4)))
+    (λ i. let r = token-place c i in let e = r .2 in
+    (n + r .0, r .1, omega arith, rw drop-drop at (r .3), rw drop-drop at (r .4)))
     (List·Memᴰ·cases-cons m)
 
 -- each token is in the file, and its bytes stand at its place

@@ -1,4 +1,5 @@
-// Constants of the definitions in specs/, for all crates. The kinds of tokens by number, as `Kind` has them (crates/syntax/specs/Held/Kind.antt).
+// Constants of the definitions in specs/, for all crates. The kinds of tokens by number, as `Kind` has them
+// (crates/syntax/specs/Held/Kind.antt).
 pub const NAME: u8 = 0;
 
 pub const NUMBER: u8 = 1;
@@ -71,8 +72,8 @@ pub const KEYWORDS: u8 = 10;
 // What stands for a kind where a file has no token.
 pub const NO_KIND: u8 = 255;
 
-// The limits on a file, as `Limits` has them (crates/syntax/specs/Limits.antt): bytes (1), bytes of a word and digits of a number (2),
-// tokens, and brackets and braces open at once (3), variables and methods (5).
+// The limits on a file, as `Limits` has them (crates/syntax/specs/Limits.antt): bytes (1), bytes of a word and digits
+// of a number (2), tokens, and brackets and braces open at once (3), variables and methods (5).
 pub const FILE_BYTES: usize = 8192;
 
 pub const WORD_BYTES: usize = 16;

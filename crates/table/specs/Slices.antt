@@ -22,7 +22,9 @@ runsAt kept holds guard s = eqb (getD kept s 0) 1 && member (getD holds s 0) gua
 -- passes
 unfoldable pub someAt : (kept holds after : List ℕ) (n guard r : ℕ) → (ℕ → ℕ → Bool) → Bool
 someAt kept holds after n guard r test =
-    any n (λ s. runsAt kept holds guard s && test (getD holds s 0) (getD holds (getD after (r * mostStates + s) 0 % mostStates) 0))
+    any n
+    (λ s. runsAt kept holds guard s && test (getD holds s 0)
+    (getD holds (getD after (r * mostStates + s) 0 % mostStates) 0))
 
 -- guard g becomes true; it holds neither before nor after; it holds after
 unfoldable pub rises : ℕ → ℕ → ℕ → Bool
@@ -37,7 +39,8 @@ holdsThen g x y = member y g
 -- what a sweep of the first n states says
 pub record Swept (kept holds after : List ℕ) (n guard r : ℕ) (w : Sweep) : Type 0 where
   pub by-raised : (g : ℕ) → member (w .raised) g ≡ someAt kept holds after n guard r (rises g)
-  pub by-covered : (g : ℕ) → g < mostRegions → member (w .covered) g ≡ not (someAt kept holds after n guard r (neither g))
+  pub by-covered : (g : ℕ) → g < mostRegions → member (w .covered) g
+      ≡ not (someAt kept holds after n guard r (neither g))
   pub by-left : (g : ℕ) → member (w .left) g ≡ someAt kept holds after n guard r (holdsThen g)
 
 -- an entry by whether it stands, is unconditional and is a broadcast
@@ -53,7 +56,8 @@ module _ (kept holds after guardOf : List ℕ) (states : ℕ) where
   -- one of the first n regions has guard g and leaves it true
   unfoldable pub wideAt : (n g : ℕ) → Bool
   wideAt n g =
-      any n (λ w. eqb g (getD guardOf w 0 % mostRegions) && someAt kept holds after states (getD guardOf w 0 % mostRegions) w (holdsThen g))
+      any n (λ w. eqb g (getD guardOf w 0 % mostRegions) && someAt kept holds after states
+      (getD guardOf w 0 % mostRegions) w (holdsThen g))
 
   -- the entry of a region and a guard, of so many regions, as a number
   unfoldable pub codeAt : (regions r g : ℕ) → ℕ

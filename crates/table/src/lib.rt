@@ -48,7 +48,8 @@ fn visit(
     s: usize,
     w: Sweep,
 ) -> Sweep
-    requires { ⌜ (guard < mostRegions) × (r < mostRegions) × (s < mostStates) × Swept (now kept) (now holds) (now after) s guard r w ⌝ }
+    requires { ⌜ (guard < mostRegions) × (r < mostRegions) × (s < mostStates) × Swept (now kept) (now holds) (now after) s
+        guard r w ⌝ }
     ensures { λ n. ⌜ Swept (now (kept .entry)) (now (holds .entry)) (now (after .entry)) (s + 1) guard r n ⌝ }
 {
     if kept[s] != 1 {
@@ -137,9 +138,11 @@ fn fill_regions(
     guards: usize,
     entries: &mut [u8],
 )
-    requires { ⌜ (states ≤ mostStates) × (regions ≤ mostRegions) × (guards ≤ mostRegions) × (length (now entries) ≡ mostEntries) ⌝ }
+    requires { ⌜ (states ≤ mostStates) × (regions ≤ mostRegions) × (guards ≤ mostRegions)
+        × (length (now entries) ≡ mostEntries) ⌝ }
     ensures { λ _. ⌜ ((r : ℕ) → r < regions → (g : ℕ) → g < guards → getD (now (entries .exit)) (r * mostRegions + g) 0
-        ≡ codeAt (now (kept .entry)) (now (holds .entry)) (now (after .entry)) (now («guard_of» .entry)) states regions r g) ⌝ }
+        ≡ codeAt (now (kept .entry)) (now (holds .entry)) (now (after .entry)) (now («guard_of» .entry)) states regions
+        r g) ⌝ }
 {
     let mut sweeps = [Sweep {
         raised: 0,
@@ -272,7 +275,8 @@ fn write_region(
     table: &mut [u8],
     at: usize,
 ) -> usize
-    requires { ⌜ (at + length (linesAt (now entries) guards r) ≤ length (now table)) × (guards ≤ mostRegions) × (r < mostRegions) ⌝ }
+    requires { ⌜ (at + length (linesAt (now entries) guards r) ≤ length (now table)) × (guards ≤ mostRegions)
+        × (r < mostRegions) ⌝ }
     ensures { λ e. ⌜ Writes (linesAt (now (entries .entry)) guards r) (now (table .entry)) at e (now (table .exit)) ⌝ }
 {
     let mut next = at;
@@ -291,7 +295,8 @@ pub fn write_table(
     guards: usize,
     table: &mut [u8],
 ) -> Placed
-    ensures { λ r. ⌜ ((m : Monitor) → m .regions ≡ regions → m .guards ≡ guards → regions ≤ mostRegions → guards ≤ mostRegions
+    ensures { λ r. ⌜ ((m : Monitor) → m .regions ≡ regions → m .guards ≡ guards → regions ≤ mostRegions
+        → guards ≤ mostRegions
         → HeldEntries m (now (entries .entry)) → WritesTable (tableOf m) (now (table .entry)) r (now (table .exit))) ⌝ }
 {
     if regions > machine::REGIONS {

@@ -40,7 +40,8 @@ inside xs k h =
 
 module _ {A : Type 0} where
   -- an index has an element, and what is left from there begins with it
-  pub at-index : (xs : List A) (k : ℕ) → k < length xs → (x : A) × (getElem? xs k ≡ some x) × (drop k xs ≡ x ∷ drop (suc k) xs)
+  pub at-index : (xs : List A) (k : ℕ) → k < length xs → (x : A) × (getElem? xs k ≡ some x)
+      × (drop k xs ≡ x ∷ drop (suc k) xs)
   at-index [] k h = absurd (omega arith)
   at-index (x ∷ xs) zero h = (x, refl, refl)
   at-index (x ∷ xs) (suc k) h = at-index xs k (omega arith)
@@ -79,7 +80,8 @@ module _ {A : Type 0} where
   elem-snoc (z ∷ xs) y (suc k) x e =
       ⊎-elim (λ h. inl h) (λ t. inr (ap suc (t .0), t .1)) (elem-snoc xs y k x e)
 
-pub elem-map : {A : Type 0} (f : A → ℕ) (xs : List A) (k : ℕ) (x : A) (d : ℕ) → getElem? xs k ≡ some x → getD (map f xs) k d ≡ f x
+pub elem-map : {A : Type 0} (f : A → ℕ) (xs : List A) (k : ℕ) (x : A) (d : ℕ) → getElem? xs k ≡ some x
+    → getD (map f xs) k d ≡ f x
 elem-map f [] k x d e = no-some e
 elem-map f (y ∷ xs) zero x d e = ap f (Option·some-injective y x e)
 elem-map f (y ∷ xs) (suc k) x d e = elem-map f xs k x d e

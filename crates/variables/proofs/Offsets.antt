@@ -4,7 +4,8 @@ use native.Mathlib.Omega.{arith}
 use mathlib.Core.Path.{_≡_, sym, ap, _∙_}
 use mathlib.Core.Bool.{true, false}
 use lib.Dec.{ltb}
-use lib.IntN.{ℤ, pos, negℤ, natAbs, _+ℤ_, _-ℤ_, +ℤ-assoc, +ℤ-comm, +ℤ-invr, +ℤ-idl, +ℤ-negℤ-cancel, -ℤ-+ℤ-cancel, negℤ-+ℤ, pos-+ℤ-pos}
+use lib.IntN.{ℤ, pos, negℤ, natAbs, _+ℤ_, _-ℤ_, +ℤ-assoc, +ℤ-comm, +ℤ-invr, +ℤ-idl, +ℤ-negℤ-cancel, -ℤ-+ℤ-cancel}
+use lib.IntN.{negℤ-+ℤ, pos-+ℤ-pos}
 use borrow.Author.Tests.{ltb-true, ltb-false}
 use Rattle.meaning.specs.Value.{less}
 use Rattle.logic.proofs.Bools.{split, clash}
@@ -54,8 +55,10 @@ neg-shifted b n h =
     let same : k + n ≡ b = omega arith in
     record {
       is =
-          sym (ap (λ z. pos k -ℤ z) (sym (pos-+ℤ-pos k n ∙ ap pos same)) ∙ ap (λ z. pos k +ℤ z) (negℤ-+ℤ (pos k) (pos n))
-          ∙ sym (+ℤ-assoc (pos k) (negℤ (pos k)) (negℤ (pos n))) ∙ ap (λ z. z -ℤ pos n) (+ℤ-invr (pos k)) ∙ +ℤ-idl (negℤ (pos n)));
+          sym (ap (λ z. pos k -ℤ z) (sym (pos-+ℤ-pos k n ∙ ap pos same))
+          ∙ ap (λ z. pos k +ℤ z) (negℤ-+ℤ (pos k) (pos n))
+          ∙ sym (+ℤ-assoc (pos k) (negℤ (pos k)) (negℤ (pos n))) ∙ ap (λ z. z -ℤ pos n) (+ℤ-invr (pos k))
+          ∙ +ℤ-idl (negℤ (pos n)));
     }
 
 -- less can be added

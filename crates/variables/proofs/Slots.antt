@@ -42,8 +42,10 @@ module _ (f : Var → ℤ) (e : ℕ) where
         let six = s .six in
         record {
           six = length-set xs (length vs) n ∙ six;
-          held = set-each (λ k x. (u : Var) → getElem? (vs ++ (v ∷ [])) k ≡ some u → Shifted 128 (f u) x) xs (length vs) n (omega arith)
-              (λ u q. ⊎-elim (λ t. absurd (omega (arith, elem-inside vs (length vs) u t))) (λ t. rw (t .1) here) (elem-snoc vs v (length vs) u q))
+          held = set-each (λ k x. (u : Var) → getElem? (vs ++ (v ∷ [])) k ≡ some u → Shifted 128 (f u) x) xs (length vs)
+              n (omega arith)
+              (λ u q. ⊎-elim (λ t. absurd (omega (arith, elem-inside vs (length vs) u t))) (λ t. rw (t .1) here)
+              (elem-snoc vs v (length vs) u q))
               (λ k d u q. ⊎-elim (λ t. s .held k u t) (λ t. absurd (d (t .0))) (elem-snoc vs v k u q));
           small = set-each (λ k x. x ≤ 255) xs (length vs) n (omega arith) (omega arith) (λ k _. s .small k);
           unused = set-each (λ k x. k < 6 → length (vs ++ (v ∷ [])) ≤ k → x ≡ e) xs (length vs) n (omega arith)
@@ -51,7 +53,8 @@ module _ (f : Var → ℤ) (e : ℕ) where
         }
 
 -- the size of a range
-pub size-is : (v : Var) {b l h : ℕ} → Shifted b (intOf (v .low)) l → Shifted b (intOf (v .high)) h → l ≤ h → size v ≡ h - l + 1
+pub size-is : (v : Var) {b l h : ℕ} → Shifted b (intOf (v .low)) l → Shifted b (intOf (v .high)) h → l ≤ h
+    → size v ≡ h - l + 1
 unfolding size
 size-is v el eh o = ap (λ (n : ℕ). n + 1) (shifted-distance el eh o)
 
@@ -98,9 +101,14 @@ loaded-one vs v b r t l room h g w =
     record {
       counted = w .counted i ∙ simp length-append (omega arith);
       states = w .states i ∙ rw (count-snoc, size-is v (h .low) (h .high) (g .ordered), l .states);
-      lows = rw (w .lows i, c) (slots-one _ _ vs (b .lows) (l .lows) room v (t .low) (h .low) (omega arith) (omega arith));
-      highs = rw (w .highs i, c) (slots-one _ _ vs (b .highs) (l .highs) room v (t .high) (h .high) (omega arith) (omega arith));
-      starts = rw (w .starts i, c) (slots-one _ _ vs (b .starts) (l .starts) room v (t .start) (h .start) (omega arith) (omega arith));
+      lows =
+          rw (w .lows i, c) (slots-one _ _ vs (b .lows) (l .lows) room v (t .low) (h .low) (omega arith) (omega arith));
+      highs =
+          rw (w .highs i, c) (slots-one _ _ vs (b .highs) (l .highs) room v (t .high) (h .high) (omega arith)
+          (omega arith));
+      starts =
+          rw (w .starts i, c) (slots-one _ _ vs (b .starts) (l .starts) room v (t .start) (h .start) (omega arith)
+          (omega arith));
     }
 
 -- Good ranges, by index

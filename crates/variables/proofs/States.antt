@@ -1,5 +1,5 @@
--- Weights, values and numbers of states, a variable at a time: what is done so far, with the definition on what is left, is the
--- definition on the whole.
+-- Weights, values and numbers of states, a variable at a time: what is done so far, with the definition on what is
+-- left, is the definition on the whole.
 use Prim.Native.Nat.{ℕ, zero, suc, _+_, _-_, _*_, _/_, _%_, _<_, _≤_}
 use native.Mathlib.Omega.{arith}
 use native.Mathlib.Nat.{mul-comm, mod-lt, mod-eq-of-lt, div-lt-iff-lt-mul}
@@ -31,11 +31,13 @@ use Rattle.variables.proofs.Slots.{size-is, good-at, count-drop}
 abbrev Held : (Var → ℤ) → List Var → List ℕ → Type 0
 Held f vs xs = (k : ℕ) (v : Var) → getElem? vs k ≡ some v → Shifted 128 (f v) (getD xs k 0)
 
-count-at : (vs : List Var) (k : ℕ) (v : Var) → drop k vs ≡ v ∷ drop (suc k) vs → count (drop k vs) ≡ size v * count (drop (suc k) vs)
+count-at : (vs : List Var) (k : ℕ) (v : Var) → drop k vs ≡ v ∷ drop (suc k) vs → count (drop k vs)
+    ≡ size v * count (drop (suc k) vs)
 unfolding count
 count-at vs k v e = ap count e
 
-module _ (vs : List Var) (lows highs : List ℕ) (lo : Held (λ v. intOf (v .low)) vs lows) (hi : Held (λ v. intOf (v .high)) vs highs)
+module _ (vs : List Var) (lows highs : List ℕ) (lo : Held (λ v. intOf (v .low)) vs lows)
+    (hi : Held (λ v. intOf (v .high)) vs highs)
     (g : GoodRanges vs) (k : ℕ) (v : Var) (e : getElem? vs k ≡ some v) where
   ordered-at : getD lows k 0 ≤ getD highs k 0
   unfolding AtMost
@@ -56,7 +58,8 @@ unfolding count
 weighing-start vs n ws e =
     record { whole = rw (drop-of-length-le vs {i = n} (omega arith)); done = λ j h l. absurd (omega arith) }
 
-module _ (vs : List Var) (lows highs : List ℕ) (lo : Slots (λ v. intOf (v .low)) 1 vs lows) (hi : Slots (λ v. intOf (v .high)) 0 vs highs)
+module _ (vs : List Var) (lows highs : List ℕ) (lo : Slots (λ v. intOf (v .low)) 1 vs lows)
+    (hi : Slots (λ v. intOf (v .high)) 0 vs highs)
     (g : GoodRanges vs) (few : count vs ≤ 4096) where
   pub weighing-more : (n k₁ weight s : ℕ) (ws : List ℕ) → length vs ≡ n → 0 < k₁ → k₁ ≤ n → n ≤ length ws
       → SizeOf (getD lows (k₁ - 1) 0) (getD highs (k₁ - 1) 0) s → Weighing vs n k₁ weight ws
@@ -134,10 +137,12 @@ module _ (vs : List Var) (b : Bounds) (bounded : Bounded vs b) where
         within = omega arith;
         left = rw (next, add-one k) (rw add-one at (drop-next _ k _ _ left));
         below = rw (next, add-one k) (mod-lt rest pos-m);
-        held = set-each (λ j x. j < k + 1 → Shifted 128 (getD (stateAt vs state) j (pos 0)) x) xs k (d .value) (omega arith) (λ _. here)
+        held = set-each (λ j x. j < k + 1 → Shifted 128 (getD (stateAt vs state) j (pos 0)) x) xs k (d .value)
+            (omega arith) (λ _. here)
             (λ j q l. f .held j (omega arith));
         small = set-each (λ j x. x ≤ 255) xs k (d .value) (omega arith) (omega arith) (λ j _. f .small j);
-        unused = set-each (λ j x. j < 6 → k + 1 ≤ j → x ≡ 128) xs k (d .value) (omega arith) (λ _ l. absurd (omega arith))
+        unused = set-each (λ j x. j < 6 → k + 1 ≤ j → x ≡ 128) xs k (d .value) (omega arith)
+            (λ _ l. absurd (omega arith))
             (λ j q l l′. f .unused j l (omega arith));
       }
 
@@ -146,7 +151,8 @@ unfolding stateAt
 length-state [] n = refl
 length-state (v ∷ vs) n = ap suc (length-state vs (n % count vs))
 
-pub filled-all : (vs : List Var) (b : Bounds) (state : ℕ) (xs : List ℕ) (rest k : ℕ) → Bounded vs b → length xs ≡ 6 → length vs ≤ k
+pub filled-all : (vs : List Var) (b : Bounds) (state : ℕ) (xs : List ℕ) (rest k : ℕ) → Bounded vs b → length xs ≡ 6
+    → length vs ≤ k
     → Filled vs state xs rest k → Biased vs (stateAt vs state) xs
 unfolding Offset
 filled-all vs b state xs rest k bounded six e f =
@@ -161,14 +167,16 @@ filled-all vs b state xs rest k bounded six e f =
 
 -- Numbers
 
-state-at : {vs : List Var} {as′ : List ℤ} → State vs as′ → (k : ℕ) (v : Var) (a : ℤ) → getElem? vs k ≡ some v → getElem? as′ k ≡ some a
+state-at : {vs : List Var} {as′ : List ℤ} → State vs as′ → (k : ℕ) (v : Var) (a : ℤ) → getElem? vs k ≡ some v
+    → getElem? as′ k ≡ some a
     → inRange v a ≡ true
 state-at no-values k v a e q = no-some e
 state-at (one-value {v = u} {a = c} r s) zero v a e q =
     rw (← Option·some-injective u v e, ← Option·some-injective c a q) r
 state-at (one-value r s) (suc k) v a e q = state-at s k v a e q
 
-pub number-more : (vs : List Var) (as′ : List ℤ) (b : Bounds) (xs : List ℕ) → Bounded vs b → Biased vs as′ xs → State vs as′
+pub number-more : (vs : List Var) (as′ : List ℤ) (b : Bounds) (xs : List ℕ) → Bounded vs b → Biased vs as′ xs
+    → State vs as′
     → (k s number : ℕ) → k < length vs → ShareOf (getD xs k 0) (getD (b .lows) k 0) (getD (b .weights) k 0) s
     → number + numberOf (drop k vs) (drop k as′) ≡ numberOf vs as′
     → number + s + numberOf (drop (k + 1) vs) (drop (k + 1) as′) ≡ numberOf vs as′
@@ -179,7 +187,8 @@ number-more vs as′ b xs bounded biased state k s number h share e =
     let j = at-index as′ k (omega (arith, biased .each-value)) in
     let a = j .0 in
     let held-low = lo vs b bounded k v (i .1) in
-    let held : Shifted 128 a (getD xs k 0) = record { is = sym (getD-elem as′ k a (pos 0) (j .1)) ∙ biased .held k h } in
+    let held : Shifted 128 a (getD xs k 0) = record { is = sym (getD-elem as′ k a (pos 0) (j .1)) ∙ biased .held k h }
+    in
     let t = in-range-iff v (good-at (bounded .good) k v (i .1) .ordered) a .0 (state-at state k v a (i .1) (j .1)) in
     let ordered = le-shifted held-low held (not-less-iff (intOf (v .low)) a .1 (t .0, t .2)) in
     let here : numberOf (drop k vs) (drop k as′) ≡ s + numberOf (drop (suc k) vs) (drop (suc k) as′) =

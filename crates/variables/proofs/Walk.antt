@@ -42,7 +42,8 @@ unfolding starts
 length-starts [] = refl
 length-starts (v ∷ vs) = ap suc (length-starts vs)
 
-starts-held : (vs : List Var) (xs : List ℕ) → length vs ≤ 6 → Slots (λ v. intOf (v .start)) 128 vs xs → Biased vs (starts vs) xs
+starts-held : (vs : List Var) (xs : List ℕ) → length vs ≤ 6 → Slots (λ v. intOf (v .start)) 128 vs xs
+    → Biased vs (starts vs) xs
 unfolding Offset
 starts-held vs xs few s =
     record {
@@ -54,7 +55,8 @@ starts-held vs xs few s =
       unused = s .unused;
     }
 
-ranges-held : (vs : List Var) (lows highs : List ℕ) → Slots (λ v. intOf (v .low)) 1 vs lows → Slots (λ v. intOf (v .high)) 0 vs highs
+ranges-held : (vs : List Var) (lows highs : List ℕ) → Slots (λ v. intOf (v .low)) 1 vs lows
+    → Slots (λ v. intOf (v .high)) 0 vs highs
     → Ranges vs lows highs
 unfolding Offset
 ranges-held vs lows highs lo hi =
@@ -67,7 +69,8 @@ ranges-held vs lows highs lo hi =
       unused-range = λ k h l. omega (arith, lo .unused k h l, hi .unused k h l);
     }
 
-bounded-all : (vs : List Var) (b r : Bounds) → GoodRanges vs → count vs ≤ 4096 → length vs ≤ 6 → Loaded vs b → Weighed b r → Bounded vs r
+bounded-all : (vs : List Var) (b r : Bounds) → GoodRanges vs → count vs ≤ 4096 → length vs ≤ 6 → Loaded vs b
+    → Weighed b r → Bounded vs r
 bounded-all vs b r good few-states few l w =
     record {
       few-vars = few;
@@ -77,13 +80,15 @@ bounded-all vs b r good few-states few l w =
       states = w .states ∙ l .states;
       ranges = rw (w .lows, w .highs) (ranges-held vs (b .lows) (b .highs) (l .lows) (l .highs));
       start-values = rw (w .starts) (starts-held vs (b .starts) few (l .starts));
-      weigh = λ k h. w .weights .weigh vs (l .lows) (l .highs) good few-states (sym (l .counted)) k (omega (arith, l .counted));
+      weigh = λ k h. w .weights .weigh vs (l .lows) (l .highs) good few-states (sym (l .counted)) k
+          (omega (arith, l .counted));
     }
 
 -- Which tokens begin a variable
 
 -- the variables of some tokens go on exactly where `var` stands
-module _ {ls : List Lexeme} {kinds values : List ℕ} (held : Numbers ls kinds values) (us : List Lexeme) (ends : EndsVars us) (i : ℕ) where
+module _ {ls : List Lexeme} {kinds values : List ℕ} (held : Numbers ls kinds values) (us : List Lexeme)
+    (ends : EndsVars us) (i : ℕ) where
   goes-on : (todo : List Var) → drop i ls ≡ each spellVar todo ++ us → getD kinds i 0 ≡ kindOf (key k-var)
       → (v : Var) × (rest : List Var) × (todo ≡ v ∷ rest)
   unfolding EndsVars each
@@ -92,7 +97,8 @@ module _ {ls : List Lexeme} {kinds values : List ℕ} (held : Numbers ls kinds v
       absurd (ends .3 (is-key k-var l (sym (kind-is held i l (ends .1) (e ∙ ends .2)) ∙ k)))
   goes-on (v ∷ rest) e k = (v, rest, refl)
 
-  stops : (todo : List Var) → drop i ls ≡ each spellVar todo ++ us → (getD kinds i 0 ≡ kindOf (key k-var) → ⊥) → todo ≡ []
+  stops : (todo : List Var) → drop i ls ≡ each spellVar todo ++ us → (getD kinds i 0 ≡ kindOf (key k-var) → ⊥)
+      → todo ≡ []
   unfolding each spellVar
   stops [] e k = refl
   stops (v ∷ rest) e k = absurd (k (kind-is held i (key k-var) _ e))
@@ -117,7 +123,8 @@ pub record Walked (vs : List Var) (ls us : List Lexeme) (at : ℕ) (b : Bounds) 
   loaded : Loaded done b
 
 abbrev pub Walk : List ℕ → List ℕ → ℕ → Bounds → ℕ → Type 0
-Walk kinds values at b i = (vs : List Var) (ls us : List Lexeme) → Spelling kinds values at vs ls us → Walked vs ls us at b i
+Walk kinds values at b i = (vs : List Var) (ls us : List Lexeme) → Spelling kinds values at vs ls us
+    → Walked vs ls us at b i
 
 pub walk-start : (kinds values : List ℕ) (at : ℕ) (b : Bounds) → Loaded [] b → Walk kinds values at b at
 unfolding each count
@@ -133,7 +140,8 @@ walk-start kinds values at b l vs ls us s =
       loaded = l;
     }
 
-each-snoc : (vs : List Var) (v : Var) → length (each spellVar (vs ++ (v ∷ []))) ≡ length (each spellVar vs) + length (spellVar v)
+each-snoc : (vs : List Var) (v : Var) → length (each spellVar (vs ++ (v ∷ [])))
+    ≡ length (each spellVar vs) + length (spellVar v)
 unfolding each
 each-snoc [] v = simp append-nil (omega arith)
 each-snoc (u ∷ vs) v = simp length-append (omega (arith, each-snoc vs v))
@@ -153,7 +161,8 @@ module _ (kinds values : List ℕ) (at : ℕ) (b : Bounds) (i : ℕ) (walk : Wal
           rest,
           w .parts ∙ ap (λ todo. w .done ++ todo) (g .2),
           read .spelled ls (each spellVar rest ++ us) v (s .held)
-              (w .left ∙ ap (λ todo. each spellVar todo ++ us) (g .2) ∙ append-assoc (spellVar v) (each spellVar rest) us),
+              (w .left ∙ ap (λ todo. each spellVar todo ++ us) (g .2) ∙ append-assoc (spellVar v) (each spellVar rest)
+              us),
         )
 
     pub walk-more : (r : Bounds) → Good (b .states) t → WithVar b t r → Walk kinds values at r (t .next)
@@ -180,7 +189,8 @@ module _ (kinds values : List ℕ) (at : ℕ) (b : Bounds) (i : ℕ) (walk : Wal
     walk-bad bad vs ls us s =
         let w = walk vs ls us s in
         let (v, rest, parts, spelled) = next vs ls us s w in
-        let passed : take (length (w .done)) vs ≡ w .done = ap (take (length (w .done))) parts ∙ take-append-seam (w .done) (v ∷ rest) in (
+        let passed : take (length (w .done)) vs ≡ w .done = ap (take (length (w .done))) parts
+        ∙ take-append-seam (w .done) (v ∷ rest) in (
           length (w .done),
           record {
             before = w .done;
@@ -199,7 +209,8 @@ module _ (kinds values : List ℕ) (at : ℕ) (b : Bounds) (i : ℕ) (walk : Wal
         )
 
   -- no `var` stands at i
-  pub walk-end : (getD kinds i 0 ≡ kindOf (key k-var) → ⊥) → (r : Bounds) → Weighed b r → (vs : List Var) (ls us : List Lexeme)
+  pub walk-end : (getD kinds i 0 ≡ kindOf (key k-var) → ⊥) → (r : Bounds) → Weighed b r
+      → (vs : List Var) (ls us : List Lexeme)
       → Spelling kinds values at vs ls us → Ranged vs ls us at (record { ok = true; token = i; bounds = r })
   unfolding Ranged RangedBy each
   walk-end none r weighed vs ls us s =

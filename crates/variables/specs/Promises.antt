@@ -93,7 +93,8 @@ pub record SizeOf (low high r : ℕ) : Type 0 where
 
 -- the weights of some variables
 pub record Weights (lows highs : List ℕ) (n : ℕ) (ws : List ℕ) : Type 0 where
-  pub weigh : (vs : List Var) → Slots (λ v. intOf (v .low)) 1 vs lows → Slots (λ v. intOf (v .high)) 0 vs highs → GoodRanges vs
+  pub weigh : (vs : List Var) → Slots (λ v. intOf (v .low)) 1 vs lows → Slots (λ v. intOf (v .high)) 0 vs highs
+      → GoodRanges vs
       → count vs ≤ mostStates → length vs ≡ n → (k : ℕ) → k < n → getD ws k 0 ≡ count (drop (suc k) vs)
 
 -- the same bounds, with their weights

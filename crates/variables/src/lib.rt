@@ -299,7 +299,8 @@ fn share_of(value: u16, low: u16, weight: u16) -> usize
 
 // The number of the state with some values.
 pub fn number_of(bounds: Bounds, values: [u16; syntax::VARIABLES]) -> usize
-    ensures { λ r. ⌜ ((vs : List Var) (as′ : List ℤ) → Bounded vs bounds → Biased vs as′ values → State vs as′ → r ≡ numberOf vs as′) ⌝ }
+    ensures { λ r. ⌜ ((vs : List Var) (as′ : List ℤ) → Bounded vs bounds → Biased vs as′ values → State vs as′
+        → r ≡ numberOf vs as′) ⌝ }
 {
     let mut number: usize = 0;
     let mut k = 0;

@@ -1,5 +1,6 @@
--- The proof of the cycle of calls {eval_cond, eval_conj, eval_simple}. The measure is three times the count of tokens left, with a rank for calls at the same place.
--- Each return is a law on conditions, by the kind at the place or behind the first part.
+-- The proof of the cycle of calls {eval_cond, eval_conj, eval_simple}. The measure is three times the count of tokens
+-- left, with a rank for calls at the same place. Each return is a law on conditions, by the kind at the place or behind
+-- the first part.
 use borrow.Author.Needs.{needs}
 use Prim.Native.Nat.{ℕ, _+_, _-_, _*_, _<_}
 use native.Mathlib.Omega.{arith}
@@ -9,7 +10,8 @@ use lib.ListN.{length}
 use Rattle.syntax.specs.Token.{mark, lparen, bang, and-and, or-or, markNumber, keywordNumber}
 use Rattle.syntax.specs.Held.Kind.{kindOf}
 use Rattle.evaluator.proofs.Places.{kind-within}
-use Rattle.evaluator.proofs.Readings.{simple-not, simple-bracketed, simple-constant, constantKind, simple-compare, conj-one, conj-more, cond-one, cond-more}
+use Rattle.evaluator.proofs.Readings.{simple-not, simple-bracketed, simple-constant, constantKind}
+use Rattle.evaluator.proofs.Readings.{simple-compare, conj-one, conj-more, cond-one, cond-more}
 use borrow.Fn.Kinds.{In}
 use borrow.Fn.PlainCycle.{Measures, is, falls, and}
 use Rattle.evaluator.proofs.eval_cond.Reads as eval-cond
@@ -63,23 +65,57 @@ eval-simple-below t =
 
 -- what each asks of its callees and learns from them, those of the cycle below the measure t
 abbrev eval-cond-calls : ℕ → eval-cond-lts.Claims
-eval-cond-calls t =
-    (eval-conj-below t, eval-conj.Post, kind-at-reads.Asked, kind-at-reads.Learnt, after-reads.Asked, after-reads.Learnt, eval-cond-below t, eval-cond.Post, union-reads.Asked, union-reads.Learnt)
+eval-cond-calls t = (
+  eval-conj-below t,
+  eval-conj.Post,
+  kind-at-reads.Asked,
+  kind-at-reads.Learnt,
+  after-reads.Asked,
+  after-reads.Learnt,
+  eval-cond-below t,
+  eval-cond.Post,
+  union-reads.Asked,
+  union-reads.Learnt,
+)
 
 abbrev eval-conj-calls : ℕ → eval-conj-lts.Claims
-eval-conj-calls t =
-    (eval-simple-below t, eval-simple.Post, kind-at-reads.Asked, kind-at-reads.Learnt, after-reads.Asked, after-reads.Learnt, eval-conj-below t, eval-conj.Post, both-reads.Asked, both-reads.Learnt)
+eval-conj-calls t = (
+  eval-simple-below t,
+  eval-simple.Post,
+  kind-at-reads.Asked,
+  kind-at-reads.Learnt,
+  after-reads.Asked,
+  after-reads.Learnt,
+  eval-conj-below t,
+  eval-conj.Post,
+  both-reads.Asked,
+  both-reads.Learnt,
+)
 
 abbrev eval-simple-calls : ℕ → eval-simple-lts.Claims
-eval-simple-calls t =
-    (kind-at-reads.Asked, kind-at-reads.Learnt, after-reads.Asked, after-reads.Learnt, eval-simple-below t, eval-simple.Post, other-reads.Asked, other-reads.Learnt, eval-cond-below t, eval-cond.Post, eval-compare-reads.Asked, eval-compare-reads.Learnt)
+eval-simple-calls t = (
+  kind-at-reads.Asked,
+  kind-at-reads.Learnt,
+  after-reads.Asked,
+  after-reads.Learnt,
+  eval-simple-below t,
+  eval-simple.Post,
+  other-reads.Asked,
+  other-reads.Learnt,
+  eval-cond-below t,
+  eval-cond.Post,
+  eval-compare-reads.Asked,
+  eval-compare-reads.Learnt,
+)
 
-eval-cond-eval-cond-requires : (t : ℕ) → eval-cond-lts.Need-eval-cond-requires (eval-cond-calls t) (eval-cond-at t) eval-cond.Post
+eval-cond-eval-cond-requires : (t : ℕ) → eval-cond-lts.Need-eval-cond-requires (eval-cond-calls t) (eval-cond-at t)
+    eval-cond.Post
 unfolding kindOf markNumber keywordNumber
 eval-cond-eval-cond-requires t c κs =
     let conj = c .before .before .before in
     let start = conj .before .before .before in
-    let step = kind-within (kindOf (mark or-or)) (c .after .ensures) (sym (c .before .before .kind-at .ensures) ∙ c .before .if1 .taken) refl in
+    let step = kind-within (kindOf (mark or-or)) (c .after .ensures) (sym (c .before .before .kind-at .ensures)
+    ∙ c .before .if1 .taken) refl in
     omega (arith, step, conj .eval-conj .ensures, c .after .ensures, start .pre)
 
 eval-cond-returns : (t : ℕ) → eval-cond-lts.Need-returns (eval-cond-calls t) (eval-cond-at t) eval-cond.Post
@@ -92,14 +128,17 @@ eval-cond-returns t c =
 
 eval-cond-returns-2 : (t : ℕ) → eval-cond-lts.Need-returns-2 (eval-cond-calls t) (eval-cond-at t) eval-cond.Post
 unfolding kindOf markNumber keywordNumber
-eval-cond-returns-2 t c = cond-one (c .before .before .eval-conj .ensures) (λ e. c .if1 .left (c .before .kind-at .ensures ∙ e))
+eval-cond-returns-2 t c =
+    cond-one (c .before .before .eval-conj .ensures) (λ e. c .if1 .left (c .before .kind-at .ensures ∙ e))
 
-eval-conj-eval-conj-requires : (t : ℕ) → eval-conj-lts.Need-eval-conj-requires (eval-conj-calls t) (eval-conj-at t) eval-conj.Post
+eval-conj-eval-conj-requires : (t : ℕ) → eval-conj-lts.Need-eval-conj-requires (eval-conj-calls t) (eval-conj-at t)
+    eval-conj.Post
 unfolding kindOf markNumber keywordNumber
 eval-conj-eval-conj-requires t c κs =
     let simple = c .before .before .before in
     let start = simple .before .before .before in
-    let step = kind-within (kindOf (mark and-and)) (c .after .ensures) (sym (c .before .before .kind-at .ensures) ∙ c .before .if1 .taken) refl in
+    let step = kind-within (kindOf (mark and-and)) (c .after .ensures) (sym (c .before .before .kind-at .ensures)
+    ∙ c .before .if1 .taken) refl in
     omega (arith, step, simple .eval-simple .ensures, c .after .ensures, start .pre)
 
 eval-conj-returns : (t : ℕ) → eval-conj-lts.Need-returns (eval-conj-calls t) (eval-conj-at t) eval-conj.Post
@@ -112,13 +151,16 @@ eval-conj-returns t c =
 
 eval-conj-returns-2 : (t : ℕ) → eval-conj-lts.Need-returns-2 (eval-conj-calls t) (eval-conj-at t) eval-conj.Post
 unfolding kindOf markNumber keywordNumber
-eval-conj-returns-2 t c = conj-one (c .before .before .eval-simple .ensures) (λ e. c .if1 .left (c .before .kind-at .ensures ∙ e))
+eval-conj-returns-2 t c =
+    conj-one (c .before .before .eval-simple .ensures) (λ e. c .if1 .left (c .before .kind-at .ensures ∙ e))
 
-eval-simple-eval-simple-requires : (t : ℕ) → eval-simple-lts.Need-eval-simple-requires (eval-simple-calls t) (eval-simple-at t) eval-simple.Post
+eval-simple-eval-simple-requires : (t : ℕ) → eval-simple-lts.Need-eval-simple-requires (eval-simple-calls t)
+    (eval-simple-at t) eval-simple.Post
 unfolding kindOf markNumber keywordNumber
 eval-simple-eval-simple-requires t c κs =
     let start = c .before .before .before .before .before in
-    let step = kind-within (kindOf (mark bang)) (c .before .after .ensures) (sym (c .before .before .kind-at .ensures) ∙ c .if1 .taken) refl in
+    let step = kind-within (kindOf (mark bang)) (c .before .after .ensures) (sym (c .before .before .kind-at .ensures)
+    ∙ c .if1 .taken) refl in
     omega (arith, step, c .before .after .ensures, start .pre)
 
 eval-simple-returns : (t : ℕ) → eval-simple-lts.Need-returns (eval-simple-calls t) (eval-simple-at t) eval-simple.Post
@@ -126,42 +168,51 @@ unfolding kindOf markNumber keywordNumber
 eval-simple-returns t c =
     let simple = c .before .before in
     let after = simple .before .before in
-    simple-not (sym (after .before .kind-at .ensures) ∙ simple .before .if1 .taken) (after .after .ensures) (simple .eval-simple .ensures)
+    simple-not (sym (after .before .kind-at .ensures) ∙ simple .before .if1 .taken) (after .after .ensures)
+    (simple .eval-simple .ensures)
     (c .other .ensures)
 
-eval-simple-eval-cond-requires : (t : ℕ) → eval-simple-lts.Need-eval-cond-requires (eval-simple-calls t) (eval-simple-at t) eval-simple.Post
+eval-simple-eval-cond-requires : (t : ℕ)
+    → eval-simple-lts.Need-eval-cond-requires (eval-simple-calls t) (eval-simple-at t) eval-simple.Post
 unfolding kindOf markNumber keywordNumber
 eval-simple-eval-cond-requires t c κs =
     let after = c .before .before in
     let start = after .before .before .before .before in
-    let step = kind-within (kindOf (mark lparen)) (after .after .ensures) (sym (after .before .kind-at .ensures) ∙ c .if2 .taken) refl in
+    let step = kind-within (kindOf (mark lparen)) (after .after .ensures) (sym (after .before .kind-at .ensures)
+    ∙ c .if2 .taken) refl in
     omega (arith, step, after .after .ensures, start .pre)
 
-eval-simple-returns-2 : (t : ℕ) → eval-simple-lts.Need-returns-2 (eval-simple-calls t) (eval-simple-at t) eval-simple.Post
+eval-simple-returns-2 : (t : ℕ)
+    → eval-simple-lts.Need-returns-2 (eval-simple-calls t) (eval-simple-at t) eval-simple.Post
 unfolding kindOf markNumber keywordNumber
 eval-simple-returns-2 t c =
     let whole = c .before .before in
     let after = whole .before .before .before in
-    simple-bracketed (sym (after .before .kind-at .ensures) ∙ whole .before .if2 .taken) (after .after .ensures) (whole .eval-cond .ensures)
+    simple-bracketed (sym (after .before .kind-at .ensures) ∙ whole .before .if2 .taken) (after .after .ensures)
+    (whole .eval-cond .ensures)
     (c .before .after2 .ensures)
 
-eval-simple-returns-3 : (t : ℕ) → eval-simple-lts.Need-returns-3 (eval-simple-calls t) (eval-simple-at t) eval-simple.Post
+eval-simple-returns-3 : (t : ℕ)
+    → eval-simple-lts.Need-returns-3 (eval-simple-calls t) (eval-simple-at t) eval-simple.Post
 unfolding constantKind kindOf markNumber keywordNumber
 eval-simple-returns-3 t c =
     let after = c .before .before .before in
     simple-constant true (sym (after .before .kind-at .ensures) ∙ c .if3 .taken) (after .after .ensures)
 
-eval-simple-returns-4 : (t : ℕ) → eval-simple-lts.Need-returns-4 (eval-simple-calls t) (eval-simple-at t) eval-simple.Post
+eval-simple-returns-4 : (t : ℕ)
+    → eval-simple-lts.Need-returns-4 (eval-simple-calls t) (eval-simple-at t) eval-simple.Post
 unfolding constantKind kindOf markNumber keywordNumber
 eval-simple-returns-4 t c =
     let after = c .before .before .before .before in
     simple-constant false (sym (after .before .kind-at .ensures) ∙ c .if4 .taken) (after .after .ensures)
 
-eval-simple-returns-5 : (t : ℕ) → eval-simple-lts.Need-returns-5 (eval-simple-calls t) (eval-simple-at t) eval-simple.Post
+eval-simple-returns-5 : (t : ℕ)
+    → eval-simple-lts.Need-returns-5 (eval-simple-calls t) (eval-simple-at t) eval-simple.Post
 unfolding kindOf markNumber keywordNumber
 eval-simple-returns-5 t c =
     let kind = c .before .before .before .before .before .before .kind-at .ensures in
-    simple-compare (λ e. c .before .before .before .before .if1 .left (kind ∙ e)) (λ e. c .before .before .before .if2 .left (kind ∙ e))
+    simple-compare (λ e. c .before .before .before .before .if1 .left (kind ∙ e))
+    (λ e. c .before .before .before .if2 .left (kind ∙ e))
     (λ e. c .before .before .if3 .left (kind ∙ e)) (λ e. c .before .if4 .left (kind ∙ e)) (c .eval-compare .ensures)
 
 pub +eval-cond+eval-conj+eval-simple-spec : {M : Type 1} → statement M

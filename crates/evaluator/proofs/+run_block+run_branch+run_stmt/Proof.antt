@@ -1,6 +1,6 @@
--- The proof of the cycle of calls {run_block, run_branch, run_stmt}. The measure is three times the count of tokens left, with a rank for calls at the same place: a block's
--- statement begins where the block does, and an if's blocks begin behind it.
--- Each return is a law on blocks, statements or branches, by the kind at the place.
+-- The proof of the cycle of calls {run_block, run_branch, run_stmt}. The measure is three times the count of tokens
+-- left, with a rank for calls at the same place: a block's statement begins where the block does, and an if's blocks
+-- begin behind it. Each return is a law on blocks, statements or branches, by the kind at the place.
 use borrow.Author.Needs.{needs}
 use Prim.Native.Nat.{ℕ, _+_, _-_, _*_, _<_}
 use native.Mathlib.Omega.{arith}
@@ -69,38 +69,85 @@ run-stmt-below t =
 
 -- what each asks of its callees and learns from them, those of the cycle below the measure t
 abbrev run-block-calls : ℕ → run-block-lts.Claims
-run-block-calls t =
-    (kind-at-reads.Asked, kind-at-reads.Learnt, run-stmt-below t, run-stmt.Post, run-block-below t, run-block.Post, both-reads.Asked, both-reads.Learnt)
+run-block-calls t = (
+  kind-at-reads.Asked,
+  kind-at-reads.Learnt,
+  run-stmt-below t,
+  run-stmt.Post,
+  run-block-below t,
+  run-block.Post,
+  both-reads.Asked,
+  both-reads.Learnt,
+)
 
 abbrev run-branch-calls : ℕ → run-branch-lts.Claims
-run-branch-calls t =
-    (close-of-reads.Asked, close-of-reads.Learnt, after-reads.Asked, after-reads.Learnt, both-reads.Asked, both-reads.Learnt, run-block-below t, run-block.Post, kind-at-reads.Asked, kind-at-reads.Learnt, unless-reads.Asked, unless-reads.Learnt)
+run-branch-calls t = (
+  close-of-reads.Asked,
+  close-of-reads.Learnt,
+  after-reads.Asked,
+  after-reads.Learnt,
+  both-reads.Asked,
+  both-reads.Learnt,
+  run-block-below t,
+  run-block.Post,
+  kind-at-reads.Asked,
+  kind-at-reads.Learnt,
+  unless-reads.Asked,
+  unless-reads.Learnt,
+)
 
 abbrev run-stmt-calls : ℕ → run-stmt-lts.Claims
-run-stmt-calls t =
-    (after-reads.Asked, after-reads.Learnt, kind-at-reads.Asked, kind-at-reads.Learnt, eval-cond-reads.Asked, eval-cond-reads.Learnt, run-branch-below t, run-branch.Post, eval-expr-reads.Asked, eval-expr-reads.Learnt, value-at-reads.Asked, value-at-reads.Learnt, store-reads.Asked, store-reads.Learnt)
+run-stmt-calls t = (
+  after-reads.Asked,
+  after-reads.Learnt,
+  kind-at-reads.Asked,
+  kind-at-reads.Learnt,
+  eval-cond-reads.Asked,
+  eval-cond-reads.Learnt,
+  run-branch-below t,
+  run-branch.Post,
+  eval-expr-reads.Asked,
+  eval-expr-reads.Learnt,
+  value-at-reads.Asked,
+  value-at-reads.Learnt,
+  store-reads.Asked,
+  store-reads.Learnt,
+)
 
 run-block-returns : (t : ℕ) → run-block-lts.Need-returns (run-block-calls t) (run-block-at t) run-block.Post
 unfolding kindOf markNumber keywordNumber
 run-block-returns t c =
     let start = c .before .before .before .before in
     let kind = sym (c .before .kind-at .ensures) ∙ c .if1 .taken in
-    block-end (start .args .at) (start .pre .1 .1) (λ e. apart (kindOf (mark rbrace)) nameKind refl kind e) (λ e. apart (kindOf (mark rbrace)) (kindOf (key k-if)) refl kind e)
+    block-end (start .args .at) (start .pre .1 .1) (λ e. apart (kindOf (mark rbrace)) nameKind refl kind e)
+    (λ e. apart (kindOf (mark rbrace)) (kindOf (key k-if)) refl kind e)
 
 run-block-returns-2 : (t : ℕ) → run-block-lts.Need-returns-2 (run-block-calls t) (run-block-at t) run-block.Post
 unfolding kindOf markNumber keywordNumber
 run-block-returns-2 t c =
     let start = c .before .before .before .before .before in
     let kind = sym (c .before .before .kind-at .ensures) ∙ c .if2 .taken in
-    block-end (start .args .at) (start .pre .1 .1) (λ e. apart noKind nameKind refl kind e) (λ e. apart noKind (kindOf (key k-if)) refl kind e)
+    block-end (start .args .at) (start .pre .1 .1) (λ e. apart noKind nameKind refl kind e)
+    (λ e. apart noKind (kindOf (key k-if)) refl kind e)
 
-run-block-run-stmt-requires : (t : ℕ) → run-block-lts.Need-run-stmt-requires (run-block-calls t) (run-block-at t) run-block.Post
+run-block-run-stmt-requires : (t : ℕ)
+    → run-block-lts.Need-run-stmt-requires (run-block-calls t) (run-block-at t) run-block.Post
 run-block-run-stmt-requires t c κs =
     let kind = c .before .before .before in
-    let start = kind .before .before .before in
-    (omega (arith, start .pre .0), (start .pre .1 .0, (start .pre .1 .1, kind-here (start .args .kinds .now) (start .args .at) (λ e. c .before .if2 .left (kind .kind-at .ensures ∙ e)))))
+    let start = kind .before .before .before in (
+      omega (arith, start .pre .0),
+      (
+        start .pre .1 .0,
+        (
+          start .pre .1 .1,
+          kind-here (start .args .kinds .now) (start .args .at)
+              (λ e. c .before .if2 .left (kind .kind-at .ensures ∙ e)),
+        ),
+      ),
+    )
 
-run-block-run-block-requires : (t : ℕ) → run-block-lts.Need-run-block-requires (run-block-calls t) (run-block-at t) run-block.Post
+run-block-run-block-requires : (t : ℕ) → run-block-lts.Need-run-block-requires (run-block-calls t) (run-block-at t)
+    run-block.Post
 run-block-run-block-requires t c κs =
     let stmt = c .before .before in
     let start = stmt .before .before .before .before .before .before .before in
@@ -112,22 +159,33 @@ run-block-returns-3 t c =
     let more = c .before in
     let stmt = more .before .before .before in
     let here = stmt .before .before .before in
-    block-more (stmt .run-stmt .ensures) (λ e. here .if1 .left (here .before .kind-at .ensures ∙ e)) (more .run-block .ensures) (c .both .ensures)
+    block-more (stmt .run-stmt .ensures) (λ e. here .if1 .left (here .before .kind-at .ensures ∙ e))
+    (more .run-block .ensures) (c .both .ensures)
 
-run-branch-run-block-requires : (t : ℕ) → run-branch-lts.Need-run-block-requires (run-branch-calls t) (run-branch-at t) run-branch.Post
+run-branch-run-block-requires : (t : ℕ) → run-branch-lts.Need-run-block-requires (run-branch-calls t) (run-branch-at t)
+    run-branch.Post
 run-branch-run-block-requires t c κs =
     let first = c .before .before in
     let start = first .before .before .before .before .before in
     omega (arith, first .after2 .ensures, start .pre)
 
-run-branch-run-block-requires-2 : (t : ℕ) → run-branch-lts.Need-run-block-requires-2 (run-branch-calls t) (run-branch-at t) run-branch.Post
+run-branch-run-block-requires-2 : (t : ℕ)
+    → run-branch-lts.Need-run-block-requires-2 (run-branch-calls t) (run-branch-at t) run-branch.Post
 run-branch-run-block-requires-2 t c κs =
     let second = c .before .before in
     let other = second .before .before .before in
     let run = other .before .before .before in
     let next = run .before .before .before .before in
     let start = next .before .before .before .before in
-    omega (arith, second .after5 .ensures, other .after3 .ensures, run .run-block .ensures, next .after .ensures, next .before .close-of .ensures, start .pre)
+    omega (
+      arith,
+      second .after5 .ensures,
+      other .after3 .ensures,
+      run .run-block .ensures,
+      next .after .ensures,
+      next .before .close-of .ensures,
+      start .pre,
+    )
 
 run-branch-returns : (t : ℕ) → run-branch-lts.Need-returns (run-branch-calls t) (run-branch-at t) run-branch.Post
 unfolding kindOf markNumber keywordNumber
@@ -141,8 +199,10 @@ run-branch-returns t c =
     let first = run .before .before .before in
     let next = first .before in
     let start = next .before .before .before .before in
-    branch-two (start .args .on) (start .args .holds) (next .before .close-of .ensures) (next .after .ensures) (first .after2 .ensures)
-    (run .before .both .ensures) (run .run-block .ensures) (sym (kind .kind-at .ensures) ∙ other .before .if1 .taken) (other .after3 .ensures)
+    branch-two (start .args .on) (start .args .holds) (next .before .close-of .ensures) (next .after .ensures)
+    (first .after2 .ensures)
+    (run .before .both .ensures) (run .run-block .ensures) (sym (kind .kind-at .ensures) ∙ other .before .if1 .taken)
+    (other .after3 .ensures)
     (last .before .close-of2 .ensures) (last .after4 .ensures) (second .after5 .ensures)
     (more .before .unless .ensures) (more .run-block2 .ensures) (c .both2 .ensures)
 
@@ -154,15 +214,24 @@ run-branch-returns-2 t c =
     let first = run .before .before .before in
     let next = first .before in
     let start = next .before .before .before .before in
-    branch-one (start .args .on) (start .args .holds) (next .before .close-of .ensures) (next .after .ensures) (first .after2 .ensures)
+    branch-one (start .args .on) (start .args .holds) (next .before .close-of .ensures) (next .after .ensures)
+    (first .after2 .ensures)
     (run .before .both .ensures) (run .run-block .ensures) (λ e. c .if1 .left (kind .kind-at .ensures ∙ e))
 
-run-stmt-run-branch-requires : (t : ℕ) → run-stmt-lts.Need-run-branch-requires (run-stmt-calls t) (run-stmt-at t) run-stmt.Post
+run-stmt-run-branch-requires : (t : ℕ)
+    → run-stmt-lts.Need-run-branch-requires (run-stmt-calls t) (run-stmt-at t) run-stmt.Post
 run-stmt-run-branch-requires t c κs =
     let brace = c .before .before in
     let third = brace .before .before .before .before .before in
     let start = third .before .before .before .before in
-    omega (arith, third .before .after .ensures .one-more (start .pre .1 .1 .1), third .after2 .ensures, brace .before .eval-cond .ensures, brace .after3 .ensures, start .pre)
+    omega (
+      arith,
+      third .before .after .ensures .one-more (start .pre .1 .1 .1),
+      third .after2 .ensures,
+      brace .before .eval-cond .ensures,
+      brace .after3 .ensures,
+      start .pre,
+    )
 
 run-stmt-returns : (t : ℕ) → run-stmt-lts.Need-returns (run-stmt-calls t) (run-stmt-at t) run-stmt.Post
 unfolding kindOf markNumber keywordNumber
@@ -172,14 +241,17 @@ run-stmt-returns t c =
     let kind = test .before .before .before in
     let third = kind .before in
     let start = third .before .before .before .before in
-    stmt-if (sym (kind .kind-at .ensures) ∙ test .before .before .if1 .taken) (start .pre .1 .1 .1) (third .before .after .ensures)
+    stmt-if (sym (kind .kind-at .ensures) ∙ test .before .before .if1 .taken) (start .pre .1 .1 .1)
+    (third .before .after .ensures)
     (third .after2 .ensures) (test .eval-cond .ensures) (brace .after3 .ensures) (c .run-branch .ensures)
 
 run-stmt-store-requires : (t : ℕ) → run-stmt-lts.Need-store-requires (run-stmt-calls t) (run-stmt-at t) run-stmt.Post
 run-stmt-store-requires t c κs =
     let sum = c .before .before .before .before in
-    let start = sum .before .before .before .before .before .before .before .before in
-    (start .pre .1 .1 .0, near-more (sum .eval-expr .ensures .near) (omega (arith, sum .eval-expr .ensures, start .pre)))
+    let start = sum .before .before .before .before .before .before .before .before in (
+      start .pre .1 .1 .0,
+      near-more (sum .eval-expr .ensures .near) (omega (arith, sum .eval-expr .ensures, start .pre)),
+    )
 
 run-stmt-returns-2 : (t : ℕ) → run-stmt-lts.Need-returns-2 (run-stmt-calls t) (run-stmt-at t) run-stmt.Post
 unfolding kindOf markNumber keywordNumber
@@ -189,8 +261,10 @@ run-stmt-returns-2 t c =
     let kind = sum .before .before .before in
     let third = kind .before in
     let start = third .before .before .before .before in
-    stmt-assign (λ e. sum .before .before .if1 .left (kind .kind-at .ensures ∙ e)) (start .pre .1 .1 .1) (third .before .after .ensures)
-    (third .after2 .ensures) (sum .eval-expr .ensures) (value .before .after4 .ensures) (value .value-at .ensures) (c .store .ensures)
+    stmt-assign (λ e. sum .before .before .if1 .left (kind .kind-at .ensures ∙ e)) (start .pre .1 .1 .1)
+    (third .before .after .ensures)
+    (third .after2 .ensures) (sum .eval-expr .ensures) (value .before .after4 .ensures) (value .value-at .ensures)
+    (c .store .ensures)
 
 pub +run-block+run-branch+run-stmt-spec : {M : Type 1} → statement M
 +run-block+run-branch+run-stmt-spec =

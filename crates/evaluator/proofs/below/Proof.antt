@@ -19,16 +19,7 @@ abbrev μ-loop : tie.MeasureT-loop
 pub below-spec : {M : Type 1} → statement M
 below-spec =
     tie.close
-    (tie.spec
-    Inv-loop
-    μ-loop
-    (λ c. fill-none false)
-    (λ c. search needs)
-    (λ c. search needs)
-    (λ c. search needs)
-    (λ c. search needs)
-    (λ c. search needs)
-    (λ c. search needs)
-    (λ c. omega arith)
+    (tie.spec Inv-loop μ-loop (λ c. fill-none false) (λ c. search needs) (λ c. search needs) (λ c. search needs)
+    (λ c. search needs) (λ c. search needs) (λ c. search needs) (λ c. omega arith)
     (λ c. fill-more _ (c .before .loop .inv) (c .loop-test .taken) refl)
     (λ c. all-filled (c .before .loop .inv) (c .loop-test .left)))

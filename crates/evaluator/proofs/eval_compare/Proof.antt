@@ -8,16 +8,11 @@ returns : tie.Need-returns
 returns c =
     let two = c .before .before .before in
     let kind = two .before .before in
-    compare-reads (kind .before .eval-expr .ensures) (kind .kind-at .ensures) (two .before .after .ensures) (two .eval-expr2 .ensures)
+    compare-reads (kind .before .eval-expr .ensures) (kind .kind-at .ensures) (two .before .after .ensures)
+    (two .eval-expr2 .ensures)
     (c .compare .ensures)
 
 pub eval-compare-spec : {M : Type 1} → statement M
 eval-compare-spec =
     tie.close
-    (tie.spec
-    (λ c κs. search needs)
-    (λ c κs. tt)
-    (λ c κs. search needs)
-    (λ c κs. search needs)
-    (λ c κs. tt)
-    returns)
+    (tie.spec (λ c κs. search needs) (λ c κs. tt) (λ c κs. search needs) (λ c κs. search needs) (λ c κs. tt) returns)

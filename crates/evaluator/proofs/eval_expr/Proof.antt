@@ -29,11 +29,13 @@ returns : tie.Need-returns Inv-loop μ-loop
 unfolding kindOf markNumber keywordNumber
 returns c =
     let kind = c .before .before in
-    open-last (kind .before .before .loop .inv) (kind .before .eval-term .ensures) (λ e. c .before .if1 .left (kind .kind-at .ensures ∙ e))
+    open-last (kind .before .before .loop .inv) (kind .before .eval-term .ensures)
+    (λ e. c .before .if1 .left (kind .kind-at .ensures ∙ e))
     (λ e. c .if2 .left (kind .kind-at .ensures ∙ e))
 
 -- the sign behind an operand
-sign : (c : tie.Joined1 Inv-loop μ-loop) → getD (c .before .before .before .before .before .before .args .kinds .now) (c .before .before .eval-term .result .next) noKind ≡ kindOf (mark (signMark (signOf (c .if1 .taken))))
+sign : (c : tie.Joined1 Inv-loop μ-loop) → getD (c .before .before .before .before .before .before .args .kinds .now)
+    (c .before .before .eval-term .result .next) noKind ≡ kindOf (mark (signMark (signOf (c .if1 .taken))))
 unfolding markNumber signMark signOf kindOf keywordNumber
 sign c =
     sym (c .before .kind-at .ensures)
@@ -42,24 +44,21 @@ sign c =
 loop-less : tie.Need-loop-less Inv-loop μ-loop
 loop-less c =
     let joined = c .before .before in
-    omega (arith, past-sign (signOf (joined .if1 .taken)) (c .after .ensures) (sign joined), joined .before .before .eval-term .ensures)
+    omega (
+      arith,
+      past-sign (signOf (joined .if1 .taken)) (c .after .ensures) (sign joined),
+      joined .before .before .eval-term .ensures,
+    )
 
 loop-again : tie.Need-loop-again Inv-loop μ-loop
 loop-again c =
     let joined = c .before .before in
     let term = joined .before .before in
-    open-more (term .before .loop .inv) (term .eval-term .ensures) (joined .if1 .taken) (sign joined) (c .after .ensures)
+    open-more (term .before .loop .inv) (term .eval-term .ensures) (joined .if1 .taken) (sign joined)
+    (c .after .ensures)
 
 pub eval-expr-spec : {M : Type 1} → statement M
 eval-expr-spec =
     tie.close
-    (tie.spec
-    Inv-loop
-    μ-loop
-    (λ c. open-first (c .before .before .pre .within))
-    eval-term-requires
-    (λ c κs. tt)
-    returns
-    (λ c κs. search needs)
-    loop-less
-    loop-again)
+    (tie.spec Inv-loop μ-loop (λ c. open-first (c .before .before .pre .within)) eval-term-requires (λ c κs. tt) returns
+    (λ c κs. search needs) loop-less loop-again)

@@ -1,4 +1,5 @@
--- `evaluator::holds` meets its contract: too many tokens and a place past them are none of a file's, and else it is the condition read there.
+-- `evaluator::holds` meets its contract: too many tokens and a place past them are none of a file's, and else it is the
+-- condition read there.
 use native.Mathlib.Omega.{arith}
 use mathlib.Core.Path.{_∙_, ap}
 use mathlib.Core.List.{_++_}
@@ -16,12 +17,14 @@ returns c = λ vs as′ ls us t j l codes biased e ends short. absurd (omega (ar
 returns-2 : tie.Need-returns-2
 unfolding EndsCond
 returns-2 c = λ vs as′ ls us t j l codes biased e ends short.
-    let here = not-past ls (spellCond t) (ends .0) (ends .1) (c .before .before .before .before .args .at) (e ∙ ap (λ z. spellCond t ++ z) (ends .2)) in
+    let here = not-past ls (spellCond t) (ends .0) (ends .1) (c .before .before .before .before .args .at)
+    (e ∙ ap (λ z. spellCond t ++ z) (ends .2)) in
     absurd (omega (arith, same-length codes, here, c .if2 .taken))
 
 returns-3 : tie.Need-returns-3
 returns-3 c = λ vs as′ ls us t j l codes biased e ends short.
-    c .mask .ensures j l ∙ c .before .before .eval-cond .ensures .reads j l vs as′ ls us t codes biased e (condition-ends us ends) .0
+    c .mask .ensures j l ∙ c .before .before .eval-cond .ensures .reads j l vs as′ ls us t codes biased e
+    (condition-ends us ends) .0
 
 pub holds-spec : {M : Type 1} → statement M
 holds-spec = tie.close (tie.spec returns returns-2 (λ c κs. search needs) (λ c κs. tt) returns-3)

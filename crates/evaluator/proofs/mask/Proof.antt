@@ -21,7 +21,8 @@ loop-again : tie.Need-loop-again Inv-loop μ-loop
 loop-again c =
     let inv = c .before .before .loop .inv in
     let here = c .before .loop-test .taken in
-    ⊎-elim (λ w. rw (w .2) (gather-true inv here (w .0 .taken) (w .1 .ensures))) (λ w. rw (w .1) (gather-false inv here (w .0 .left)))
+    ⊎-elim (λ w. rw (w .2) (gather-true inv here (w .0 .taken) (w .1 .ensures)))
+    (λ w. rw (w .1) (gather-false inv here (w .0 .left)))
     (c .if1 .came)
 
 returns : tie.Need-returns Inv-loop μ-loop
@@ -30,14 +31,5 @@ returns c = λ j l. rw (c .before .loop .inv .each j, lt-ltb j (c .before .loop 
 pub mask-spec : {M : Type 1} → statement M
 mask-spec =
     tie.close
-    (tie.spec
-    Inv-loop
-    μ-loop
-    loop-holds
-    (λ c. search needs)
-    (λ c. search needs)
-    (λ c κs. search needs)
-    (λ c. search needs)
-    (λ c. omega arith)
-    loop-again
-    returns)
+    (tie.spec Inv-loop μ-loop loop-holds (λ c. search needs) (λ c. search needs) (λ c κs. search needs)
+    (λ c. search needs) (λ c. omega arith) loop-again returns)

@@ -11,7 +11,8 @@ use Rattle.evaluator.proofs.merged.Statement.{statement}
 use Rattle.evaluator.proofs.merged.Tie as tie
 
 abbrev Inv-loop : tie.InvT-loop
-Inv-loop on new old lanes₀ j₀ lanes j = Filled 0 (λ k x. x ≡ cond (getD on k false) (getD new k 0 + 128) (getD old k 0)) lanes j
+Inv-loop on new old lanes₀ j₀ lanes j = Filled 0 (λ k x. x ≡ cond (getD on k false) (getD new k 0 + 128) (getD old k 0))
+    lanes j
 
 abbrev μ-loop : tie.MeasureT-loop
 μ-loop on new old lanes₀ j₀ lanes j = 16 - j
@@ -24,19 +25,7 @@ loop-again c =
 pub merged-spec : {M : Type 1} → statement M
 merged-spec =
     tie.close
-    (tie.spec
-    Inv-loop
-    μ-loop
-    (λ c. fill-none 0)
-    (λ c. search needs)
-    (λ c. search needs)
-    (λ c. search needs)
-    (λ c. omega (arith, c .before .before .before .pre .most _ (c .before .loop-test .taken)))
-    (λ c. search needs)
-    (λ c. search needs)
-    (λ c. search needs)
-    (λ c. search needs)
-    (λ c. search needs)
-    (λ c. omega arith)
-    loop-again
+    (tie.spec Inv-loop μ-loop (λ c. fill-none 0) (λ c. search needs) (λ c. search needs) (λ c. search needs)
+    (λ c. omega (arith, c .before .before .before .pre .most _ (c .before .loop-test .taken))) (λ c. search needs)
+    (λ c. search needs) (λ c. search needs) (λ c. search needs) (λ c. search needs) (λ c. omega arith) loop-again
     (λ c. all-filled (c .before .loop .inv) (c .loop-test .left)))

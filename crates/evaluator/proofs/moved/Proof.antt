@@ -1,4 +1,5 @@
--- `evaluator::moved` meets its contract: each turn stores the number of its lane, of which the caller shows that it fits.
+-- `evaluator::moved` meets its contract: each turn stores the number of its lane, of which the caller shows that it
+-- fits.
 use Prim.Native.Nat.{_+_, _-_}
 use native.Mathlib.Omega.{arith}
 use mathlib.Core.Path.{_≡_, refl}
@@ -17,21 +18,9 @@ abbrev μ-loop : tie.MeasureT-loop
 pub moved-spec : {M : Type 1} → statement M
 moved-spec =
     tie.close
-    (tie.spec
-    Inv-loop
-    μ-loop
-    (λ c. fill-none 0)
-    (λ c. search needs)
-    (λ c. search needs)
-    (λ c. search needs)
-    (λ c. search needs)
-    (λ c. omega (arith, c .before .before .pre _ (c .loop-test .taken)))
-    (λ c. search needs)
-    (λ c. search needs)
-    (λ c. omega (arith, c .before .before .pre _ (c .loop-test .taken)))
-    (λ c. search needs)
-    (λ c. search needs)
-    (λ c. search needs)
-    (λ c. omega arith)
+    (tie.spec Inv-loop μ-loop (λ c. fill-none 0) (λ c. search needs) (λ c. search needs) (λ c. search needs)
+    (λ c. search needs) (λ c. omega (arith, c .before .before .pre _ (c .loop-test .taken))) (λ c. search needs)
+    (λ c. search needs) (λ c. omega (arith, c .before .before .pre _ (c .loop-test .taken))) (λ c. search needs)
+    (λ c. search needs) (λ c. search needs) (λ c. omega arith)
     (λ c. fill-more _ (c .before .loop .inv) (c .loop-test .taken) refl)
     (λ c. all-filled (c .before .loop .inv) (c .loop-test .left)))

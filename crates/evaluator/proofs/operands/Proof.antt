@@ -1,4 +1,5 @@
--- `evaluator::operands` meets its contract: of a slot each turn stores the value of its lane, and else all lanes have the number.
+-- `evaluator::operands` meets its contract: of a slot each turn stores the value of its lane, and else all lanes have
+-- the number.
 use Prim.Native.Nat.{_+_, _*_, _-_, _≤_}
 use native.Mathlib.Omega.{arith}
 use mathlib.Core.Path.{_≡_, sym, _∙_}
@@ -18,7 +19,8 @@ abbrev μ-loop : tie.MeasureT-loop
 
 loop-again : tie.Need-loop-again Inv-loop μ-loop
 loop-again c =
-    fill-more (c .wide .result) (c .before .before .before .loop .inv) (c .before .before .loop-test .taken) (c .wide .ensures)
+    fill-more (c .wide .result) (c .before .before .before .loop .inv) (c .before .before .loop-test .taken)
+    (c .wide .ensures)
 
 returns : tie.Need-returns Inv-loop μ-loop
 unfolding operand
@@ -36,19 +38,6 @@ returns-2 c = λ j l.
 pub operands-spec : {M : Type 1} → statement M
 operands-spec =
     tie.close
-    (tie.spec
-    Inv-loop
-    μ-loop
-    (λ c. fill-none _)
-    (λ c. search needs)
-    (λ c. search needs)
-    (λ c. search needs)
-    (λ c. search needs)
-    (λ c κs. search needs)
-    (λ c. search needs)
-    (λ c. search needs)
-    (λ c. search needs)
-    (λ c. omega arith)
-    loop-again
-    returns
-    returns-2)
+    (tie.spec Inv-loop μ-loop (λ c. fill-none _) (λ c. search needs) (λ c. search needs) (λ c. search needs)
+    (λ c. search needs) (λ c κs. search needs) (λ c. search needs) (λ c. search needs) (λ c. search needs)
+    (λ c. omega arith) loop-again returns returns-2)

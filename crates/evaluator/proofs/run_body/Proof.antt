@@ -1,4 +1,5 @@
--- `evaluator::run_body` meets its contract: too many tokens and a place past them are none of a file's, and else it is the block run there in all lanes.
+-- `evaluator::run_body` meets its contract: too many tokens and a place past them are none of a file's, and else it is
+-- the block run there in all lanes.
 use native.Mathlib.Omega.{arith}
 use mathlib.Core.Bool.{true, false}
 use lib.ListN.{getD-replicate}

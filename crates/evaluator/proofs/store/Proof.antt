@@ -1,4 +1,5 @@
--- `evaluator::store` meets its contract: the two tests are those of the range of the slot's variable, and a slot without a variable has an empty range.
+-- `evaluator::store` meets its contract: the two tests are those of the range of the slot's variable, and a slot
+-- without a variable has an empty range.
 use Prim.Native.Nat.{_+_}
 use lib.ListN.{getD-replicate}
 use borrow.Author.Needs.{needs}
@@ -20,7 +21,17 @@ returns c =
     let slot = wide .before .if1 .taken in
     let high = below .before .wide2 in
     in-slot slot (c .put .ensures .0)
-    (λ j l. rw (other .other .ensures j l, other .before .both .ensures j l, union .union .ensures j l, below .below .ensures j l, union .before .below2 .ensures j l, getD-replicate 16 j (wide .wide .result + 1073741696) 0 l, getD-replicate 16 j (high .result + 1073741696) 0 l, wide .wide .ensures .0, high .ensures .0))
+    (λ j l. rw (
+      other .other .ensures j l,
+      other .before .both .ensures j l,
+      union .union .ensures j l,
+      below .below .ensures j l,
+      union .before .below2 .ensures j l,
+      getD-replicate 16 j (wide .wide .result + 1073741696) 0 l,
+      getD-replicate 16 j (high .result + 1073741696) 0 l,
+      wide .wide .ensures .0,
+      high .ensures .0,
+    ))
     (λ j l. rw (c .put .ensures .1 j l, merged .merged .ensures j l, old .operands .ensures j l .0, lt-ltb _ _ slot))
 
 returns-2 : tie.Need-returns-2
@@ -29,25 +40,7 @@ returns-2 c = past-slots (c .before .if1 .left) (c .before .before .pre .0) (c .
 pub store-spec : {M : Type 1} → statement M
 store-spec =
     tie.close
-    (tie.spec
-    (λ c. search needs)
-    (λ c. search needs)
-    (λ c κs. tt)
-    (λ c. search needs)
-    (λ c. search needs)
-    (λ c. search needs)
-    (λ c. search needs)
-    (λ c κs. tt)
-    (λ c. search needs)
-    (λ c. search needs)
-    (λ c κs. tt)
-    (λ c κs. tt)
-    (λ c κs. tt)
-    (λ c κs. tt)
-    (λ c κs. tt)
-    (λ c κs. tt)
-    (λ c κs. search needs)
-    (λ c κs. search needs)
-    returns
-    (λ c κs. tt)
-    returns-2)
+    (tie.spec (λ c. search needs) (λ c. search needs) (λ c κs. tt) (λ c. search needs) (λ c. search needs)
+    (λ c. search needs) (λ c. search needs) (λ c κs. tt) (λ c. search needs) (λ c. search needs) (λ c κs. tt)
+    (λ c κs. tt) (λ c κs. tt) (λ c κs. tt) (λ c κs. tt) (λ c κs. tt) (λ c κs. search needs) (λ c κs. search needs)
+    returns (λ c κs. tt) returns-2)

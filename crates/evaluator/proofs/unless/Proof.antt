@@ -18,14 +18,6 @@ abbrev μ-loop : tie.MeasureT-loop
 pub unless-spec : {M : Type 1} → statement M
 unless-spec =
     tie.close
-    (tie.spec
-    Inv-loop
-    μ-loop
-    (λ c. fill-none false)
-    (λ c. search needs)
-    (λ c. search needs)
-    (λ c. search needs)
-    (λ c. search needs)
-    (λ c. omega arith)
-    (λ c. fill-more _ (c .before .loop .inv) (c .loop-test .taken) refl)
+    (tie.spec Inv-loop μ-loop (λ c. fill-none false) (λ c. search needs) (λ c. search needs) (λ c. search needs)
+    (λ c. search needs) (λ c. omega arith) (λ c. fill-more _ (c .before .loop .inv) (c .loop-test .taken) refl)
     (λ c. all-filled (c .before .loop .inv) (c .loop-test .left)))

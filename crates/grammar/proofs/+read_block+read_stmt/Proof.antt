@@ -49,7 +49,16 @@ read-stmt-below t =
     and 1 read-stmt-kinds.ps (falls 1 read-stmt-kinds.ps _<_ μ-read-stmt t) read-stmt.Pre
 
 abbrev read-block-calls : ℕ → read-block-lts.Claims
-read-block-calls t = (stop-reads.Asked, stop-reads.Learnt, sees-reads.Asked, sees-reads.Learnt, read-stmt-below t, read-stmt.Post, read-block-below t, read-block.Post)
+read-block-calls t = (
+  stop-reads.Asked,
+  stop-reads.Learnt,
+  sees-reads.Asked,
+  sees-reads.Learnt,
+  read-stmt-below t,
+  read-stmt.Post,
+  read-block-below t,
+  read-block.Post,
+)
 
 read-block-returns : (t : ℕ) → read-block-lts.Need-returns (read-block-calls t) (read-block-at t) read-block.Post
 unfolding readBlock
@@ -59,13 +68,15 @@ read-block-returns t c =
 read-block-returns-2 : (t : ℕ) → read-block-lts.Need-returns-2 (read-block-calls t) (read-block-at t) read-block.Post
 unfolding readBlock kindOf markNumber
 read-block-returns-2 t c =
-    fuelled readBlock (c .before .before .if1 .left) (yes _ (by-mark rbrace) (c .before .sees .ensures) (c .if2 .taken) (done _))
+    fuelled readBlock (c .before .before .if1 .left) (yes _ (by-mark rbrace) (c .before .sees .ensures) (c .if2 .taken)
+    (done _))
 
 read-block-returns-3 : (t : ℕ) → read-block-lts.Need-returns-3 (read-block-calls t) (read-block-at t) read-block.Post
 unfolding readBlock kindOf markNumber
 read-block-returns-3 t c =
     fuelled readBlock (c .before .before .before .before .before .before .if1 .left)
-    (no _ (by-mark rbrace) (c .before .before .before .before .before .sees .ensures) (c .before .before .before .before .if2 .left)
+    (no _ (by-mark rbrace) (c .before .before .before .before .before .sees .ensures)
+    (c .before .before .before .before .if2 .left)
     (then (c .before .before .before .read-stmt .ensures) λ _. then (c .read-block .ensures) λ _. done _))
 
 read-block-returns-4 : (t : ℕ) → read-block-lts.Need-returns-4 (read-block-calls t) (read-block-at t) read-block.Post
@@ -76,7 +87,20 @@ read-block-returns-4 t c =
     (then (c .before .before .read-stmt .ensures) λ _. then (passes end (c .enum-told2 .given .1)) λ _. done _))
 
 abbrev read-stmt-calls : ℕ → read-stmt-lts.Claims
-read-stmt-calls t = (stop-reads.Asked, stop-reads.Learnt, sees-reads.Asked, sees-reads.Learnt, expect-reads.Asked, expect-reads.Learnt, read-cond-reads.Asked, read-cond-reads.Learnt, read-block-below t, read-block.Post, read-expr-reads.Asked, read-expr-reads.Learnt)
+read-stmt-calls t = (
+  stop-reads.Asked,
+  stop-reads.Learnt,
+  sees-reads.Asked,
+  sees-reads.Learnt,
+  expect-reads.Asked,
+  expect-reads.Learnt,
+  read-cond-reads.Asked,
+  read-cond-reads.Learnt,
+  read-block-below t,
+  read-block.Post,
+  read-expr-reads.Asked,
+  read-expr-reads.Learnt,
+)
 
 read-stmt-returns : (t : ℕ) → read-stmt-lts.Need-returns (read-stmt-calls t) (read-stmt-at t) read-stmt.Post
 unfolding readStmt
@@ -86,16 +110,24 @@ read-stmt-returns t c =
 read-stmt-returns-2 : (t : ℕ) → read-stmt-lts.Need-returns-2 (read-stmt-calls t) (read-stmt-at t) read-stmt.Post
 unfolding readStmt kindOf markNumber keywordNumber
 read-stmt-returns-2 t c =
-    fuelled readStmt (c .before .before .before .before .before .before .before .before .before .before .before .before .before .before .before .if1 .left)
-    (yes _ (by-key k-if) (c .before .before .before .before .before .before .before .before .before .before .before .before .before .before .sees .ensures) (c .before .before .before .before .before .before .before .before .before .before .before .before .before .if2 .taken)
-    (then (took-key k-if (c .before .before .before .before .before .before .before .before .before .before .before .before .expect .ensures)) λ _.
-    then (took-mark lparen (c .before .before .before .before .before .before .before .before .before .before .before .expect2 .ensures)) λ _.
+    fuelled readStmt
+    (c .before .before .before .before .before .before .before .before .before .before .before .before .before .before .before .if1 .left)
+    (yes _ (by-key k-if)
+    (c .before .before .before .before .before .before .before .before .before .before .before .before .before .before .sees .ensures) (c .before .before .before .before .before .before .before .before .before .before .before .before .before .if2 .taken)
+    (then
+    (took-key k-if
+    (c .before .before .before .before .before .before .before .before .before .before .before .before .expect .ensures)) λ _.
+    then (took-mark lparen
+    (c .before .before .before .before .before .before .before .before .before .before .before .expect2 .ensures))
+    λ _.
     then (c .before .before .before .before .before .before .before .before .before .before .read-cond .ensures) λ _.
-    then (took-mark rparen (c .before .before .before .before .before .before .before .before .before .expect3 .ensures)) λ _.
+    then (took-mark rparen
+    (c .before .before .before .before .before .before .before .before .before .expect3 .ensures)) λ _.
     then (took-mark lbrace (c .before .before .before .before .before .before .before .before .expect4 .ensures)) λ _.
     then (c .before .before .before .before .before .before .before .read-block .ensures) λ _.
     then (took-mark rbrace (c .before .before .before .before .before .before .expect5 .ensures)) λ _.
-    yes _ (by-key k-else) (c .before .before .before .before .before .sees2 .ensures) (c .before .before .before .before .if3 .taken)
+    yes _ (by-key k-else) (c .before .before .before .before .before .sees2 .ensures)
+    (c .before .before .before .before .if3 .taken)
     (then (took-key k-else (c .before .before .before .expect6 .ensures)) λ _.
     then (took-mark lbrace (c .before .before .expect7 .ensures)) λ _.
     then (c .before .read-block2 .ensures) λ _.
@@ -104,8 +136,11 @@ read-stmt-returns-2 t c =
 read-stmt-returns-3 : (t : ℕ) → read-stmt-lts.Need-returns-3 (read-stmt-calls t) (read-stmt-at t) read-stmt.Post
 unfolding readStmt kindOf markNumber keywordNumber
 read-stmt-returns-3 t c =
-    fuelled readStmt (c .before .before .before .before .before .before .before .before .before .before .before .if1 .left)
-    (yes _ (by-key k-if) (c .before .before .before .before .before .before .before .before .before .before .sees .ensures) (c .before .before .before .before .before .before .before .before .before .if2 .taken)
+    fuelled readStmt
+    (c .before .before .before .before .before .before .before .before .before .before .before .if1 .left)
+    (yes _ (by-key k-if)
+    (c .before .before .before .before .before .before .before .before .before .before .sees .ensures)
+    (c .before .before .before .before .before .before .before .before .before .if2 .taken)
     (then (took-key k-if (c .before .before .before .before .before .before .before .before .expect .ensures)) λ _.
     then (took-mark lparen (c .before .before .before .before .before .before .before .expect2 .ensures)) λ _.
     then (c .before .before .before .before .before .before .read-cond .ensures) λ _.
@@ -119,7 +154,8 @@ read-stmt-returns-4 : (t : ℕ) → read-stmt-lts.Need-returns-4 (read-stmt-call
 unfolding readStmt kindOf markNumber keywordNumber
 read-stmt-returns-4 t c =
     fuelled readStmt (c .before .before .before .before .before .before .if1 .left)
-    (no _ (by-key k-if) (c .before .before .before .before .before .sees .ensures) (c .before .before .before .before .if2 .left)
+    (no _ (by-key k-if) (c .before .before .before .before .before .sees .ensures)
+    (c .before .before .before .before .if2 .left)
     (then (took-name (c .before .before .before .expect9 .ensures)) λ _.
     then (took-mark becomes (c .before .before .expect10 .ensures)) λ _.
     then (c .before .read-expr .ensures) λ _.
@@ -157,7 +193,13 @@ pub +read-block+read-stmt-spec : {M : Type 1} → statement M
     (λ c κs. tt)
     (λ c κs. tt)
     (λ c κs. tt)
-    (λ c κs. (omega (arith, c .before .before .before .before .before .before .before .before .before .before .before .before .before), tt))
+    (λ c κs. (
+      omega (
+        arith,
+        c .before .before .before .before .before .before .before .before .before .before .before .before .before,
+      ),
+      tt,
+    ))
     (λ c κs. tt)
     (read-stmt-returns-2 t)
     (read-stmt-returns-3 t)

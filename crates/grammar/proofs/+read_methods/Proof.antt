@@ -35,21 +35,33 @@ read-methods-below t =
     read-methods.Pre
 
 abbrev read-methods-calls : ℕ → read-methods-lts.Claims
-read-methods-calls t = (stop-reads.Asked, stop-reads.Learnt, sees-reads.Asked, sees-reads.Learnt, read-method-reads.Asked, read-method-reads.Learnt, read-methods-below t, read-methods.Post)
+read-methods-calls t = (
+  stop-reads.Asked,
+  stop-reads.Learnt,
+  sees-reads.Asked,
+  sees-reads.Learnt,
+  read-method-reads.Asked,
+  read-method-reads.Learnt,
+  read-methods-below t,
+  read-methods.Post,
+)
 
-read-methods-returns : (t : ℕ) → read-methods-lts.Need-returns (read-methods-calls t) (read-methods-at t) read-methods.Post
+read-methods-returns : (t : ℕ)
+    → read-methods-lts.Need-returns (read-methods-calls t) (read-methods-at t) read-methods.Post
 unfolding readMany
 read-methods-returns t c =
     spent (readMany (isKey k-method) (readMethod _)) [] (λ ls. refl) (c .before .if1 .taken) (c .stop .ensures)
 
-read-methods-returns-2 : (t : ℕ) → read-methods-lts.Need-returns-2 (read-methods-calls t) (read-methods-at t) read-methods.Post
+read-methods-returns-2 : (t : ℕ) → read-methods-lts.Need-returns-2 (read-methods-calls t) (read-methods-at t)
+    read-methods.Post
 unfolding readMany kindOf keywordNumber
 read-methods-returns-2 t c =
     fuelled (readMany (isKey k-method) (readMethod _)) (c .before .before .before .before .if1 .left)
     (yes _ (by-key k-method) (c .before .before .before .sees .ensures) (c .before .before .if2 .taken)
     (then (c .before .read-method .ensures) λ _. then (c .read-methods .ensures) λ _. done _))
 
-read-methods-returns-3 : (t : ℕ) → read-methods-lts.Need-returns-3 (read-methods-calls t) (read-methods-at t) read-methods.Post
+read-methods-returns-3 : (t : ℕ) → read-methods-lts.Need-returns-3 (read-methods-calls t) (read-methods-at t)
+    read-methods.Post
 unfolding readMany kindOf keywordNumber
 read-methods-returns-3 t c =
     fuelled (readMany (isKey k-method) (readMethod _)) (c .before .before .if1 .left)

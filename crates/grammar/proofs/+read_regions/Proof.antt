@@ -35,21 +35,33 @@ read-regions-below t =
     read-regions.Pre
 
 abbrev read-regions-calls : ℕ → read-regions-lts.Claims
-read-regions-calls t = (stop-reads.Asked, stop-reads.Learnt, sees-reads.Asked, sees-reads.Learnt, read-region-reads.Asked, read-region-reads.Learnt, read-regions-below t, read-regions.Post)
+read-regions-calls t = (
+  stop-reads.Asked,
+  stop-reads.Learnt,
+  sees-reads.Asked,
+  sees-reads.Learnt,
+  read-region-reads.Asked,
+  read-region-reads.Learnt,
+  read-regions-below t,
+  read-regions.Post,
+)
 
-read-regions-returns : (t : ℕ) → read-regions-lts.Need-returns (read-regions-calls t) (read-regions-at t) read-regions.Post
+read-regions-returns : (t : ℕ)
+    → read-regions-lts.Need-returns (read-regions-calls t) (read-regions-at t) read-regions.Post
 unfolding readMany
 read-regions-returns t c =
     spent (readMany (isKey k-waituntil) (readRegion _)) [] (λ ls. refl) (c .before .if1 .taken) (c .stop .ensures)
 
-read-regions-returns-2 : (t : ℕ) → read-regions-lts.Need-returns-2 (read-regions-calls t) (read-regions-at t) read-regions.Post
+read-regions-returns-2 : (t : ℕ) → read-regions-lts.Need-returns-2 (read-regions-calls t) (read-regions-at t)
+    read-regions.Post
 unfolding readMany kindOf keywordNumber
 read-regions-returns-2 t c =
     fuelled (readMany (isKey k-waituntil) (readRegion _)) (c .before .before .before .before .if1 .left)
     (yes _ (by-key k-waituntil) (c .before .before .before .sees .ensures) (c .before .before .if2 .taken)
     (then (c .before .read-region .ensures) λ _. then (c .read-regions .ensures) λ _. done _))
 
-read-regions-returns-3 : (t : ℕ) → read-regions-lts.Need-returns-3 (read-regions-calls t) (read-regions-at t) read-regions.Post
+read-regions-returns-3 : (t : ℕ) → read-regions-lts.Need-returns-3 (read-regions-calls t) (read-regions-at t)
+    read-regions.Post
 unfolding readMany kindOf keywordNumber
 read-regions-returns-3 t c =
     fuelled (readMany (isKey k-waituntil) (readRegion _)) (c .before .before .if1 .left)

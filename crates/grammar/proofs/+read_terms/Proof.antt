@@ -32,7 +32,18 @@ read-terms-below t =
     and 1 read-terms-kinds.ps (falls 1 read-terms-kinds.ps _<_ μ-read-terms t) read-terms.Pre
 
 abbrev read-terms-calls : ℕ → read-terms-lts.Claims
-read-terms-calls t = (stop-reads.Asked, stop-reads.Learnt, sees-among-reads.Asked, sees-among-reads.Learnt, expect-among-reads.Asked, expect-among-reads.Learnt, read-atom-reads.Asked, read-atom-reads.Learnt, read-terms-below t, read-terms.Post)
+read-terms-calls t = (
+  stop-reads.Asked,
+  stop-reads.Learnt,
+  sees-among-reads.Asked,
+  sees-among-reads.Learnt,
+  expect-among-reads.Asked,
+  expect-among-reads.Learnt,
+  read-atom-reads.Asked,
+  read-atom-reads.Learnt,
+  read-terms-below t,
+  read-terms.Post,
+)
 
 read-terms-returns : (t : ℕ) → read-terms-lts.Need-returns (read-terms-calls t) (read-terms-at t) read-terms.Post
 unfolding readMany
@@ -44,7 +55,8 @@ unfolding readMany readTerm kindOf markNumber
 read-terms-returns-2 t c =
     fuelled (readMany isSign readTerm) (c .before .before .before .before .before .if1 .left)
     (yes _ by-sign (c .before .before .before .before .sees-among .ensures) (c .before .before .before .if2 .taken)
-    (then (then (took-sign (c .before .before .expect-among .ensures)) λ _. then (c .before .read-atom .ensures) λ _. done _) λ _. then (c .read-terms .ensures) λ _. done _))
+    (then (then (took-sign (c .before .before .expect-among .ensures)) λ _. then (c .before .read-atom .ensures) λ _.
+    done _) λ _. then (c .read-terms .ensures) λ _. done _))
 
 read-terms-returns-3 : (t : ℕ) → read-terms-lts.Need-returns-3 (read-terms-calls t) (read-terms-at t) read-terms.Post
 unfolding readMany readTerm kindOf markNumber

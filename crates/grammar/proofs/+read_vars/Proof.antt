@@ -30,7 +30,16 @@ read-vars-below t =
     and 1 read-vars-kinds.ps (falls 1 read-vars-kinds.ps _<_ μ-read-vars t) read-vars.Pre
 
 abbrev read-vars-calls : ℕ → read-vars-lts.Claims
-read-vars-calls t = (stop-reads.Asked, stop-reads.Learnt, sees-reads.Asked, sees-reads.Learnt, read-var-reads.Asked, read-var-reads.Learnt, read-vars-below t, read-vars.Post)
+read-vars-calls t = (
+  stop-reads.Asked,
+  stop-reads.Learnt,
+  sees-reads.Asked,
+  sees-reads.Learnt,
+  read-var-reads.Asked,
+  read-var-reads.Learnt,
+  read-vars-below t,
+  read-vars.Post,
+)
 
 read-vars-returns : (t : ℕ) → read-vars-lts.Need-returns (read-vars-calls t) (read-vars-at t) read-vars.Post
 unfolding readMany

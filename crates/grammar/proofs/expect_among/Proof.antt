@@ -7,13 +7,20 @@ use Rattle.grammar.proofs.expect_among.Statement.{statement}
 use Rattle.grammar.proofs.expect_among.Tie as tie
 
 add-t10 : tie.Need-add-t10
-add-t10 c = omega (arith, seen-length _ _ _ (c .before .before .from .given .1) (sym (c .before .before .before .before .sees-among .ensures) ∙ c .if1 .taken))
+add-t10 c =
+    omega (
+      arith,
+      seen-length _ _ _ (c .before .before .from .given .1) (sym (c .before .before .before .before .sees-among .ensures)
+          ∙ c .if1 .taken),
+    )
 
 returns : tie.Need-returns
-returns c = took (c .before .before .from .given .1) (sym (c .before .before .before .before .sees-among .ensures) ∙ c .if1 .taken)
+returns c = took (c .before .before .from .given .1) (sym (c .before .before .before .before .sees-among .ensures)
+    ∙ c .if1 .taken)
 
 returns-2 : tie.Need-returns-2
-returns-2 c = missed (c .before .before .from .given .1) (sym (c .before .before .before .before .sees-among .ensures) ∙ c .if1 .left)
+returns-2 c = missed (c .before .before .from .given .1) (sym (c .before .before .before .before .sees-among .ensures)
+    ∙ c .if1 .left)
 
 returns-3 : tie.Need-returns-3
 returns-3 c = passed (c .enum-told .given .1)

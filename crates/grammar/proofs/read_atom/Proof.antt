@@ -8,7 +8,8 @@ use Rattle.grammar.proofs.read_atom.Tie as tie
 returns : tie.Need-returns
 unfolding readAtom
 returns c =
-    yes _ by-name (c .before .before .sees .ensures) (c .before .if1 .taken) (then (took-name (c .expect .ensures)) λ _. done _)
+    yes _ by-name (c .before .before .sees .ensures) (c .before .if1 .taken)
+    (then (took-name (c .expect .ensures)) λ _. done _)
 
 returns-2 : tie.Need-returns-2
 unfolding readAtom

@@ -16,7 +16,8 @@ returns c =
 returns-2 : tie.Need-returns-2
 unfolding readInt kindOf markNumber
 returns-2 c =
-    no _ (by-mark minus) (c .before .before .sees .ensures) (c .before .if1 .left) (then (took-number (c .expect3 .ensures)) λ _. done _)
+    no _ (by-mark minus) (c .before .before .sees .ensures) (c .before .if1 .left)
+    (then (took-number (c .expect3 .ensures)) λ _. done _)
 
 pub read-int-spec : {M : Type 1} → statement M
 read-int-spec =

@@ -49,7 +49,8 @@ brace q =
     let e = q .closing2 .ensures in
     let body : q .before .closing .result + toBody ≡ bodyOf ks (a .at) =
     ap (λ n. n + toBody) (q .before .closing .ensures) in
-    let w = close-within openBrace shutBrace (q .before .closing .result + toBody) ks (length ks + 3) (omega (arith, b .0))
+    let w = close-within openBrace shutBrace (q .before .closing .result + toBody) ks (length ks + 3)
+    (omega (arith, b .0))
     (omega arith) in (
       omega (arith, e, w),
       omega (arith, e, b .1),
@@ -126,17 +127,6 @@ returns c =
 pub add-region-spec : {M : Type 1} → statement M
 add-region-spec =
     tie.close
-    (tie.spec
-    (λ c. search needs)
-    (λ c κs. search needs)
-    add-body-at
-    (λ c κs. search needs)
-    add-next
-    (λ c κs. search needs)
-    (λ c κs. search needs)
-    (λ c κs. search needs)
-    held-requires-2
-    cast-with-region
-    flag-requires
-    with-region-requires
-    returns)
+    (tie.spec (λ c. search needs) (λ c κs. search needs) add-body-at (λ c κs. search needs) add-next
+    (λ c κs. search needs) (λ c κs. search needs) (λ c κs. search needs) held-requires-2 cast-with-region flag-requires
+    with-region-requires returns)

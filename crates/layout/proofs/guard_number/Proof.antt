@@ -89,18 +89,5 @@ returns-2 c = (
 pub guard-number-spec : {M : Type 1} → statement M
 guard-number-spec =
     tie.close
-    (tie.spec
-    Inv-loop
-    μ-loop
-    loop-holds
-    element-copy-out-small
-    (λ c κs. tt)
-    (λ c. omega arith)
-    (λ c. omega arith)
-    (λ c κs. tt)
-    same-guard-requires
-    returns
-    (λ c. omega arith)
-    (λ c. omega arith)
-    loop-again
-    returns-2)
+    (tie.spec Inv-loop μ-loop loop-holds element-copy-out-small (λ c κs. tt) (λ c. omega arith) (λ c. omega arith)
+    (λ c κs. tt) same-guard-requires returns (λ c. omega arith) (λ c. omega arith) loop-again returns-2)

@@ -127,25 +127,6 @@ returns-4 c =
 pub lay-out-spec : {M : Type 1} → statement M
 lay-out-spec =
     tie.close
-    (tie.spec
-    Inv-loop
-    μ-loop
-    (λ c κs. tt)
-    returns
-    (λ c κs. tt)
-    returns-2
-    (λ c κs. tt)
-    returns-3
-    (λ c. omega arith)
-    (λ c κs. tt)
-    (λ c. omega arith)
-    (λ c κs. tt)
-    add-i
-    loop-holds
-    (λ c κs. tt)
-    add-add-method
-    add-method-requires
-    add-i-2
-    loop-less
-    loop-again
-    returns-4)
+    (tie.spec Inv-loop μ-loop (λ c κs. tt) returns (λ c κs. tt) returns-2 (λ c κs. tt) returns-3 (λ c. omega arith)
+    (λ c κs. tt) (λ c. omega arith) (λ c κs. tt) add-i loop-holds (λ c κs. tt) add-add-method add-method-requires
+    add-i-2 loop-less loop-again returns-4)

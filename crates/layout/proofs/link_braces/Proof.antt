@@ -77,19 +77,5 @@ returns-2 c =
 pub link-braces-spec : {M : Type 1} → statement M
 link-braces-spec =
     tie.close
-    (tie.spec
-    Inv-loop
-    μ-loop
-    returns
-    loop-holds
-    (λ c. omega arith)
-    (λ c. omega arith)
-    closing-requires
-    held-requires
-    mul-operands
-    slice-write-operands
-    (λ c. omega arith)
-    loop-less
-    loop-again
-    same-length
-    returns-2)
+    (tie.spec Inv-loop μ-loop returns loop-holds (λ c. omega arith) (λ c. omega arith) closing-requires held-requires
+    mul-operands slice-write-operands (λ c. omega arith) loop-less loop-again same-length returns-2)

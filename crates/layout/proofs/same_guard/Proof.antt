@@ -46,7 +46,8 @@ same-tokens-requires c κs =
     let a = c .before .before .before .before .before .before .before .before .before .args in
     let p = close-within openBracket shutBracket (a .a) (a .kinds .now) (length (a .kinds .now))
     (c .before .before .before .before .if1 .left) (omega arith) in
-    let q = close-within openBracket shutBracket (a .b) (a .kinds .now) (length (a .kinds .now)) (c .before .before .before .if2 .left)
+    let q = close-within openBracket shutBracket (a .b) (a .kinds .now) (length (a .kinds .now))
+    (c .before .before .before .if2 .left)
     (omega arith) in
     let e = lengths (c .before) in (
       c .before .before .before .before .before .before .before .before .before .pre,
@@ -64,13 +65,5 @@ returns-4 c =
 pub same-guard-spec : {M : Type 1} → statement M
 same-guard-spec =
     tie.close
-    (tie.spec
-    returns
-    returns-2
-    (λ c κs. search needs)
-    (λ c. search needs)
-    (λ c κs. search needs)
-    sub-n
-    returns-3
-    same-tokens-requires
-    returns-4)
+    (tie.spec returns returns-2 (λ c κs. search needs) (λ c. search needs) (λ c κs. search needs) sub-n returns-3
+    same-tokens-requires returns-4)

@@ -55,16 +55,5 @@ returns-2 c =
 pub same-name-spec : {M : Type 1} → statement M
 same-name-spec =
     tie.close
-    (tie.spec
-    Inv-loop
-    μ-loop
-    loop-holds
-    (λ c. omega arith)
-    (λ c. omega arith)
-    add-if1-2
-    shared-slice-read-if1-2
-    returns
-    (λ c. omega arith)
-    loop-less
-    loop-again
-    returns-2)
+    (tie.spec Inv-loop μ-loop loop-holds (λ c. omega arith) (λ c. omega arith) add-if1-2 shared-slice-read-if1-2 returns
+    (λ c. omega arith) loop-less loop-again returns-2)

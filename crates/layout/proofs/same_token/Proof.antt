@@ -119,29 +119,7 @@ returns-6 c = λ ts w. c .same-name .ensures ∙ names (c .before .before .befor
 pub same-token-spec : {M : Type 1} → statement M
 same-token-spec =
     tie.close
-    (tie.spec
-    (λ c. search needs)
-    (λ c. search needs)
-    returns
-    mul-if2
-    shared-slice-read-if2
-    mul-if2-2
-    shared-slice-read-if2-2
-    returns-2
-    shared-slice-read-if3
-    returns-3
-    (λ c. search needs)
-    shared-slice-read-wide
-    wide-requires
-    mul-wide-2
-    shared-slice-read-wide-2
-    wide-requires-2
-    mul-wide-3
-    shared-slice-read-wide-3
-    wide-requires-3
-    add-if4
-    returns-4
-    add-if5
-    returns-5
-    same-name-requires
-    returns-6)
+    (tie.spec (λ c. search needs) (λ c. search needs) returns mul-if2 shared-slice-read-if2 mul-if2-2
+    shared-slice-read-if2-2 returns-2 shared-slice-read-if3 returns-3 (λ c. search needs) shared-slice-read-wide
+    wide-requires mul-wide-2 shared-slice-read-wide-2 wide-requires-2 mul-wide-3 shared-slice-read-wide-3
+    wide-requires-3 add-if4 returns-4 add-if5 returns-5 same-name-requires returns-6)

@@ -64,15 +64,5 @@ returns-2 c =
 pub same-tokens-spec : {M : Type 1} → statement M
 same-tokens-spec =
     tie.close
-    (tie.spec
-    Inv-loop
-    μ-loop
-    loop-holds
-    (λ c. omega arith)
-    (λ c. omega arith)
-    same-token-requires
-    returns
-    (λ c. omega arith)
-    loop-less
-    loop-again
-    returns-2)
+    (tie.spec Inv-loop μ-loop loop-holds (λ c. omega arith) (λ c. omega arith) same-token-requires returns
+    (λ c. omega arith) loop-less loop-again returns-2)

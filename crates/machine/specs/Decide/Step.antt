@@ -1,5 +1,5 @@
--- The two machines, computed: one step with a parameter that says whom a body notifies; the plain machine and the table's are its two
--- instances. `proofs/RulesDecided` shows that a step takes a frame exactly where `Rules` does.
+-- The two machines, computed: one step with a parameter that says whom a body notifies; the plain machine and the
+-- table's are its two instances. `proofs/RulesDecided` shows that a step takes a frame exactly where `Rules` does.
 use Prim.Native.Nat.{ℕ, suc}
 use mathlib.Core.Bool.{Bool, true, false, not, _&&_, Bool·beq, _||_}
 use mathlib.Core.List.{List, [], _∷_}
@@ -70,7 +70,8 @@ module _ (m : Monitor) where
   unfoldable pub plainTold : Told
   plainTold s p r u = own s (p .place u)
 
-  -- where a thread may be next: "an idle thread may enter the first region of a method, and a waiting one names only its own region"
+  -- where a thread may be next: "an idle thread may enter the first region of a method, and a waiting one names only
+  -- its own region"
   unfoldable pub mayBeAt : Place → ℕ → Bool
   mayBeAt idle r = ltb r (m .regions) && m .begins r
   mayBeAt (waiting w) r = eqb w r

@@ -1,4 +1,5 @@
--- The table, computed, and the machine that goes by a table. `proofs/Entries` shows that its entries are those of `Algorithm1`.
+-- The table, computed, and the machine that goes by a table. `proofs/Entries` shows that its entries are those of
+-- `Algorithm1`.
 use Prim.Native.Nat.{ℕ}
 use mathlib.Core.Bool.{Bool, true, false, not, _&&_, _||_}
 use lib.Dec.{eqb}

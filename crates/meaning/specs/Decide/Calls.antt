@@ -1,5 +1,5 @@
--- The library's calls, computed: placing the table of a file into a lent buffer (10), and running a trace from a start state on a
--- machine (11 to 14).
+-- The library's calls, computed: placing the table of a file into a lent buffer (10), and running a trace from a start
+-- state on a machine (11 to 14).
 use Prim.Native.Nat.{ℕ}
 use mathlib.Core.Bool.{true, false}
 use mathlib.Core.List.{List, _++_}

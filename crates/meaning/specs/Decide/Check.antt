@@ -1,5 +1,5 @@
--- The refusals 1 to 9 of a file, in number order, computed. `proofs/Verdicts` shows that a file's verdict is the one that `Accepted` and
--- `Refusal` say.
+-- The refusals 1 to 9 of a file, in number order, computed. `proofs/Verdicts` shows that a file's verdict is the one
+-- that `Accepted` and `Refusal` say.
 use Prim.Native.Nat.{ℕ, zero, suc, _+_, _*_, _-_}
 use mathlib.Core.Bool.{Bool, true, false, _&&_, _||_, not}
 use mathlib.Core.List.{List, [], _∷_}
@@ -89,15 +89,16 @@ goodRange v =
     not (less (intOf (v .high)) (intOf (v .low))) && inByte (intOf (v .low)) && inByte (intOf (v .high))
     && inRange v (intOf (v .start))
 
--- the first variable with a bad range, "or which takes the product of range sizes above 4,096": the product so far, and the places of `var`
+-- the first variable with a bad range, "or which takes the product of range sizes above 4,096": the product so far, and
+-- the places of `var`
 unfoldable pub illRanged : ℕ → List Var → List ℕ → Option ℕ
 illRanged product [] ps = none
 illRanged product (v ∷ vs) ps =
     elim (goodRange v && leb (product * size v) mostStates)
     [ true ↦ illRanged (product * size v) vs (drop 1 ps) | false ↦ some (getD ps 0 0) ]
 
--- 9: from these values, "meeting kept condition and guard", "the body assigns outside a range at any moment or ends with the
--- kept condition false"; of a body's outcome, for any test of values
+-- 9: from these values, "meeting kept condition and guard", "the body assigns outside a range at any moment or ends
+-- with the kept condition false"; of a body's outcome, for any test of values
 unfoldable pub keptAfter : (List ℤ → Bool) → Option (List ℤ) → Bool
 keptAfter kept none = false
 keptAfter kept (some as′) = kept as′

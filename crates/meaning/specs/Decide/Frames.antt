@@ -15,7 +15,8 @@ pub data Line : Type 0 where
 unfoldable pub linesFrom : List ℕ → List ℕ → List Line
 linesFrom [] [] = []
 linesFrom (a ∷ as′) [] = unended (reverse (a ∷ as′)) ∷ []
-linesFrom begun (b ∷ bs) = elim (eqb b 10) [ true ↦ ended (reverse begun) ∷ linesFrom [] bs | false ↦ linesFrom (b ∷ begun) bs ]
+linesFrom begun (b ∷ bs) =
+    elim (eqb b 10) [ true ↦ ended (reverse begun) ∷ linesFrom [] bs | false ↦ linesFrom (b ∷ begun) bs ]
 
 -- "0-9 and A-F"
 unfoldable pub isHex : ℕ → Bool

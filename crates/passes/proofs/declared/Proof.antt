@@ -34,12 +34,5 @@ returns-3 c file titles t = (
 pub declared-spec : {M : Type 1} → statement M
 declared-spec =
     tie.close
-    (tie.spec
-    returns
-    returns-2
-    (λ c. search needs)
-    (λ c. search needs)
-    (λ c. search needs)
-    element-write-more-2
-    add-more
-    returns-3)
+    (tie.spec returns returns-2 (λ c. search needs) (λ c. search needs) (λ c. search needs) element-write-more-2
+    add-more returns-3)

@@ -22,7 +22,13 @@ returns-3 c l e = simp (kind-key, ← e, c .if3 .taken)
 returns-4 : tie.Need-returns-4
 unfolding kindOf keywordNumber
 returns-4 c l e =
-    simp (kind-key, ← e, ne-eqb _ (kindOf (key k-var)) (c .before .before .if1 .left), ne-eqb _ (kindOf (key k-method)) (c .before .if2 .left), ne-eqb _ (kindOf (key k-waituntil)) (c .if3 .left))
+    simp (
+      kind-key,
+      ← e,
+      ne-eqb _ (kindOf (key k-var)) (c .before .before .if1 .left),
+      ne-eqb _ (kindOf (key k-method)) (c .before .if2 .left),
+      ne-eqb _ (kindOf (key k-waituntil)) (c .if3 .left),
+    )
 
 pub exceeds-spec : {M : Type 1} → statement M
 exceeds-spec = tie.close (tie.spec returns returns-2 returns-3 returns-4)

@@ -74,26 +74,7 @@ returns-4 c ts h n = naming-ends h (c .before .loop .inv .1 ts h n) (omega arith
 pub find-misnamed-spec : {M : Type 1} → statement M
 find-misnamed-spec =
     tie.close
-    (tie.spec
-    Inv-loop
-    μ-loop
-    returns
-    returns-2
-    (λ c κs. search needs)
-    (λ c κs. search needs)
-    loop-holds
-    (λ c. omega arith)
-    (λ c. search needs)
-    (λ c. omega arith)
-    (λ c. search needs)
-    (λ c. omega arith)
-    wrong-requires
-    returns-3
-    declares-requires
-    declared-requires
-    declares-requires-2
-    declared-requires-2
-    add-i
-    (λ c. omega arith)
-    loop-again
-    returns-4)
+    (tie.spec Inv-loop μ-loop returns returns-2 (λ c κs. search needs) (λ c κs. search needs) loop-holds
+    (λ c. omega arith) (λ c. search needs) (λ c. omega arith) (λ c. search needs) (λ c. omega arith) wrong-requires
+    returns-3 declares-requires declared-requires declares-requires-2 declared-requires-2 add-i (λ c. omega arith)
+    loop-again returns-4)

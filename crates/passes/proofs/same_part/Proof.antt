@@ -39,16 +39,5 @@ returns-3 c x y s t = same-test _ x y
 pub same-part-spec : {M : Type 1} → statement M
 same-part-spec =
     tie.close
-    (tie.spec
-    (λ c. search needs)
-    (λ c. search needs)
-    returns
-    returns-2
-    (λ c. search needs)
-    part-same-start
-    part-same-end
-    sub-same-2
-    part-same-start-2
-    part-same-end-2
-    same-requires
-    returns-3)
+    (tie.spec (λ c. search needs) (λ c. search needs) returns returns-2 (λ c. search needs) part-same-start
+    part-same-end sub-same-2 part-same-start-2 part-same-end-2 same-requires returns-3)

@@ -16,7 +16,8 @@ use Rattle.passes.proofs.slot_of.Tie as tie
 abbrev Inv-loop : tie.InvT-loop
 Inv-loop file start len names i₀ i =
     (i ≤ mostMethods)
-    × ((titles : List (List ℕ)) (x : List ℕ) → Titles file titles names → Stands file x start len → slotIn titles x ≡ i + slotIn (drop i titles) x)
+    × ((titles : List (List ℕ)) (x : List ℕ) → Titles file titles names → Stands file x start len → slotIn titles x
+    ≡ i + slotIn (drop i titles) x)
 
 abbrev μ-loop : tie.MeasureT-loop
 μ-loop file start len names i₀ i = mostMethods - i
@@ -76,18 +77,6 @@ returns-3 c = (
 pub slot-of-spec : {M : Type 1} → statement M
 slot-of-spec =
     tie.close
-    (tie.spec
-    Inv-loop
-    μ-loop
-    loop-holds
-    (λ c. search needs)
-    element-copy-out-same-part
-    (λ c. search needs)
-    element-copy-out-same-part-2
-    (λ c κs. search needs)
-    returns
-    (λ c. omega arith)
-    loop-less
-    loop-again
-    returns-2
+    (tie.spec Inv-loop μ-loop loop-holds (λ c. search needs) element-copy-out-same-part (λ c. search needs)
+    element-copy-out-same-part-2 (λ c κs. search needs) returns (λ c. omega arith) loop-less loop-again returns-2
     returns-3)

@@ -48,21 +48,6 @@ returns-3 c file ts h n = listing-last h (c .before .loop .inv .1 file ts h n) (
 pub variables-spec : {M : Type 1} → statement M
 variables-spec =
     tie.close
-    (tie.spec
-    Inv-loop
-    μ-loop
-    (λ c κs. search needs)
-    returns
-    returns-2
-    loop-holds
-    (λ c. omega arith)
-    (λ c κs. search needs)
-    (λ c. search needs)
-    (λ c. omega arith)
-    (λ c. search needs)
-    (λ c. omega arith)
-    (λ c κs. search needs)
-    (λ c. omega arith)
-    (λ c. omega arith)
-    loop-again
-    returns-3)
+    (tie.spec Inv-loop μ-loop (λ c κs. search needs) returns returns-2 loop-holds (λ c. omega arith)
+    (λ c κs. search needs) (λ c. search needs) (λ c. omega arith) (λ c. search needs) (λ c. omega arith)
+    (λ c κs. search needs) (λ c. omega arith) (λ c. omega arith) loop-again returns-3)

@@ -18,7 +18,8 @@ returns-2 : tie.Need-returns-2
 unfolding wrongBy kindOf keywordNumber
 returns-2 c vs ms l last t u k b s =
     let n = is-name l (sym k ∙ c .before .before .if1 .left) in
-    rw (n .1, wrong-name last vs ms (n .0), ← b, c .before .if2 .taken) (c .among .ensures ms (n .0) u (s (n .0) (n .1)))
+    rw (n .1, wrong-name last vs ms (n .0), ← b, c .before .if2 .taken)
+    (c .among .ensures ms (n .0) u (s (n .0) (n .1)))
 
 returns-3 : tie.Need-returns-3
 unfolding wrongBy kindOf keywordNumber
@@ -30,7 +31,8 @@ returns-4 : tie.Need-returns-4
 unfolding wrongBy kindOf keywordNumber
 returns-4 c vs ms l last t u k b s =
     let n = is-name l (sym k ∙ c .before .before .before .before .if1 .left) in
-    rw (n .1, wrong-name last vs ms (n .0), ← b, c .if4 .taken) (c .before .among2 .ensures vs (n .0) t (s (n .0) (n .1)))
+    rw (n .1, wrong-name last vs ms (n .0), ← b, c .if4 .taken)
+    (c .before .among2 .ensures vs (n .0) t (s (n .0) (n .1)))
 
 returns-5 : tie.Need-returns-5
 unfolding wrongBy kindOf keywordNumber

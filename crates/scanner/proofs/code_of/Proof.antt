@@ -27,7 +27,8 @@ returns : tie.Need-returns
 unfolding codeOf
 returns c =
     c .word-code .ensures
-    ∙ sym (ap (codeOf (now (c .before .before .before .before .before .args .file))) (c .before .before .token .given .1))
+    ∙ sym (ap (codeOf (now (c .before .before .before .before .before .args .file)))
+    (c .before .before .token .given .1))
 
 returns-2 : tie.Need-returns-2
 unfolding codeOf kindOf valueOf
@@ -44,13 +45,5 @@ returns-4 c = sym (ap (codeOf (now (c .before .before .before .args .file))) (c 
 pub code-of-spec : {M : Type 1} → statement M
 code-of-spec =
     tie.close
-    (tie.spec
-    enum-known-token
-    word-code-requires
-    enum-known-token-2
-    enum-known-token-3
-    enum-told
-    returns
-    returns-2
-    returns-3
-    returns-4)
+    (tie.spec enum-known-token word-code-requires enum-known-token-2 enum-known-token-3 enum-told returns returns-2
+    returns-3 returns-4)

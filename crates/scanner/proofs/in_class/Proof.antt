@@ -20,11 +20,13 @@ returns c = simp (passes, eq-eqb _ _ (c .before .if1 .taken)) (c .is-blank .ensu
 
 returns-2 : tie.Need-returns-2
 unfolding passes
-returns-2 c = simp (passes, ne-eqb _ _ (c .before .before .if1 .left), eq-eqb _ _ (c .before .if2 .taken)) (c .is-word-byte .ensures)
+returns-2 c = simp (passes, ne-eqb _ _ (c .before .before .if1 .left), eq-eqb _ _ (c .before .if2 .taken))
+    (c .is-word-byte .ensures)
 
 returns-3 : tie.Need-returns-3
 unfolding passes
-returns-3 c = simp (passes, ne-eqb _ _ (c .before .before .if1 .left), ne-eqb _ _ (c .before .if2 .left)) (c .is-digit .ensures)
+returns-3 c = simp (passes, ne-eqb _ _ (c .before .before .if1 .left), ne-eqb _ _ (c .before .if2 .left))
+    (c .is-digit .ensures)
 
 pub in-class-spec : {M : Type 1} → statement M
 in-class-spec =

@@ -1,4 +1,5 @@
--- `scanner::is_word` meets its contract. The loop's invariant: what is left of both is the same exactly where the whole is.
+-- `scanner::is_word` meets its contract. The loop's invariant: what is left of both is the same exactly where the whole
+-- is.
 use Prim.Native.Nat.{_-_}
 use mathlib.Core.Path.{_≡_, refl, sym, _∙_}
 use borrow.Author.Needs.{needs}
@@ -53,20 +54,11 @@ loop-again c =
 returns-3 : tie.Need-returns-3 Inv-loop μ-loop
 returns-3 c =
     let a = c .before .before .before .args in
-    sym (sym (c .before .loop .inv) ∙ same-end (now (a .word)) (now (a .part)) (c .before .loop .i) (search needs) (search needs))
+    sym (sym (c .before .loop .inv) ∙ same-end (now (a .word)) (now (a .part)) (c .before .loop .i) (search needs)
+    (search needs))
 
 pub is-word-spec : {M : Type 1} → statement M
 is-word-spec =
     tie.close
-    (tie.spec
-    Inv-loop
-    μ-loop
-    returns
-    loop-holds
-    shared-slice-read-if2
-    shared-slice-read-if2-2
-    returns-2
-    add-i
-    loop-less
-    loop-again
-    returns-3)
+    (tie.spec Inv-loop μ-loop returns loop-holds shared-slice-read-if2 shared-slice-read-if2-2 returns-2 add-i loop-less
+    loop-again returns-3)

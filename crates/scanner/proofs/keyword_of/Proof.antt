@@ -1,4 +1,5 @@
--- `scanner::keyword_of` meets its contract: the place among the first five reserved words, or among the other five behind them.
+-- `scanner::keyword_of` meets its contract: the place among the first five reserved words, or among the other five
+-- behind them.
 use Prim.Native.Nat.{_≤_}
 use native.Mathlib.Omega.{arith}
 use borrow.Author.Needs.{needs}
@@ -26,6 +27,6 @@ returns-2 c =
 pub keyword-of-spec : {M : Type 1} → statement M
 keyword-of-spec =
     tie.close
-    (tie.spec
-    (λ c. search needs) (λ c. search needs) (λ c. search needs) (λ c. search needs) (λ c. search needs) (λ c κs. search needs) returns
-    (λ c. search needs) (λ c. search needs) (λ c. search needs) (λ c. search needs) (λ c. search needs) (λ c κs. search needs) add-result returns-2)
+    (tie.spec (λ c. search needs) (λ c. search needs) (λ c. search needs) (λ c. search needs) (λ c. search needs)
+    (λ c κs. search needs) returns (λ c. search needs) (λ c. search needs) (λ c. search needs) (λ c. search needs)
+    (λ c. search needs) (λ c κs. search needs) add-result returns-2)

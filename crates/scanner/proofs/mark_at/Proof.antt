@@ -1,4 +1,5 @@
--- `scanner::mark_at` meets its contract: no mark looks past two bytes, and none has the byte 0 that stands for the file's end.
+-- `scanner::mark_at` meets its contract: no mark looks past two bytes, and none has the byte 0 that stands for the
+-- file's end.
 use borrow.Author.Needs.{needs}
 use Prim.Native.Nat.{_+_, _≤_}
 use mathlib.Core.Path.{_≡_, sym, ap, _∙_}
@@ -16,7 +17,10 @@ use Rattle.scanner.proofs.mark_at.Tie as tie
 
 -- the mark that was found is that of the file at the place
 here : (c : tie.After-mark-of)
-    → c .mark-of .result ≡ marked (markOf marks (drop (c .before .before .before .before .args .start) (now (c .before .before .before .before .args .file))))
+    → c .mark-of .result
+    ≡ marked
+    (markOf marks
+    (drop (c .before .before .before .before .args .start) (now (c .before .before .before .before .args .file))))
 here c =
     let a = c .before .before .before .before .args in
     c .mark-of .ensures
@@ -67,13 +71,5 @@ returns-2 c =
 pub mark-at-spec : {M : Type 1} → statement M
 mark-at-spec =
     tie.close
-    (tie.spec
-    shared-slice-read-mark-of
-    add-byte-at
-    byte-at-requires
-    mark-of-requires
-    none-at-requires
-    add-found
-    found-requires
-    returns
-    returns-2)
+    (tie.spec shared-slice-read-mark-of add-byte-at byte-at-requires mark-of-requires none-at-requires add-found
+    found-requires returns returns-2)

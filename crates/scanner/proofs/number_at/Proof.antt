@@ -1,4 +1,5 @@
--- `scanner::number_at` meets its contract: the digits that lead are a part of the file, of which `value_of` gives the value.
+-- `scanner::number_at` meets its contract: the digits that lead are a part of the file, of which `value_of` gives the
+-- value.
 use borrow.Author.Needs.{needs}
 use Prim.Native.Nat.{ℕ, _-_}
 use mathlib.Core.Path.{_≡_, sym, ap, _∙_}
@@ -70,14 +71,5 @@ returns-2 c =
 pub number-at-spec : {M : Type 1} → statement M
 number-at-spec =
     tie.close
-    (tie.spec
-    run-end-requires
-    sub-if1
-    none-at-requires
-    sub-value-of
-    part-value-of-start
-    part-value-of-end
-    value-of-requires
-    found-requires
-    returns
-    returns-2)
+    (tie.spec run-end-requires sub-if1 none-at-requires sub-value-of part-value-of-start part-value-of-end
+    value-of-requires found-requires returns returns-2)

@@ -1,4 +1,5 @@
--- `scanner::place_of` meets its contract: each test that fails passes one word of the list, and the one that holds names it.
+-- `scanner::place_of` meets its contract: each test that fails passes one word of the list, and the one that holds
+-- names it.
 use borrow.Author.Needs.{needs}
 use Rattle.scanner.proofs.Scanning.{hit, miss, no-place}
 use Rattle.scanner.proofs.place_of.Statement.{statement}
@@ -17,7 +18,8 @@ returns-3 c =
     let b = c .before .before in
     let a = b .before .before in
     miss _ _ _ (a .before .is-word .ensures) (a .if1 .left)
-    (miss _ _ _ (b .before .is-word2 .ensures) (b .if2 .left) (hit _ _ _ (c .before .is-word3 .ensures) (c .if3 .taken)))
+    (miss _ _ _ (b .before .is-word2 .ensures) (b .if2 .left)
+    (hit _ _ _ (c .before .is-word3 .ensures) (c .if3 .taken)))
 
 returns-4 : tie.Need-returns-4
 returns-4 c =
@@ -26,7 +28,8 @@ returns-4 c =
     let a = b .before .before in
     miss _ _ _ (a .before .is-word .ensures) (a .if1 .left)
     (miss _ _ _ (b .before .is-word2 .ensures) (b .if2 .left)
-    (miss _ _ _ (d .before .is-word3 .ensures) (d .if3 .left) (hit _ _ _ (c .before .is-word4 .ensures) (c .if4 .taken))))
+    (miss _ _ _ (d .before .is-word3 .ensures) (d .if3 .left)
+    (hit _ _ _ (c .before .is-word4 .ensures) (c .if4 .taken))))
 
 returns-5 : tie.Need-returns-5
 returns-5 c =
@@ -37,7 +40,8 @@ returns-5 c =
     miss _ _ _ (a .before .is-word .ensures) (a .if1 .left)
     (miss _ _ _ (b .before .is-word2 .ensures) (b .if2 .left)
     (miss _ _ _ (d .before .is-word3 .ensures) (d .if3 .left)
-    (miss _ _ _ (e .before .is-word4 .ensures) (e .if4 .left) (hit _ _ _ (c .before .is-word5 .ensures) (c .if5 .taken)))))
+    (miss _ _ _ (e .before .is-word4 .ensures) (e .if4 .left)
+    (hit _ _ _ (c .before .is-word5 .ensures) (c .if5 .taken)))))
 
 returns-6 : tie.Need-returns-6
 returns-6 c =
@@ -48,9 +52,11 @@ returns-6 c =
     miss _ _ _ (a .before .is-word .ensures) (a .if1 .left)
     (miss _ _ _ (b .before .is-word2 .ensures) (b .if2 .left)
     (miss _ _ _ (d .before .is-word3 .ensures) (d .if3 .left)
-    (miss _ _ _ (e .before .is-word4 .ensures) (e .if4 .left) (miss _ _ _ (c .before .is-word5 .ensures) (c .if5 .left) (no-place _)))))
+    (miss _ _ _ (e .before .is-word4 .ensures) (e .if4 .left)
+    (miss _ _ _ (c .before .is-word5 .ensures) (c .if5 .left) (no-place _)))))
 
 pub place-of-spec : {M : Type 1} → statement M
 place-of-spec =
     tie.close
-    (tie.spec (λ c κs. search needs) (λ c κs. search needs) (λ c κs. search needs) (λ c κs. search needs) (λ c κs. search needs) returns returns-2 returns-3 returns-4 returns-5 returns-6)
+    (tie.spec (λ c κs. search needs) (λ c κs. search needs) (λ c κs. search needs) (λ c κs. search needs)
+    (λ c κs. search needs) returns returns-2 returns-3 returns-4 returns-5 returns-6)

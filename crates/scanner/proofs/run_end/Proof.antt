@@ -1,4 +1,5 @@
--- `scanner::run_end` meets its contract. The loop's invariant: the place and what leads there are the first place and what leads there.
+-- `scanner::run_end` meets its contract. The loop's invariant: the place and what leads there are the first place and
+-- what leads there.
 use Prim.Native.Nat.{_+_, _-_}
 use mathlib.Core.Path.{_≡_, refl, sym, _∙_}
 use native.Mathlib.Omega.{arith}
@@ -34,7 +35,8 @@ returns c =
     let a = c .before .before .before .before .before .before .args in
     omega (
       arith,
-      leading-stop-at (passes (a .class)) (now (a .file)) i (search needs) (sym (c .before .in-class .ensures) ∙ not-true _ (c .if1 .taken)),
+      leading-stop-at (passes (a .class)) (now (a .file)) i (search needs) (sym (c .before .in-class .ensures)
+          ∙ not-true _ (c .if1 .taken)),
     )
 
 add-i : tie.Need-add-i Inv-loop μ-loop
@@ -49,7 +51,8 @@ loop-again c =
     let a = c .before .before .before .before .before .before .args in
     omega (
       arith,
-      leading-more-at (passes (a .class)) (now (a .file)) i (search needs) (sym (c .before .in-class .ensures) ∙ not-false _ (c .if1 .left)),
+      leading-more-at (passes (a .class)) (now (a .file)) i (search needs) (sym (c .before .in-class .ensures)
+          ∙ not-false _ (c .if1 .left)),
     )
 
 returns-2 : tie.Need-returns-2 Inv-loop μ-loop
@@ -60,14 +63,5 @@ returns-2 c =
 pub run-end-spec : {M : Type 1} → statement M
 run-end-spec =
     tie.close
-    (tie.spec
-    Inv-loop
-    μ-loop
-    loop-holds
-    shared-slice-read-in-class
-    in-class-requires
-    returns
-    add-i
-    loop-less
-    loop-again
+    (tie.spec Inv-loop μ-loop loop-holds shared-slice-read-in-class in-class-requires returns add-i loop-less loop-again
     returns-2)

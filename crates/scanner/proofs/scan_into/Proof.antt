@@ -1,5 +1,6 @@
--- `scanner::scan_into` meets its contract. The loop's invariant, `Held`: the numbers of the tokens so far are in the slices, and those tokens
--- in front of the tokens of what is left are the file's. Each token has a byte of its own, so that 8,192 of them end the file.
+-- `scanner::scan_into` meets its contract. The loop's invariant, `Held`: the numbers of the tokens so far are in the
+-- slices, and those tokens in front of the tokens of what is left are the file's. Each token has a byte of its own, so
+-- that 8,192 of them end the file.
 use Prim.Native.Nat.{ℕ, _-_, _<_}
 use mathlib.Core.Path.{_≡_}
 use mathlib.Core.List.{List}
@@ -8,13 +9,15 @@ use borrow.Author.Needs.{needs}
 use denote.Ref.{now}
 use lib.ListN.{length, length-set}
 use Rattle.scanner.specs.Step.{stepAt}
-use Rattle.scanner.proofs.Tokens.{Held, Taken, held-none, held-one, taken, ended-bad, ended-all, tokens-end, scans-all, scans-bad, scans-long}
+use Rattle.scanner.proofs.Tokens.{Held, Taken, held-none, held-one, taken, ended-bad, ended-all, tokens-end}
+use Rattle.scanner.proofs.Tokens.{scans-all, scans-bad, scans-long}
 use Rattle.scanner.proofs.scan_into.Statement.{statement}
 use Rattle.scanner.proofs.scan_into.Tie as tie
 
 abbrev Inv-loop : tie.InvT-loop
 Inv-loop file kinds₀ values₀ places₀ cursor₀ n₀ kinds values places cursor n =
-    Held file kinds values places n (cursor .at) × (length kinds ≡ 8192) × (length values ≡ 8192) × (length places ≡ 8192)
+    Held file kinds values places n (cursor .at) × (length kinds ≡ 8192) × (length values ≡ 8192)
+    × (length places ≡ 8192)
 
 abbrev μ-loop : tie.MeasureT-loop
 μ-loop file kinds₀ values₀ places₀ cursor₀ n₀ kinds values places cursor n = 8192 - n
@@ -40,8 +43,12 @@ new-requires c κs = search needs
 loop-holds : tie.Need-loop-holds Inv-loop μ-loop
 loop-holds c =
     let a = c .before .before .before .before .before .before .args in
-    let p = c .before .before .before .before .before .before .pre in
-    (rw (c .new .ensures) (held-none (now (a .file)) (now (a .kinds)) (now (a .values)) (now (a .places))), p .0, p .1, p .2)
+    let p = c .before .before .before .before .before .before .pre in (
+      rw (c .new .ensures) (held-none (now (a .file)) (now (a .kinds)) (now (a .values)) (now (a .places))),
+      p .0,
+      p .1,
+      p .2,
+    )
 
 read-token-requires : tie.Need-read-token-requires Inv-loop μ-loop
 read-token-requires c κs = search needs
@@ -117,7 +124,8 @@ loop-again c =
     let g = c .before .before .before .before .before .before in
     let file = file-of g in (
       rw (c .code-of .ensures, c .before .before .before .before .read-token .ensures)
-          (held-one file _ _ _ _ _ (g .loop .inv .0) _ (token-taken (c .before)) (omega arith) (omega arith) (omega arith)),
+          (held-one file _ _ _ _ _ (g .loop .inv .0) _ (token-taken (c .before)) (omega arith) (omega arith)
+          (omega arith)),
       simp length-set (g .loop .inv .1),
       simp length-set (g .loop .inv .2),
       simp length-set (g .loop .inv .3),
@@ -141,32 +149,7 @@ returns-4 c =
 pub scan-into-spec : {M : Type 1} → statement M
 scan-into-spec =
     tie.close
-    (tie.spec
-    Inv-loop
-    μ-loop
-    returns
-    new-requires
-    loop-holds
-    read-token-requires
-    same-length
-    same-length-2
-    same-length-3
-    returns-2
-    same-length-4
-    same-length-5
-    same-length-6
-    returns-3
-    code-of-requires
-    slice-write-kinds
-    mul-values
-    slice-write-values
-    cast-places
-    mul-places
-    slice-write-places
-    add-n
-    loop-less
-    loop-again
-    same-length-7
-    same-length-8
-    same-length-9
-    returns-4)
+    (tie.spec Inv-loop μ-loop returns new-requires loop-holds read-token-requires same-length same-length-2
+    same-length-3 returns-2 same-length-4 same-length-5 same-length-6 returns-3 code-of-requires slice-write-kinds
+    mul-values slice-write-values cast-places mul-places slice-write-places add-n loop-less loop-again same-length-7
+    same-length-8 same-length-9 returns-4)

@@ -38,7 +38,8 @@ returns-2 c =
     let a = c .before .before .before .before .before .before .args in
     c .word-at .ensures
     ∙ ap (stepOf (a .start))
-    (sym (scan-word (now (a .file)) (a .start) (search needs) (sym (c .before .before .is-letter .ensures) ∙ c .before .if2 .taken)))
+    (sym (scan-word (now (a .file)) (a .start) (search needs) (sym (c .before .before .is-letter .ensures)
+    ∙ c .before .if2 .taken)))
 
 returns-3 : tie.Need-returns-3
 returns-3 c =
@@ -61,15 +62,5 @@ returns-4 c =
 pub token-at-spec : {M : Type 1} → statement M
 token-at-spec =
     tie.close
-    (tie.spec
-    none-at-requires
-    returns
-    shared-slice-read-first
-    is-letter-requires
-    word-at-requires
-    is-digit-requires
-    number-at-requires
-    mark-at-requires
-    returns-2
-    returns-3
-    returns-4)
+    (tie.spec none-at-requires returns shared-slice-read-first is-letter-requires word-at-requires is-digit-requires
+    number-at-requires mark-at-requires returns-2 returns-3 returns-4)

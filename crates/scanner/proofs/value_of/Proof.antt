@@ -1,5 +1,5 @@
--- `scanner::value_of` meets its contract. The loop's invariant: the value so far goes on to the whole's, what is left are digits, and i digits
--- are below 10 ^ i.
+-- `scanner::value_of` meets its contract. The loop's invariant: the value so far goes on to the whole's, what is left
+-- are digits, and i digits are below 10 ^ i.
 use Prim.Native.Nat.{_+_, _-_, _^_, _≤_, _<_}
 use native.Mathlib.Numerals.{add-one}
 use mathlib.Core.Path.{_≡_, refl, sym, _∙_}
@@ -8,7 +8,8 @@ use borrow.Author.Needs.{needs}
 use denote.Ref.{now}
 use lib.ListN.{length, drop, getD}
 use Rattle.syntax.specs.Bytes.{decimal, digit, leading}
-use Rattle.scanner.proofs.FirstElement.{leading-more-at, passes-at, digit-bounds, decimal-at, decimal-end, power-at-most}
+use Rattle.scanner.proofs.FirstElement.{leading-more-at, passes-at, digit-bounds, decimal-at, decimal-end}
+use Rattle.scanner.proofs.FirstElement.{power-at-most}
 use Rattle.scanner.proofs.value_of.Statement.{statement}
 use Rattle.scanner.proofs.value_of.Tie as tie
 
@@ -64,21 +65,12 @@ loop-again c =
     )
 
 returns : tie.Need-returns Inv-loop μ-loop
-returns c = sym (decimal-end (c .before .loop .n) (now (c .before .before .args .part)) (c .before .loop .i) (search needs)) ∙ c .before .loop .inv .0
+returns c =
+    sym (decimal-end (c .before .loop .n) (now (c .before .before .args .part)) (c .before .loop .i) (search needs))
+    ∙ c .before .loop .inv .0
 
 pub value-of-spec : {M : Type 1} → statement M
 value-of-spec =
     tie.close
-    (tie.spec
-    Inv-loop
-    μ-loop
-    loop-holds
-    mul-n
-    shared-slice-read-n
-    cast-n
-    sub-n
-    add-n
-    add-i
-    loop-less
-    loop-again
+    (tie.spec Inv-loop μ-loop loop-holds mul-n shared-slice-read-n cast-n sub-n add-n add-i loop-less loop-again
     returns)

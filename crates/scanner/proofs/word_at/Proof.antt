@@ -29,7 +29,8 @@ returns : tie.Need-returns
 unfolding passes
 returns c =
     let a = c .before .before .before .before .args in
-    c .none-at .ensures ∙ ap (stepOf (a .start)) (sym (over 16 _ _ (omega (arith, c .before .before .run-end .ensures))))
+    c .none-at .ensures
+    ∙ ap (stepOf (a .start)) (sym (over 16 _ _ (omega (arith, c .before .before .run-end .ensures))))
 
 returns-2 : tie.Need-returns-2
 unfolding passes
@@ -40,7 +41,8 @@ returns-2 c =
     let e = c .before .before .run-end .ensures in
     c .found .ensures
     ∙ ap (λ (e : ℕ). stepTo (token.Word (a .start) e) (a .start) e) e
-    ∙ sym (ap (stepOf (a .start)) (within 16 n _ (omega (arith, e))) ∙ word-step (a .start) n (word-or keywords (take n bs)))
+    ∙ sym (ap (stepOf (a .start)) (within 16 n _ (omega (arith, e)))
+    ∙ word-step (a .start) n (word-or keywords (take n bs)))
 
 pub word-at-spec : {M : Type 1} → statement M
 word-at-spec =

@@ -44,7 +44,8 @@ returns c =
     let n = a .end - a .from in
     let bs = drop (a .from) (now (a .file)) in
     let e : length (take n bs) ≡ n = omega (arith, length-take n bs, length-drop (a .from) (now (a .file))) in
-    rw e at (sym (name-code (word-or keywords (part (c .before))) (sym (c .before .keyword-of .ensures) ∙ c .if1 .taken)))
+    rw e at
+    (sym (name-code (word-or keywords (part (c .before))) (sym (c .before .keyword-of .ensures) ∙ c .if1 .taken)))
 
 returns-2 : tie.Need-returns-2
 returns-2 c =
@@ -54,13 +55,5 @@ returns-2 c =
 pub word-code-spec : {M : Type 1} → statement M
 word-code-spec =
     tie.close
-    (tie.spec
-    sub-keyword-of
-    part-keyword-of-start
-    part-keyword-of-end
-    keyword-of-requires
-    sub-t11
-    cast-t12
-    add-t13
-    returns
-    returns-2)
+    (tie.spec sub-keyword-of part-keyword-of-start part-keyword-of-end keyword-of-requires sub-t11 cast-t12 add-t13
+    returns returns-2)

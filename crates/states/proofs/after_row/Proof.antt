@@ -33,7 +33,8 @@ loop-holds c = (omega arith, omega arith, refl, λ vs keep q b. (row-none _, λ 
 known-long : (c : tie.Joined1 Inv-loop μ-loop) → length (c .if1 .moves) ≡ 16
 known-long c =
     let i = c .before .before .loop in
-    ⊎-elim (λ w. rw (w .4) (w .2 .kept .1 .1 .1 .1 .1 .1 .1 .1 .0 ∙ i .inv .2)) (λ w. rw (w .1) (i .inv .2)) (c .if1 .came)
+    ⊎-elim (λ w. rw (w .4) (w .2 .kept .1 .1 .1 .1 .1 .1 .1 .1 .0 ∙ i .inv .2)) (λ w. rw (w .1) (i .inv .2))
+    (c .if1 .came)
 
 known-now : (c : tie.Joined1 Inv-loop μ-loop) →
     let i = c .before .before .loop in
@@ -68,18 +69,6 @@ returns c vs keep q b =
 pub after-row-spec : {M : Type 1} → statement M
 after-row-spec =
     tie.close
-    (tie.spec
-    Inv-loop
-    μ-loop
-    loop-holds
-    (λ c. omega arith)
-    (λ c κs. omega arith)
-    (λ c. omega arith)
-    (λ c. omega (arith, known-long c))
-    (λ c. omega arith)
-    (λ c. omega arith)
-    (λ c. omega arith)
-    (λ c. omega arith)
-    loop-again
-    (λ c. c .before .loop .inv .1)
-    returns)
+    (tie.spec Inv-loop μ-loop loop-holds (λ c. omega arith) (λ c κs. omega arith) (λ c. omega arith)
+    (λ c. omega (arith, known-long c)) (λ c. omega arith) (λ c. omega arith) (λ c. omega arith) (λ c. omega arith)
+    loop-again (λ c. c .before .loop .inv .1) returns)

@@ -78,7 +78,8 @@ still : (c : At) (m : Monitor) (keep : List ℤ → Bool) → Fill (loop-of c) m
     → Done m keep (new c) j
 still c m keep f j h =
     row-same (λ s. getD (new c) (j * 4096 + s) 0) (loop-of c .loop .inv .2 m keep f j h)
-    (λ s low. row-before (xs c) (ys c) (R c) (size c) (is-size c) (room c) (whole c) j s h (omega (arith, f .bounded .few-states)))
+    (λ s low. row-before (xs c) (ys c) (R c) (size c) (is-size c) (room c) (whole c) j s h
+    (omega (arith, f .bounded .few-states)))
 
 loop-holds : tie.Need-loop-holds Inv-loop μ-loop
 loop-holds c = (omega arith, omega arith, λ m keep f j h. absurd (omega arith))
@@ -113,26 +114,9 @@ returns-4 c m keep ls codes bounded few counted small bodies numbers l k h =
 pub fill-after-spec : {M : Type 1} → statement M
 fill-after-spec =
     tie.close
-    (tie.spec
-    Inv-loop
-    μ-loop
-    (λ c m keep ls _ _ _ _ _ _ _ l k h. absurd (omega arith))
+    (tie.spec Inv-loop μ-loop (λ c m keep ls _ _ _ _ _ _ _ l k h. absurd (omega arith))
     (λ c m keep ls _ _ _ _ small _ _ l k h. absurd (omega arith))
-    (λ c m keep ls _ bounded _ _ _ _ _ l k h. absurd (omega (arith, bounded .states, bounded .few-states)))
-    loop-holds
-    (λ c. omega arith)
-    (λ c. omega arith)
-    (λ c. omega arith)
-    (λ c. omega arith)
-    (λ c κs. tt)
-    (λ c. omega arith)
-    (λ c. omega arith)
-    (λ c. omega arith)
-    (λ c. omega arith)
-    (λ c. omega arith)
-    after-row-requires
-    (λ c. omega arith)
-    (λ c. omega arith)
-    loop-again
-    (λ c. c .before .loop .inv .1)
-    returns-4)
+    (λ c m keep ls _ bounded _ _ _ _ _ l k h. absurd (omega (arith, bounded .states, bounded .few-states))) loop-holds
+    (λ c. omega arith) (λ c. omega arith) (λ c. omega arith) (λ c. omega arith) (λ c κs. tt) (λ c. omega arith)
+    (λ c. omega arith) (λ c. omega arith) (λ c. omega arith) (λ c. omega arith) after-row-requires (λ c. omega arith)
+    (λ c. omega arith) loop-again (λ c. c .before .loop .inv .1) returns-4)

@@ -1,5 +1,5 @@
--- `states::fill_holds` meets its contract. The loop's invariant: the guards that hold at each state below s are held, and between the
--- first of sixteen states and the next first what is known is the guards' truth at those.
+-- `states::fill_holds` meets its contract. The loop's invariant: the guards that hold at each state below s are held,
+-- and between the first of sixteen states and the next first what is known is the guards' truth at those.
 use Prim.Native.Nat.{ℕ, _-_, _*_, _/_, _≤_, _<_}
 use native.Mathlib.Omega.{arith}
 use mathlib.Core.Path.{_≡_, refl, _∙_}
@@ -21,7 +21,8 @@ abbrev Inv-loop : tie.InvT-loop
 Inv-loop kinds values bounds ats count holds₀ states known₀ s₀ holds known s =
     (s ≤ states) × (length holds ≡ length holds₀) × (length known ≡ 16)
     × ((m : Monitor) → Guards m kinds values bounds ats count
-    → ((k : ℕ) → k < s → k < state.count (vars m) → (g : ℕ) → g < length (guards m) → member (getD holds k 0) g ≡ model.holds m g k)
+    → ((k : ℕ) → k < s → k < state.count (vars m) → (g : ℕ) → g < length (guards m) → member (getD holds k 0) g
+    ≡ model.holds m g k)
     × Known (vars m) (Truths m known) s)
 
 abbrev μ-loop : tie.MeasureT-loop
@@ -68,7 +69,8 @@ loop-again c =
       known-long (c .before .before),
       λ m given.
           let known = known-now (c .before .before) m given in (
-            stored (λ k x. k < state.count (vars m) → (g : ℕ) → g < length (guards m) → member x g ≡ model.holds m g k) (i .holds) (i .s)
+            stored (λ k x. k < state.count (vars m) → (g : ℕ) → g < length (guards m) → member x g ≡ model.holds m g k)
+                (i .holds) (i .s)
                 (c .guards-in .result) (omega arith) (i .inv .3 m given .0)
                 (λ low g h. c .guards-in .ensures g (omega (arith, given .counted)) ∙ known-at (i .s) known low g h),
             known-next (i .s) known,
@@ -87,23 +89,9 @@ returns-4 c m given long g s h low =
 pub fill-holds-spec : {M : Type 1} → statement M
 fill-holds-spec =
     tie.close
-    (tie.spec
-    Inv-loop
-    μ-loop
-    returns
-    returns-2
-    returns-3
-    loop-holds
-    (λ c κs. omega arith)
+    (tie.spec Inv-loop μ-loop returns returns-2 returns-3 loop-holds (λ c κs. omega arith)
     (λ c. omega (arith, c .before .before .before .before .before .before))
     (λ c κs. omega (arith, c .before .before .before .before .before .before))
-    (λ c. omega (arith, known-long (c .before)))
-    (λ c. omega arith)
-    (λ c κs. omega (arith, known-long (c .before), c .before .before .before .before))
-    (λ c. omega arith)
-    (λ c. omega arith)
-    (λ c. omega arith)
-    (λ c. omega arith)
-    loop-again
-    same-length
-    returns-4)
+    (λ c. omega (arith, known-long (c .before))) (λ c. omega arith)
+    (λ c κs. omega (arith, known-long (c .before), c .before .before .before .before)) (λ c. omega arith)
+    (λ c. omega arith) (λ c. omega arith) (λ c. omega arith) loop-again same-length returns-4)

@@ -1,5 +1,5 @@
--- `states::fill_row` meets its contract. The loop's invariant: the truth at each state below s is held, and between the first of
--- sixteen states and the next first what is known is the truth at those.
+-- `states::fill_row` meets its contract. The loop's invariant: the truth at each state below s is held, and between the
+-- first of sixteen states and the next first what is known is the truth at those.
 use Prim.Native.Nat.{ℕ, _-_, _*_, _/_, _≤_, _<_}
 use native.Mathlib.Omega.{arith}
 use mathlib.Core.Path.{_≡_, ap, _∙_}
@@ -51,7 +51,8 @@ known-now c vs d given =
     record {
       each =
           λ j h low.
-          w .3 .ensures vs (stateAt vs _) (given .ls) (given .us) d j h (given .codes) (w .1 .ensures vs (given .bounded) .each j h low)
+          w .3 .ensures vs (stateAt vs _) (given .ls) (given .us) d j h (given .codes)
+          (w .1 .ensures vs (given .bounded) .each j h low)
           (given .spelled) (given .ends) (omega (arith, given .few));
     }))
     (λ w. rw (w .1) (i .inv .2 vs d given .1 (w .0 .left))) (c .if3 .came)
@@ -63,7 +64,8 @@ loop-again c =
       simp length-set (i .inv .1),
       λ vs d given.
           let known = known-now (c .before .before) vs d given in (
-            stored (λ k x. k < count vs → x ≡ bit (truth d vs (stateAt vs k))) (i .row) (i .s) (c .bit-of .result) (omega arith)
+            stored (λ k x. k < count vs → x ≡ bit (truth d vs (stateAt vs k))) (i .row) (i .s) (c .bit-of .result)
+                (omega arith)
                 (i .inv .2 vs d given .0)
                 (λ low. c .bit-of .ensures ∙ ap bit (c .before .has .ensures ∙ known-at (i .s) known low)),
             known-next (i .s) known,
@@ -82,20 +84,5 @@ returns-3 c vs d given long k h =
 pub fill-row-spec : {M : Type 1} → statement M
 fill-row-spec =
     tie.close
-    (tie.spec
-    Inv-loop
-    μ-loop
-    returns
-    returns-2
-    loop-holds
-    (λ c κs. omega arith)
-    (λ c κs. tt)
-    (λ c. omega arith)
-    (λ c κs. tt)
-    (λ c κs. tt)
-    (λ c. omega arith)
-    (λ c. omega arith)
-    (λ c. omega arith)
-    loop-again
-    same-length
-    returns-3)
+    (tie.spec Inv-loop μ-loop returns returns-2 loop-holds (λ c κs. omega arith) (λ c κs. tt) (λ c. omega arith)
+    (λ c κs. tt) (λ c κs. tt) (λ c. omega arith) (λ c. omega arith) (λ c. omega arith) loop-again same-length returns-3)

@@ -71,22 +71,7 @@ returns-4 c m b counted small numbers l k h o =
 pub first-broken-spec : {M : Type 1} → statement M
 first-broken-spec =
     tie.close
-    (tie.spec
-    Inv-loop
-    μ-loop
-    (λ c m b counted small numbers l k h o. absurd (omega arith))
-    (λ c m b counted small numbers l k h o. absurd (omega arith))
-    loop-holds
-    (λ c. omega arith)
-    (λ c. omega arith)
-    (λ c. omega arith)
-    (λ c. omega arith)
-    (λ c. omega arith)
-    (λ c. omega arith)
-    (λ c. omega arith)
-    (λ c κs. tt)
-    returns-3
-    (λ c. omega arith)
-    (λ c. omega arith)
-    loop-again
-    returns-4)
+    (tie.spec Inv-loop μ-loop (λ c m b counted small numbers l k h o. absurd (omega arith))
+    (λ c m b counted small numbers l k h o. absurd (omega arith)) loop-holds (λ c. omega arith) (λ c. omega arith)
+    (λ c. omega arith) (λ c. omega arith) (λ c. omega arith) (λ c. omega arith) (λ c. omega arith) (λ c κs. tt)
+    returns-3 (λ c. omega arith) (λ c. omega arith) loop-again returns-4)

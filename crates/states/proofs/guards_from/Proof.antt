@@ -33,8 +33,10 @@ loop-again c =
       simp length-set (i .inv .1),
       λ m bounds s j given low b.
           let t = given .places (i .g) (omega (arith, given .counted)) in
-          stored (λ u x. Truth (vars m) (getD (guards m) u noGuard) x j s) (i .known) (i .g) (c .holds .result) (omega arith) (i .inv .2 m bounds s j given low b)
-          (c .holds .ensures (vars m) (stateAt (vars m) s) (given .ls) (t .0) (getD (guards m) (i .g) noGuard) j low (given .codes) b
+          stored (λ u x. Truth (vars m) (getD (guards m) u noGuard) x j s) (i .known) (i .g) (c .holds .result)
+          (omega arith) (i .inv .2 m bounds s j given low b)
+          (c .holds .ensures (vars m) (stateAt (vars m) s) (given .ls) (t .0) (getD (guards m) (i .g) noGuard) j low
+          (given .codes) b
           (rw (c .before .wide .ensures) (t .1)) (t .2) (omega (arith, given .few))),
     )
 
@@ -44,24 +46,12 @@ same-length c = c .before .loop .inv .1
 returns : tie.Need-returns Inv-loop μ-loop
 returns c m bounds from given lanes =
     record {
-      each = λ j h low u below. c .before .loop .inv .2 m bounds _ j given h (lanes .each j h low) u (omega (arith, given .counted));
+      each = λ j h low u below. c .before .loop .inv .2 m bounds _ j given h (lanes .each j h low) u
+          (omega (arith, given .counted));
     }
 
 pub guards-from-spec : {M : Type 1} → statement M
 guards-from-spec =
     tie.close
-    (tie.spec
-    Inv-loop
-    μ-loop
-    loop-holds
-    (λ c. omega arith)
-    (λ c. omega arith)
-    (λ c κs. tt)
-    (λ c κs. tt)
-    (λ c. omega arith)
-    (λ c. omega arith)
-    (λ c. omega arith)
-    (λ c. omega arith)
-    loop-again
-    same-length
-    returns)
+    (tie.spec Inv-loop μ-loop loop-holds (λ c. omega arith) (λ c. omega arith) (λ c κs. tt) (λ c κs. tt)
+    (λ c. omega arith) (λ c. omega arith) (λ c. omega arith) (λ c. omega arith) loop-again same-length returns)

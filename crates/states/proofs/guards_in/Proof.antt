@@ -1,4 +1,5 @@
--- `states::guards_in` meets its contract. The loop's invariant: of the guards below g those that hold are members, and no other.
+-- `states::guards_in` meets its contract. The loop's invariant: of the guards below g those that hold are members, and
+-- no other.
 use Prim.Native.Nat.{ℕ, _-_, _≤_, _<_}
 use native.Mathlib.Omega.{arith}
 use mathlib.Core.Path.{_≡_, refl, sym, _∙_}
@@ -14,7 +15,8 @@ use Rattle.states.proofs.guards_in.Tie as tie
 
 abbrev Inv-loop : tie.InvT-loop
 Inv-loop known j count set₀ g₀ set g =
-    (g ≤ count) × ((u : ℕ) → u < g → member set u ≡ member (getD known u 0) j) × ((u : ℕ) → g ≤ u → member set u ≡ false)
+    (g ≤ count) × ((u : ℕ) → u < g → member set u ≡ member (getD known u 0) j)
+    × ((u : ℕ) → g ≤ u → member set u ≡ false)
 
 abbrev μ-loop : tie.MeasureT-loop
 μ-loop known j count set₀ g₀ set g = count - g
@@ -32,7 +34,10 @@ one-more c =
     let i = c .before .before .before .before .loop in
     let has = c .before .has in
     ⊎-elim
-    (λ w. rw (w .2) (with-here _ _ (i .g) (w .1 .ensures) (omega arith) ∙ sym (w .0 .taken) ∙ has .ensures, with-other _ _ (i .g) (w .1 .ensures)))
+    (λ w. rw (w .2) (
+      with-here _ _ (i .g) (w .1 .ensures) (omega arith) ∙ sym (w .0 .taken) ∙ has .ensures,
+      with-other _ _ (i .g) (w .1 .ensures),
+    ))
     (λ w. rw (w .1) (i .inv .2 (i .g) (omega arith) ∙ sym (w .0 .left) ∙ has .ensures, λ u n. refl)) (c .if1 .came)
 
 loop-again : tie.Need-loop-again Inv-loop μ-loop
@@ -50,16 +55,5 @@ returns c u h = c .before .loop .inv .1 u (omega arith)
 pub guards-in-spec : {M : Type 1} → statement M
 guards-in-spec =
     tie.close
-    (tie.spec
-    Inv-loop
-    μ-loop
-    loop-holds
-    (λ c. omega arith)
-    (λ c. omega arith)
-    (λ c κs. tt)
-    (λ c. omega arith)
-    (λ c κs. tt)
-    (λ c. omega arith)
-    (λ c. omega arith)
-    loop-again
-    returns)
+    (tie.spec Inv-loop μ-loop loop-holds (λ c. omega arith) (λ c. omega arith) (λ c κs. tt) (λ c. omega arith)
+    (λ c κs. tt) (λ c. omega arith) (λ c. omega arith) loop-again returns)

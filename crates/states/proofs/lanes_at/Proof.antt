@@ -1,4 +1,5 @@
--- `states::lanes_at` meets its contract. The loop's invariant: the values of the states before lane j stand in their lanes.
+-- `states::lanes_at` meets its contract. The loop's invariant: the values of the states before lane j stand in their
+-- lanes.
 use Prim.Native.Nat.{ℕ, _+_, _-_, _≤_, _<_}
 use native.Mathlib.Omega.{arith}
 use mathlib.Core.Path.{_≡_, refl, _∙_}
@@ -56,15 +57,5 @@ returns c vs b =
 pub lanes-at-spec : {M : Type 1} → statement M
 lanes-at-spec =
     tie.close
-    (tie.spec
-    Inv-loop
-    μ-loop
-    loop-holds
-    (λ c. omega arith)
-    (λ c κs. tt)
-    (λ c. omega arith)
-    (λ c κs. omega arith)
-    (λ c. omega arith)
-    (λ c. omega arith)
-    loop-again
-    returns)
+    (tie.spec Inv-loop μ-loop loop-holds (λ c. omega arith) (λ c κs. tt) (λ c. omega arith) (λ c κs. omega arith)
+    (λ c. omega arith) (λ c. omega arith) loop-again returns)

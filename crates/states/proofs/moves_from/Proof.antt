@@ -41,12 +41,14 @@ loop-again c =
       omega arith,
       simp length-set (i .inv .1),
       λ vs keep q b.
-          stored (λ k x. from + k < count vs → Moved vs keep q (from + k) x) (i .moves) (i .j) (c .moved .result) (omega (arith, start .pre))
+          stored (λ k x. from + k < count vs → Moved vs keep q (from + k) x) (i .moves) (i .j) (c .moved .result)
+          (omega (arith, start .pre))
           (i .inv .2 vs keep q b)
           (λ low.
           c .moved .ensures vs keep q _ _ _ b low
           (g .run-body .ensures vs (stateAt vs (from + i .j)) (b .ls) (b .us) (q .body) (i .j) (omega arith) (b .codes)
-          (g .before .lanes-at .ensures vs (b .bounded) .each (i .j) (omega arith) low) (b .bounded .ranges) (b .spelled) (omega (arith, b .few)))),
+          (g .before .lanes-at .ensures vs (b .bounded) .each (i .j) (omega arith) low) (b .bounded .ranges)
+          (b .spelled) (omega (arith, b .few)))),
     )
 
 returns-2 : tie.Need-returns-2 Inv-loop μ-loop
@@ -55,20 +57,6 @@ returns-2 c vs keep q b = record { each = λ i h low. c .before .loop .inv .2 vs
 pub moves-from-spec : {M : Type 1} → statement M
 moves-from-spec =
     tie.close
-    (tie.spec
-    Inv-loop
-    μ-loop
-    (λ c κs. omega arith)
-    (λ c κs. tt)
-    loop-holds
-    (λ c. omega arith)
-    (λ c. c .before .before .loop .inv .1)
-    returns
-    (λ c κs. omega arith)
-    (λ c. omega arith)
-    (λ c. omega arith)
-    (λ c. omega arith)
-    (λ c. omega arith)
-    loop-again
-    (λ c. c .before .loop .inv .1)
-    returns-2)
+    (tie.spec Inv-loop μ-loop (λ c κs. omega arith) (λ c κs. tt) loop-holds (λ c. omega arith)
+    (λ c. c .before .before .loop .inv .1) returns (λ c κs. omega arith) (λ c. omega arith) (λ c. omega arith)
+    (λ c. omega arith) (λ c. omega arith) loop-again (λ c. c .before .loop .inv .1) returns-2)

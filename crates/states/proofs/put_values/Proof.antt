@@ -1,4 +1,5 @@
--- `states::put_values` meets its contract. The loop's invariant: the values below k stand at their places, and all else is as it was.
+-- `states::put_values` meets its contract. The loop's invariant: the values below k stand at their places, and all else
+-- is as it was.
 use Prim.Native.Nat.{ℕ, _+_, _-_, _*_, _≤_, _<_}
 use native.Mathlib.Omega.{arith}
 use mathlib.Core.Path.{_≡_, refl, _∙_}
@@ -10,7 +11,8 @@ use Rattle.states.proofs.put_values.Tie as tie
 
 abbrev Inv-loop : tie.InvT-loop
 Inv-loop all₀ at values k₀ all k =
-    (k ≤ 6) × (length all ≡ length all₀) × ((i : ℕ) → i < k → (n : ℕ) → n ≡ at + i * 16 → getD all n 0 ≡ getD values i 0)
+    (k ≤ 6) × (length all ≡ length all₀) × ((i : ℕ) → i < k → (n : ℕ) → n ≡ at + i * 16
+    → getD all n 0 ≡ getD values i 0)
     × ((n : ℕ) → ((i : ℕ) → i < k → n ≡ at + i * 16 → ⊥) → getD all n 0 ≡ getD all₀ n 0)
 
 abbrev μ-loop : tie.MeasureT-loop
@@ -47,18 +49,5 @@ returns c =
 pub put-values-spec : {M : Type 1} → statement M
 put-values-spec =
     tie.close
-    (tie.spec
-    Inv-loop
-    μ-loop
-    loop-holds
-    (λ c. omega arith)
-    (λ c. omega arith)
-    (λ c. omega arith)
-    (λ c. omega arith)
-    (λ c. omega arith)
-    (λ c. omega arith)
-    (λ c. omega arith)
-    (λ c. omega arith)
-    loop-again
-    same-length
-    returns)
+    (tie.spec Inv-loop μ-loop loop-holds (λ c. omega arith) (λ c. omega arith) (λ c. omega arith) (λ c. omega arith)
+    (λ c. omega arith) (λ c. omega arith) (λ c. omega arith) (λ c. omega arith) loop-again same-length returns)

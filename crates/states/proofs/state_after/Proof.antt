@@ -44,12 +44,5 @@ returns-3 c vs q s b low run = at-number (c .before) q s b low run .1
 pub state-after-spec : {M : Type 1} → statement M
 state-after-spec =
     tie.close
-    (tie.spec
-    (λ c. search needs)
-    (λ c κs. tt)
-    returns
-    (λ c κs. search needs)
-    (λ c κs. tt)
-    returns-2
-    (λ c. search needs)
+    (tie.spec (λ c. search needs) (λ c κs. tt) returns (λ c κs. search needs) (λ c κs. tt) returns-2 (λ c. search needs)
     returns-3)

@@ -26,7 +26,8 @@ returns-2 c =
     c .before .either2 .ensures
     ∙ sym
     (acts-some (a .code) (a .holds) (a .first) (c .before .before .before .if1 .left)
-    ∙ ap (λ (b : Bool). b && (eqb (a .code / 4 % 2) 1 || a .first)) (sym (c .before .before .either .ensures) ∙ c .if2 .taken))
+    ∙ ap (λ (b : Bool). b && (eqb (a .code / 4 % 2) 1 || a .first)) (sym (c .before .before .either .ensures)
+    ∙ c .if2 .taken))
 
 returns-3 : tie.Need-returns-3
 returns-3 c =
@@ -34,7 +35,8 @@ returns-3 c =
     c .if2 .left
     ∙ sym
     (acts-some (a .code) (a .holds) (a .first) (c .before .before .before .if1 .left)
-    ∙ ap (λ (b : Bool). b && (eqb (a .code / 4 % 2) 1 || a .first)) (sym (c .before .before .either .ensures) ∙ c .if2 .left))
+    ∙ ap (λ (b : Bool). b && (eqb (a .code / 4 % 2) 1 || a .first)) (sym (c .before .before .either .ensures)
+    ∙ c .if2 .left))
 
 pub acts-spec : {M : Type 1} → statement M
 acts-spec = tie.close (tie.spec returns either-requires either-requires-2 returns-2 returns-3)

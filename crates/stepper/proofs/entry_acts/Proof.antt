@@ -53,43 +53,33 @@ enum-told-2 c = search needs
 returns : tie.Need-returns
 unfolding toldBehind placeOf
 returns c = let a = c .before .before .args in
-    sym (ap (λ (p : Place). toldBehind (a .holds .now) (a .guard-of .now) (a .entries .now) (a .state) (a .region) (a .met) (placeOf p)) (c .enum-told .given .1))
+    sym (ap (λ (p : Place). toldBehind (a .holds .now) (a .guard-of .now) (a .entries .now) (a .state) (a .region)
+    (a .met) (placeOf p)) (c .enum-told .given .1))
 
 returns-2 : tie.Need-returns-2
 unfolding toldBehind placeOf entryAt
 returns-2 c =
     let a = c .before .before .before .before .before .before .before .before .args in
     let found = c .before .before .before .before .guard-at .result in
-    let acted : ℕ → Bool = λ g. actsOf (entryAt (a .entries .now) (a .region) g) (holdsAt (a .holds .now) g (a .state)) (not (member (a .met) g)) in
+    let acted : ℕ → Bool = λ g. actsOf (entryAt (a .entries .now) (a .region) g) (holdsAt (a .holds .now) g (a .state))
+    (not (member (a .met) g)) in
     c .acts .ensures
-    ∙ ap₂ (λ (h m : Bool). actsOf (entryAt (a .entries .now) (a .region) found) h (not m)) (c .before .before .holds-at .ensures) (c .before .has .ensures)
+    ∙ ap₂ (λ (h m : Bool). actsOf (entryAt (a .entries .now) (a .region) found) h (not m))
+    (c .before .before .holds-at .ensures) (c .before .has .ensures)
     ∙ ap acted (c .before .before .before .before .guard-at .ensures)
     ∙ sym
-    (ap (λ (p : Place). toldBehind (a .holds .now) (a .guard-of .now) (a .entries .now) (a .state) (a .region) (a .met) (placeOf p))
+    (ap (λ (p : Place). toldBehind (a .holds .now) (a .guard-of .now) (a .entries .now) (a .state) (a .region) (a .met)
+    (placeOf p))
     (c .before .before .before .before .before .before .place .given .1))
 
 returns-3 : tie.Need-returns-3
 unfolding toldBehind placeOf
 returns-3 c = let a = c .before .before .args in
-    sym (ap (λ (p : Place). toldBehind (a .holds .now) (a .guard-of .now) (a .entries .now) (a .state) (a .region) (a .met) (placeOf p)) (c .enum-told2 .given .1))
+    sym (ap (λ (p : Place). toldBehind (a .holds .now) (a .guard-of .now) (a .entries .now) (a .state) (a .region)
+    (a .met) (placeOf p)) (c .enum-told2 .given .1))
 
 pub entry-acts-spec : {M : Type 1} → statement M
 entry-acts-spec =
     tie.close
-    (tie.spec
-    enum-told
-    enum-known-place
-    guard-at-requires
-    cast-code
-    mul-code
-    cast-code-2
-    add-code
-    element-copy-out-code
-    holds-at-requires
-    cast-has
-    has-requires
-    acts-requires
-    enum-told-2
-    returns
-    returns-2
-    returns-3)
+    (tie.spec enum-told enum-known-place guard-at-requires cast-code mul-code cast-code-2 add-code element-copy-out-code
+    holds-at-requires cast-has has-requires acts-requires enum-told-2 returns returns-2 returns-3)

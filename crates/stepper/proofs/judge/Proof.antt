@@ -150,7 +150,8 @@ returns-4 : tie.Need-returns-4
 returns-4 c =
     let s = from4 (c .before) in
     sym
-    (not-waiting (monitor s) (point s) (frame s) (is-there (c .before .before .before .before .before)) (is-same (c .before .before))
+    (not-waiting (monitor s) (point s) (frame s) (is-there (c .before .before .before .before .before))
+    (is-same (c .before .before))
     (sym (waits (c .before)) ∙ not-true _ (c .if4 .taken)))
 
 cast-has : tie.Need-cast-has
@@ -164,7 +165,8 @@ returns-5 c =
     let s = from5 (c .before) in
     let d = c .before .before in
     sym
-    (no-notice (monitor s) (point s) (frame s) (is-there (d .before .before .before .before .before)) (is-same (d .before .before))
+    (no-notice (monitor s) (point s) (frame s) (is-there (d .before .before .before .before .before))
+    (is-same (d .before .before))
     (sym (waits (d .before)) ∙ not-false _ (d .if4 .left)) (sym (notice (c .before)) ∙ not-true _ (c .if5 .taken)))
 
 is-first-requires : tie.Need-is-first-requires
@@ -177,8 +179,10 @@ returns-6 c =
     let e = c .before .before in
     let d = e .before .before .before in
     sym
-    (not-first (monitor s) (point s) (frame s) (is-there (d .before .before .before .before .before)) (is-same (d .before .before))
-    (sym (waits (d .before)) ∙ not-false _ (d .if4 .left)) (sym (notice (e .before .before)) ∙ not-false _ (e .before .if5 .left)) (e .if6 .taken)
+    (not-first (monitor s) (point s) (frame s) (is-there (d .before .before .before .before .before))
+    (is-same (d .before .before))
+    (sym (waits (d .before)) ∙ not-false _ (d .if4 .left)) (sym (notice (e .before .before))
+    ∙ not-false _ (e .before .if5 .left)) (e .if6 .taken)
     (sym (first (c .before)) ∙ not-true _ (c .if7 .taken)))
 
 returns-7 : tie.Need-returns-7
@@ -188,8 +192,10 @@ returns-7 c =
     let e = c .before .before in
     let d = e .before .before .before in
     sym
-    (resumes (monitor s) (point s) (frame s) (is-there (d .before .before .before .before .before)) (is-same (d .before .before))
-    (sym (waits (d .before)) ∙ not-false _ (d .if4 .left)) (sym (notice (e .before .before)) ∙ not-false _ (e .before .if5 .left)) (e .if6 .taken)
+    (resumes (monitor s) (point s) (frame s) (is-there (d .before .before .before .before .before))
+    (is-same (d .before .before))
+    (sym (waits (d .before)) ∙ not-false _ (d .if4 .left)) (sym (notice (e .before .before))
+    ∙ not-false _ (e .before .if5 .left)) (e .if6 .taken)
     (sym (first (c .before)) ∙ not-false _ (c .if7 .left)))
 
 returns-8 : tie.Need-returns-8
@@ -198,30 +204,14 @@ returns-8 c =
     let s = from5 (c .before .before) in
     let d = c .before .before .before in
     sym
-    (recheck (monitor s) (point s) (frame s) (is-there (d .before .before .before .before .before)) (is-same (d .before .before))
-    (sym (waits (d .before)) ∙ not-false _ (d .if4 .left)) (sym (notice (c .before .before)) ∙ not-false _ (c .before .if5 .left)) (c .if6 .left))
+    (recheck (monitor s) (point s) (frame s) (is-there (d .before .before .before .before .before))
+    (is-same (d .before .before))
+    (sym (waits (d .before)) ∙ not-false _ (d .if4 .left)) (sym (notice (c .before .before))
+    ∙ not-false _ (c .before .if5 .left)) (c .if6 .left))
 
 pub judge-spec : {M : Type 1} → statement M
 judge-spec =
     tie.close
-    (tie.spec
-    cast-other-due
-    other-due-requires
-    returns
-    cast-thread
-    mul-thread
-    array-copy-out-thread
-    may-be-at-requires
-    returns-2
-    guard-at-requires
-    holds-at-requires
-    returns-3
-    is-waiting-requires
-    returns-4
-    cast-has
-    has-requires
-    returns-5
-    is-first-requires
-    returns-6
-    returns-7
-    returns-8)
+    (tie.spec cast-other-due other-due-requires returns cast-thread mul-thread array-copy-out-thread may-be-at-requires
+    returns-2 guard-at-requires holds-at-requires returns-3 is-waiting-requires returns-4 cast-has has-requires
+    returns-5 is-first-requires returns-6 returns-7 returns-8)

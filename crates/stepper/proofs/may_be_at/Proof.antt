@@ -31,8 +31,10 @@ unfolding mayBeAt placeOf beginsAt
 returns c =
     let a = c .before .before .before .before .args in
     sym
-    (ap (λ (p : Place). mayBeAt (slices [] [] [] (a .begins .now) [] (a .regions)) (placeOf p) (a .region)) (c .before .before .enum-told .given .1)
-    ∙ ap (λ (b : Bool). b && beginsAt (a .begins .now) (a .region)) (lt-ltb (a .region) (a .regions) (c .before .if1 .taken)))
+    (ap (λ (p : Place). mayBeAt (slices [] [] [] (a .begins .now) [] (a .regions)) (placeOf p) (a .region))
+    (c .before .before .enum-told .given .1)
+    ∙ ap (λ (b : Bool). b && beginsAt (a .begins .now) (a .region))
+    (lt-ltb (a .region) (a .regions) (c .before .if1 .taken)))
 
 returns-2 : tie.Need-returns-2
 unfolding mayBeAt placeOf beginsAt
@@ -41,29 +43,24 @@ returns-2 c =
     let past = le-ltb (a .region) (a .regions) (c .if1 .left) in
     past
     ∙ sym
-    (ap (λ (p : Place). mayBeAt (slices [] [] [] (a .begins .now) [] (a .regions)) (placeOf p) (a .region)) (c .before .enum-told .given .1)
+    (ap (λ (p : Place). mayBeAt (slices [] [] [] (a .begins .now) [] (a .regions)) (placeOf p) (a .region))
+    (c .before .enum-told .given .1)
     ∙ ap (λ (b : Bool). b && beginsAt (a .begins .now) (a .region)) past)
 
 returns-3 : tie.Need-returns-3
 unfolding mayBeAt placeOf beginsAt
 returns-3 c = let a = c .before .before .before .args in
-    sym (ap (λ (p : Place). mayBeAt (slices [] [] [] ((a .begins .now)) [] (a .regions)) (placeOf p) (a .region)) (c .before .place .given .1))
+    sym (ap (λ (p : Place). mayBeAt (slices [] [] [] ((a .begins .now)) [] (a .regions)) (placeOf p) (a .region))
+    (c .before .place .given .1))
 
 returns-4 : tie.Need-returns-4
 unfolding mayBeAt placeOf beginsAt
 returns-4 c = let a = c .before .before .before .args in
-    sym (ap (λ (p : Place). mayBeAt (slices [] [] [] ((a .begins .now)) [] (a .regions)) (placeOf p) (a .region)) (c .before .place2 .given .1))
+    sym (ap (λ (p : Place). mayBeAt (slices [] [] [] ((a .begins .now)) [] (a .regions)) (placeOf p) (a .region))
+    (c .before .place2 .given .1))
 
 pub may-be-at-spec : {M : Type 1} → statement M
 may-be-at-spec =
     tie.close
-    (tie.spec
-    enum-told
-    cast-result
-    element-copy-out-result
-    enum-known-place
-    enum-known-place-2
-    returns
-    returns-2
-    returns-3
-    returns-4)
+    (tie.spec enum-told cast-result element-copy-out-result enum-known-place enum-known-place-2 returns returns-2
+    returns-3 returns-4)

@@ -33,7 +33,8 @@ returns : tie.Need-returns
 unfolding onGuard placeOf
 returns c = λ g.
     let a = c .before .before .args in
-    sym (ap (λ (p : Place). onGuard (guardsOnly (a .guard-of .now)) g (placeOf p) || member (a .met) g) (c .enum-told .given .1))
+    sym (ap (λ (p : Place). onGuard (guardsOnly (a .guard-of .now)) g (placeOf p) || member (a .met) g)
+    (c .enum-told .given .1))
 
 returns-2 : tie.Need-returns-2
 unfolding onGuard placeOf
@@ -41,25 +42,20 @@ returns-2 c = λ g.
     let a = c .before .before .before .before .before .args in
     let w = c .before .before .before .place .given .0 .0 in
     c .with .ensures g
-    ∙ ap (λ (b : Bool). b || member (a .met) g) (guard-one (a .guard-of .now) w (c .before .guard-at .result) g (c .before .guard-at .ensures))
-    ∙ sym (ap (λ (p : Place). onGuard (guardsOnly (a .guard-of .now)) g (placeOf p) || member (a .met) g) (c .before .before .before .place .given .1))
+    ∙ ap (λ (b : Bool). b || member (a .met) g) (guard-one (a .guard-of .now) w (c .before .guard-at .result) g
+    (c .before .guard-at .ensures))
+    ∙ sym (ap (λ (p : Place). onGuard (guardsOnly (a .guard-of .now)) g (placeOf p) || member (a .met) g)
+    (c .before .before .before .place .given .1))
 
 returns-3 : tie.Need-returns-3
 unfolding onGuard placeOf
 returns-3 c = λ g.
     let a = c .before .before .args in
-    sym (ap (λ (p : Place). onGuard (guardsOnly (a .guard-of .now)) g (placeOf p) || member (a .met) g) (c .enum-told2 .given .1))
+    sym (ap (λ (p : Place). onGuard (guardsOnly (a .guard-of .now)) g (placeOf p) || member (a .met) g)
+    (c .enum-told2 .given .1))
 
 pub met-with-spec : {M : Type 1} → statement M
 met-with-spec =
     tie.close
-    (tie.spec
-    enum-told
-    enum-known-place
-    guard-at-requires
-    cast-with
-    with-requires
-    enum-told-2
-    returns
-    returns-2
+    (tie.spec enum-told enum-known-place guard-at-requires cast-with with-requires enum-told-2 returns returns-2
     returns-3)

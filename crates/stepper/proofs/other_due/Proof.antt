@@ -37,7 +37,8 @@ returns c = let a = c .before .before .before .before .before .before .args in
     let u = c .before .before .before .before .before .loop .u in
     sym
     (any-true 16 u (λ v. not (eqb v (a .t)) && isDue (placesOf (a .t1) v)) (omega arith)
-    (ap₂ (λ (x y : Bool). not x && y) (ne-eqb u (a .t) (c .before .before .if1 .taken)) (sym (c .before .is-due .ensures) ∙ c .if2 .taken)))
+    (ap₂ (λ (x y : Bool). not x && y) (ne-eqb u (a .t) (c .before .before .if1 .taken))
+    (sym (c .before .is-due .ensures) ∙ c .if2 .taken)))
 
 add-u : tie.Need-add-u Inv-loop μ-loop
 add-u c = omega arith
@@ -52,25 +53,19 @@ loop-again c = let a = c .before .before .before .before .args in
     let here : not (eqb u (a .t)) && isDue (placesOf (a .t1) u) ≡ false =
     ⊎-elim
     (λ w. ap₂ (λ (x y : Bool). not x && y) (ne-eqb u (a .t) (w .0 .taken)) (sym (w .1 .ensures) ∙ w .2 .left))
-    (λ w. ap (λ (x : Bool). not x && isDue (placesOf (a .t1) u)) (eq-eqb u (a .t) (w .left))) (c .if1 .came) in
-    (omega arith, below-more (λ v. not (eqb v (a .t)) && isDue (placesOf (a .t1) v) ≡ false) u (c .before .before .before .loop .inv .1) here)
+    (λ w. ap (λ (x : Bool). not x && isDue (placesOf (a .t1) u)) (eq-eqb u (a .t) (w .left))) (c .if1 .came) in (
+      omega arith,
+      below-more (λ v. not (eqb v (a .t)) && isDue (placesOf (a .t1) v) ≡ false) u
+          (c .before .before .before .loop .inv .1) here,
+    )
 
 returns-2 : tie.Need-returns-2 Inv-loop μ-loop
 returns-2 c = let a = c .before .before .args in
-    sym (any-false 16 (λ v. not (eqb v (a .t)) && isDue (placesOf (a .t1) v)) (λ v h. c .before .loop .inv .1 v (omega arith)))
+    sym (any-false 16 (λ v. not (eqb v (a .t)) && isDue (placesOf (a .t1) v))
+    (λ v h. c .before .loop .inv .1 v (omega arith)))
 
 pub other-due-spec : {M : Type 1} → statement M
 other-due-spec =
     tie.close
-    (tie.spec
-    Inv-loop
-    μ-loop
-    loop-holds
-    mul-thread
-    array-copy-out-thread
-    is-due-requires
-    returns
-    add-u
-    loop-less
-    loop-again
-    returns-2)
+    (tie.spec Inv-loop μ-loop loop-holds mul-thread array-copy-out-thread is-due-requires returns add-u loop-less
+    loop-again returns-2)

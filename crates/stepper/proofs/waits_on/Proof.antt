@@ -24,17 +24,22 @@ enum-told-2 c = search needs
 
 returns : tie.Need-returns
 unfolding onGuard placeOf
-returns c = sym (ap (λ (p : Place). onGuard (guardsOnly ((c .before .before .args .guard-of .now))) (c .before .before .args .guard) (placeOf p)) (c .enum-told .given .1))
+returns c =
+    sym (ap (λ (p : Place). onGuard (guardsOnly ((c .before .before .args .guard-of .now)))
+    (c .before .before .args .guard) (placeOf p)) (c .enum-told .given .1))
 
 returns-2 : tie.Need-returns-2
 unfolding onGuard placeOf
 returns-2 c = let a = c .before .before .before .before .args in
     ap (λ (n : ℕ). eqb n (a .guard)) (c .guard-at .ensures)
-    ∙ sym (ap (λ (p : Place). onGuard (guardsOnly ((a .guard-of .now))) (a .guard) (placeOf p)) (c .before .before .place .given .1))
+    ∙ sym (ap (λ (p : Place). onGuard (guardsOnly ((a .guard-of .now))) (a .guard) (placeOf p))
+    (c .before .before .place .given .1))
 
 returns-3 : tie.Need-returns-3
 unfolding onGuard placeOf
-returns-3 c = sym (ap (λ (p : Place). onGuard (guardsOnly ((c .before .before .args .guard-of .now))) (c .before .before .args .guard) (placeOf p)) (c .enum-told2 .given .1))
+returns-3 c =
+    sym (ap (λ (p : Place). onGuard (guardsOnly ((c .before .before .args .guard-of .now)))
+    (c .before .before .args .guard) (placeOf p)) (c .enum-told2 .given .1))
 
 pub waits-on-spec : {M : Type 1} → statement M
 waits-on-spec =

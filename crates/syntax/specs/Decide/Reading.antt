@@ -1,5 +1,5 @@
--- The grammar read from the left, in the shape of recursive descent: a tree, or what is left where no file of the grammar can go on.
--- Fuel bounds how deep the calls go; `Grammar` shows that `read` always has enough.
+-- The grammar read from the left, in the shape of recursive descent: a tree, or what is left where no file of the
+-- grammar can go on. Fuel bounds how deep the calls go; `Grammar` shows that `read` always has enough.
 use Prim.Native.Nat.{ℕ, zero, suc, _+_, _*_}
 use mathlib.Core.Bool.{Bool, true, false, _||_}
 use mathlib.Core.List.{List, [], _∷_}
@@ -123,7 +123,8 @@ unfoldable mutual
   readSimple (suc k) ls =
       choose (isMark bang) (expect (isMark bang) >>= λ _. (λ ms. readSimple k ms) >>= λ s. give (negation s))
       (choose (isMark lparen)
-      (expect (isMark lparen) >>= λ _. (λ ms. readCond k ms) >>= λ c. expect (isMark rparen) >>= λ _. give (bracketed c))
+      (expect (isMark lparen) >>= λ _. (λ ms. readCond k ms) >>= λ c. expect (isMark rparen) >>= λ _. give
+      (bracketed c))
       (choose (isKey k-true) (expect (isKey k-true) >>= λ _. give (constant true))
       (choose (isKey k-false) (expect (isKey k-false) >>= λ _. give (constant false))
       (readExpr k >>= λ e. readComparison >>= λ o. readExpr k >>= λ f. give (compare e o f))))) ls
@@ -151,7 +152,8 @@ unfoldable mutual
 
 unfoldable pub readRegion : ℕ → Reader Region
 readRegion k =
-    expect (isKey k-waituntil) >>= λ _. expect (isMark lparen) >>= λ _. readCond k >>= λ c. expect (isMark rparen) >>= λ _.
+    expect (isKey k-waituntil) >>= λ _. expect (isMark lparen) >>= λ _. readCond k >>= λ c. expect (isMark rparen) >>=
+    λ _.
     expect (isMark lbrace) >>= λ _. readBlock k >>= λ b. expect (isMark rbrace) >>= λ _.
     give (record { guard = c; body = b })
 

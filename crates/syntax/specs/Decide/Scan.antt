@@ -32,9 +32,11 @@ unfoldable pub scan : List ℕ → Scan
 scan [] = nothing
 scan (b ∷ bs) =
     elim (letter b) [
-      | true ↦ atMost mostWordBytes (leading wordByte (b ∷ bs)) (wordOf keywords (take (leading wordByte (b ∷ bs)) (b ∷ bs)))
+      | true ↦ atMost mostWordBytes (leading wordByte (b ∷ bs))
+          (wordOf keywords (take (leading wordByte (b ∷ bs)) (b ∷ bs)))
       | false ↦ elim (digit b) [
-        | true ↦ atMost mostDigits (leading digit (b ∷ bs)) (number (decimal 0 (take (leading digit (b ∷ bs)) (b ∷ bs))))
+        | true ↦ atMost mostDigits (leading digit (b ∷ bs))
+            (number (decimal 0 (take (leading digit (b ∷ bs)) (b ∷ bs))))
         | false ↦ markOf marks (b ∷ bs)
       ]
     ]

@@ -1,5 +1,5 @@
--- `variables::fits` meets its contract. Each refusal breaks one part of `Good`, and what passes all tests has them all; the product
--- of at most 4,096 and 256 fits.
+-- `variables::fits` meets its contract. Each refusal breaks one part of `Good`, and what passes all tests has them all;
+-- the product of at most 4,096 and 256 fits.
 use Prim.Native.Nat.{ℕ, _+_, _-_}
 use native.Mathlib.Nat.{not-le-of-lt}
 use native.Mathlib.Omega.{arith}
@@ -59,13 +59,4 @@ returns-6 c =
 pub fits-spec : {M : Type 1} → statement M
 fits-spec =
     tie.close
-    (tie.spec
-    returns
-    returns-2
-    returns-3
-    returns-4
-    returns-5
-    cast-result
-    add-result
-    mul-result
-    returns-6)
+    (tie.spec returns returns-2 returns-3 returns-4 returns-5 cast-result add-result mul-result returns-6)

@@ -1,5 +1,5 @@
--- `variables::int_at` meets its contract. By the token at the place an integer with or without - is spelled there; the laws of
--- `Spelled` say where its number stands.
+-- `variables::int_at` meets its contract. By the token at the place an integer with or without - is spelled there; the
+-- laws of `Spelled` say where its number stands.
 use native.Mathlib.Omega.{arith}
 use mathlib.Core.Path.{sym, _∙_}
 use borrow.Author.Needs.{needs}
@@ -47,7 +47,8 @@ returns c =
       further = omega arith;
       near = omega arith;
       spelled = λ ls rest n held e.
-          rw (c .value-at .ensures) (minus-int held rest (a .at) n e (sym (c .before .before .kind-at .ensures) ∙ c .before .if1 .taken));
+          rw (c .value-at .ensures)
+          (minus-int held rest (a .at) n e (sym (c .before .before .kind-at .ensures) ∙ c .before .if1 .taken));
     }
 
 returns-2 : tie.Need-returns-2
@@ -58,22 +59,12 @@ returns-2 c =
       further = omega arith;
       near = omega arith;
       spelled = λ ls rest n held e.
-          rw (c .value-at2 .ensures) (plain-int held rest (a .at) n e (λ q. c .before .if1 .left (c .before .before .kind-at .ensures ∙ q)));
+          rw (c .value-at2 .ensures)
+          (plain-int held rest (a .at) n e (λ q. c .before .if1 .left (c .before .before .kind-at .ensures ∙ q)));
     }
 
 pub int-at-spec : {M : Type 1} → statement M
 int-at-spec =
     tie.close
-    (tie.spec
-    kind-at-requires
-    add-value-at
-    value-at-requires
-    cast-t9
-    sub-t10
-    add-t11
-    value-at-requires-2
-    cast-t13
-    add-t14
-    add-t15
-    returns
-    returns-2)
+    (tie.spec kind-at-requires add-value-at value-at-requires cast-t9 sub-t10 add-t11 value-at-requires-2 cast-t13
+    add-t14 add-t15 returns returns-2)

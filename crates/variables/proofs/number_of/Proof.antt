@@ -84,20 +84,6 @@ returns-2 c vs as′ b x s =
 pub number-of-spec : {M : Type 1} → statement M
 number-of-spec =
     tie.close
-    (tie.spec
-    Inv-loop
-    μ-loop
-    loop-holds
-    returns
-    (λ c. search needs)
-    (λ c. search needs)
-    mul-share-of-2
-    element-copy-out-share-of
-    mul-share-of-3
-    element-copy-out-share-of-2
-    share-of-requires
-    add-number
-    add-k
-    (λ c. search needs)
-    loop-again
-    returns-2)
+    (tie.spec Inv-loop μ-loop loop-holds returns (λ c. search needs) (λ c. search needs) mul-share-of-2
+    element-copy-out-share-of mul-share-of-3 element-copy-out-share-of-2 share-of-requires add-number add-k
+    (λ c. search needs) loop-again returns-2)

@@ -1,5 +1,6 @@
--- `variables::read` meets its contract. The loop's invariant: at most 4,096 states and six variables, and whatever variables are
--- spelled there, those passed are good and held, and the tokens of the others are left (`Walk`). The place grows with each variable.
+-- `variables::read` meets its contract. The loop's invariant: at most 4,096 states and six variables, and whatever
+-- variables are spelled there, those passed are good and held, and the tokens of the others are left (`Walk`). The
+-- place grows with each variable.
 use Prim.Native.Nat.{_-_, _<_, _≤_}
 use native.Mathlib.Omega.{arith}
 use mathlib.Core.Path.{_≡_, refl, sym, _∙_}
@@ -34,20 +35,27 @@ none = refl
 loop-holds : tie.Need-loop-holds Inv-loop μ-loop
 loop-holds c =
     let a = c .before .before .before .args in
-    let l = c .no-bounds .ensures in
-    (omega (arith, l .states, none), omega (arith, l .counted), walk-start (now (a .kinds)) (now (a .values)) (a .at) (c .no-bounds .result) l)
+    let l = c .no-bounds .ensures in (
+      omega (arith, l .states, none),
+      omega (arith, l .counted),
+      walk-start (now (a .kinds)) (now (a .values)) (a .at) (c .no-bounds .result) l,
+    )
 
 kind-at-requires : tie.Need-kind-at-requires Inv-loop μ-loop
 kind-at-requires c κs = search needs
 
 -- `var` stands at the place, which is inside the tokens
 var-there : (c : tie.Then1 Inv-loop μ-loop)
-    → (getD (now (c .before .before .before .before .before .before .args .kinds)) (c .before .before .loop .i) 0 ≡ kindOf (key k-var))
+    → (getD (now (c .before .before .before .before .before .before .args .kinds)) (c .before .before .loop .i) 0
+    ≡ kindOf (key k-var))
     × (c .before .before .loop .i < length (now (c .before .before .before .before .before .before .args .kinds)))
 unfolding kindOf keywordNumber
 var-there c =
-    let e = sym (c .before .kind-at .ensures) ∙ c .if1 .taken in
-    (e, inside (now (c .before .before .before .before .before .before .args .kinds)) (c .before .before .loop .i) (omega arith))
+    let e = sym (c .before .kind-at .ensures) ∙ c .if1 .taken in (
+      e,
+      inside (now (c .before .before .before .before .before .before .args .kinds)) (c .before .before .loop .i)
+          (omega arith),
+    )
 
 triple-at-requires : tie.Need-triple-at-requires Inv-loop μ-loop
 triple-at-requires c κs = omega (arith, var-there c .1, c .before .before .before .before .before .before .good .0 .1)
@@ -60,14 +68,21 @@ returns c vs ls us held e ends few short =
     let g = c .before .before .before .before .before in
     let a = g .before .before .before .before .args in
     walk-bad (now (a .kinds)) (now (a .values)) (a .at) (g .loop .bounds) (g .loop .i) (g .loop .inv .2)
-    (var-there (c .before .before .before) .0) (c .before .before .triple-at .result) (c .before .before .triple-at .ensures)
-    (c .before .fits2 .ensures .no (not-true _ (c .if2 .taken))) vs ls us (record { held = held; begins = e; ends = ends; few = few })
+    (var-there (c .before .before .before) .0) (c .before .before .triple-at .result)
+    (c .before .before .triple-at .ensures)
+    (c .before .fits2 .ensures .no (not-true _ (c .if2 .taken))) vs ls us
+    (record { held = held; begins = e; ends = ends; few = few })
 
 with-var-requires : tie.Need-with-var-requires Inv-loop μ-loop
 with-var-requires c κs = (c .before .fits2 .ensures .yes (not-false _ (c .if2 .left)), (omega arith, omega arith))
 
 loop-less : tie.Need-loop-less Inv-loop μ-loop
-loop-less c = omega (arith, var-there (c .before .before .before .before) .1, c .before .before .before .triple-at .ensures .further)
+loop-less c =
+    omega (
+      arith,
+      var-there (c .before .before .before .before) .1,
+      c .before .before .before .triple-at .ensures .further,
+    )
 
 loop-again : tie.Need-loop-again Inv-loop μ-loop
 loop-again c =
@@ -77,7 +92,8 @@ loop-again c =
       c .with-var .ensures .room,
       walk-more (now (a .kinds)) (now (a .values)) (a .at) (g .loop .bounds) (g .loop .i) (g .loop .inv .2)
           (var-there (c .before .before .before .before) .0) (c .before .before .before .triple-at .result)
-          (c .before .before .before .triple-at .ensures) (c .with-var .result) (c .before .before .fits2 .ensures .yes (not-false _ (c .before .if2 .left)))
+          (c .before .before .before .triple-at .ensures) (c .with-var .result)
+          (c .before .before .fits2 .ensures .yes (not-false _ (c .before .if2 .left)))
           (c .with-var .ensures),
     )
 
@@ -96,17 +112,5 @@ returns-2 c vs ls us held e ends few short =
 pub read-spec : {M : Type 1} → statement M
 read-spec =
     tie.close
-    (tie.spec
-    Inv-loop
-    μ-loop
-    no-bounds-requires
-    loop-holds
-    kind-at-requires
-    triple-at-requires
-    fits-requires
-    returns
-    with-var-requires
-    loop-less
-    loop-again
-    weighed-requires
-    returns-2)
+    (tie.spec Inv-loop μ-loop no-bounds-requires loop-holds kind-at-requires triple-at-requires fits-requires returns
+    with-var-requires loop-less loop-again weighed-requires returns-2)

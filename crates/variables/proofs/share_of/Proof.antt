@@ -11,12 +11,17 @@ cast-result : tie.Need-cast-result
 cast-result c = search needs
 
 mul-result : tie.Need-mul-result
-mul-result c = let a = c .before .args in omega (arith, mul-at-most (a .value - a .low) (a .weight) 65536 65536 (omega arith) (omega arith))
+mul-result c = let a = c .before .args in
+    omega (arith, mul-at-most (a .value - a .low) (a .weight) 65536 65536 (omega arith) (omega arith))
 
 returns : tie.Need-returns
 returns c =
     let a = c .before .args in
-    record { small = mul-at-most (a .value - a .low) (a .weight) 65536 65536 (omega arith) (omega arith); share = λ h. refl }
+    record {
+      small = mul-at-most (a .value - a .low) (a .weight) 65536 65536 (omega arith) (omega arith);
+      share =
+          λ h. refl;
+    }
 
 returns-2 : tie.Need-returns-2
 returns-2 c = search needs

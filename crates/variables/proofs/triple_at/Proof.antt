@@ -34,19 +34,12 @@ returns c =
     record {
       further = omega arith;
       spelled = λ ls rest v held e.
-          spelled-var held v rest (c .before .before .before .before .before .before .before .before .args .at) e (r₁ .result) (r₂ .result) (r₃ .result)
+          spelled-var held v rest (c .before .before .before .before .before .before .before .before .args .at) e
+          (r₁ .result) (r₂ .result) (r₃ .result)
           (r₁ .ensures) (r₂ .ensures) (r₃ .ensures);
     }
 
 pub triple-at-spec : {M : Type 1} → statement M
 triple-at-spec =
     tie.close
-    (tie.spec
-    add-int-at
-    int-at-requires
-    add-int-at-2
-    int-at-requires-2
-    add-int-at-3
-    int-at-requires-3
-    add-t7
-    returns)
+    (tie.spec add-int-at int-at-requires add-int-at-2 int-at-requires-2 add-int-at-3 int-at-requires-3 add-t7 returns)

@@ -72,19 +72,5 @@ returns-2 c vs b h =
 pub values-of-spec : {M : Type 1} → statement M
 values-of-spec =
     tie.close
-    (tie.spec
-    Inv-loop
-    μ-loop
-    loop-holds
-    returns
-    (λ c. search needs)
-    (λ c. search needs)
-    (λ c. search needs)
-    element-copy-out-digit-of-2
-    digit-of-requires
-    mul-values
-    array-write-values
-    add-k
-    loop-less
-    loop-again
-    returns-2)
+    (tie.spec Inv-loop μ-loop loop-holds returns (λ c. search needs) (λ c. search needs) (λ c. search needs)
+    element-copy-out-digit-of-2 digit-of-requires mul-values array-write-values add-k loop-less loop-again returns-2)

@@ -1,5 +1,5 @@
--- `variables::weights_of` meets its contract. The loop's invariant: the weights from k on stand, and the weight is the count of
--- states of all variables from k on.
+-- `variables::weights_of` meets its contract. The loop's invariant: the weights from k on stand, and the weight is the
+-- count of states of all variables from k on.
 use Prim.Native.Nat.{_≤_}
 use native.Mathlib.Omega.{arith}
 use mathlib.Core.Path.{_≡_, refl}
@@ -57,7 +57,11 @@ size-of-requires c κs = search needs
 
 mul-weight : tie.Need-mul-weight Inv-loop μ-loop
 mul-weight c =
-    omega (arith, mul-at-most (c .before .before .loop .weight) (c .size-of .result) 65535 65536 (omega arith) (omega arith))
+    omega (
+      arith,
+      mul-at-most (c .before .before .loop .weight) (c .size-of .result) 65535 65536 (omega arith)
+          (omega arith),
+    )
 
 loop-less : tie.Need-loop-less Inv-loop μ-loop
 loop-less c = search needs
@@ -71,7 +75,8 @@ loop-again c =
       omega arith,
       simp length-set (g .loop .inv .3),
       λ vs lo hi good few e.
-          weighing-more vs (a .t1) (a .t2) lo hi good few (a .count) (g .loop .k) (g .loop .weight) (c .size-of .result) (g .loop .weights) e
+          weighing-more vs (a .t1) (a .t2) lo hi good few (a .count) (g .loop .k) (g .loop .weight) (c .size-of .result)
+          (g .loop .weights) e
           (omega arith) (omega arith) (omega arith) (c .size-of .ensures) (g .loop .inv .4 vs lo hi good few e),
     )
 
@@ -82,20 +87,5 @@ returns c =
 pub weights-of-spec : {M : Type 1} → statement M
 weights-of-spec =
     tie.close
-    (tie.spec
-    Inv-loop
-    μ-loop
-    loop-holds
-    sub-k
-    cast-weights
-    mul-weights
-    array-write-weights
-    mul-size-of
-    array-read-size-of
-    mul-size-of-2
-    array-read-size-of-2
-    size-of-requires
-    mul-weight
-    loop-less
-    loop-again
-    returns)
+    (tie.spec Inv-loop μ-loop loop-holds sub-k cast-weights mul-weights array-write-weights mul-size-of
+    array-read-size-of mul-size-of-2 array-read-size-of-2 size-of-requires mul-weight loop-less loop-again returns)

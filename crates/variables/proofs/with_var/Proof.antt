@@ -1,4 +1,5 @@
--- `variables::with_var` meets its contract. Where a slot is left the stores are the contract's; elsewhere it asks nothing.
+-- `variables::with_var` meets its contract. Where a slot is left the stores are the contract's; elsewhere it asks
+-- nothing.
 use native.Mathlib.Omega.{arith}
 use borrow.Author.Needs.{needs}
 use Rattle.variables.proofs.with_var.Statement.{statement}
@@ -74,23 +75,6 @@ returns-2 c =
 pub with-var-spec : {M : Type 1} → statement M
 with-var-spec =
     tie.close
-    (tie.spec
-    sub-next
-    cast-next
-    mul-next
-    element-write-next
-    sub-next-2
-    cast-next-2
-    mul-next-2
-    element-write-next-2
-    sub-next-3
-    cast-next-3
-    mul-next-3
-    element-write-next-3
-    add-next
-    sub-next-4
-    cast-next-4
-    add-next-2
-    mul-next-4
-    returns
+    (tie.spec sub-next cast-next mul-next element-write-next sub-next-2 cast-next-2 mul-next-2 element-write-next-2
+    sub-next-3 cast-next-3 mul-next-3 element-write-next-3 add-next sub-next-4 cast-next-4 add-next-2 mul-next-4 returns
     returns-2)
