@@ -10,6 +10,7 @@ ghost use mathlib.Core.Path.{_≡_};
 ghost use mathlib.Core.List.{List};
 ghost use Prim.Native.Nat.{ℕ, _%_, _≤_, _<_};
 ghost use lib.ListN.{length, getD};
+ghost use Rattle.machine.specs.Limits.{mostRegions, mostStates, mostAfter};
 ghost use Rattle.syntax.specs.Held.Kind.{Words};
 ghost use Rattle.syntax.specs.Token.{Lexeme, Token};
 ghost use Rattle.syntax.specs.Tree.{Monitor};
@@ -32,10 +33,10 @@ pub struct Loaded {
 
 fn no_bounds() -> Bounds {
     Bounds {
-        lows: [1u16; 6],
-        highs: [0u16; 6],
-        starts: [128u16; 6],
-        weights: [1u16; 6],
+        lows: [1u16; syntax::VARIABLES],
+        highs: [0u16; syntax::VARIABLES],
+        starts: [128u16; syntax::VARIABLES],
+        weights: [1u16; syntax::VARIABLES],
         count: 0,
         states: 1,
     }
@@ -46,12 +47,12 @@ fn no_layout() -> Layout {
         keep: 0,
         regions: 0,
         guards: 0,
-        guards_at: [0u16; 16],
-        bodies_at: [0u16; 16],
-        guard_of: [0u8; 16],
-        begins: [0u8; 16],
-        goes_on: [0u8; 16],
-        firsts: [0u8; 16],
+        guards_at: [0u16; machine::REGIONS],
+        bodies_at: [0u16; machine::REGIONS],
+        guard_of: [0u8; machine::REGIONS],
+        begins: [0u8; machine::REGIONS],
+        goes_on: [0u8; machine::REGIONS],
+        firsts: [0u8; machine::REGIONS],
     }
 }
 
@@ -115,13 +116,13 @@ fn judge(file: &[u8], kinds: &[u8], values: &[u16], places: &[u16]) -> Judged
 }
 
 // The tokens at which the guards begin, by guard.
-fn guards_at(layout: Layout) -> [u16; 16]
-    ensures { λ r. ⌜ ((g : ℕ) → g < 16 → getD r g 0 ≡ getD (layout .«guards_at») (getD (layout .firsts) g 0 % 16) 0) ⌝ }
+fn guards_at(layout: Layout) -> [u16; machine::REGIONS]
+    ensures { λ r. ⌜ ((g : ℕ) → g < mostRegions → getD r g 0 ≡ getD (layout .«guards_at») (getD (layout .firsts) g 0 % mostRegions) 0) ⌝ }
 {
-    let mut ats = [0u16; 16];
+    let mut ats = [0u16; machine::REGIONS];
     let mut g = 0;
-    while g < 16 {
-        ats[g] = layout.guards_at[(layout.firsts[g] % 16) as usize];
+    while g < machine::REGIONS {
+        ats[g] = layout.guards_at[(layout.firsts[g] % machine::REGION_END) as usize];
         g += 1;
     }
     ats
@@ -139,7 +140,7 @@ fn fill(
     after: &mut [u16],
 ) -> Answer
     ensures { λ r. ⌜ ((m : Monitor) (ls : List Lexeme) → Filling m ls (now (kinds .entry)) (now (values .entry)) bounds layout
-        → 4096 ≤ length (now (kept .entry)) → 4096 ≤ length (now (holds .entry)) → 65536 ≤ length (now (after .entry))
+        → mostStates ≤ length (now (kept .entry)) → mostStates ≤ length (now (holds .entry)) → mostAfter ≤ length (now (after .entry))
         → Filled m place r (now (kept .exit)) (now (holds .exit)) (now (after .exit))) ⌝ }
 {
     let starts = bounds.starts;
@@ -195,7 +196,7 @@ fn load_tokens(
     after: &mut [u16],
 ) -> Loaded
     ensures { λ r. ⌜ ((ts : List Token) → Words (now (file .entry)) ts (now (kinds .entry)) (now (values .entry)) (now (places .entry))
-        → 4096 ≤ length (now (kept .entry)) → 4096 ≤ length (now (holds .entry)) → 65536 ≤ length (now (after .entry))
+        → mostStates ≤ length (now (kept .entry)) → mostStates ≤ length (now (holds .entry)) → mostAfter ≤ length (now (after .entry))
         → Loads (now (file .entry)) r (now (kept .exit)) (now (holds .exit)) (now (after .exit))) ⌝ }
 {
     let judged = judge(file, kinds, values, places);
@@ -227,17 +228,17 @@ fn load_tokens(
 
 // 1 to 9: the verdict of a file, and of an accepted one all that the table and the machines look up.
 pub fn load(file: &[u8], kept: &mut [u8], holds: &mut [u16], after: &mut [u16]) -> Loaded
-    ensures { λ r. ⌜ (4096 ≤ length (now (kept .entry)) → 4096 ≤ length (now (holds .entry)) → 65536 ≤ length (now (after .entry))
+    ensures { λ r. ⌜ (mostStates ≤ length (now (kept .entry)) → mostStates ≤ length (now (holds .entry)) → mostAfter ≤ length (now (after .entry))
         → Loads (now (file .entry)) r (now (kept .exit)) (now (holds .exit)) (now (after .exit))) ⌝ }
 {
-    let mut kinds = [0u8; 8192];
-    let mut values = [0u16; 8192];
-    let mut places = [0u16; 8192];
+    let mut kinds = [0u8; syntax::FILE_BYTES];
+    let mut values = [0u16; syntax::FILE_BYTES];
+    let mut places = [0u16; syntax::FILE_BYTES];
     match scanner::scan(file, &mut kinds, &mut values, &mut places) {
         Scanned::TooLong => not_loaded(answers::say(1, 0, 0)),
         Scanned::Bad(k) => not_loaded(answers::say(2, k, 0)),
         Scanned::Tokens(n) => {
-            if 8192 < n {
+            if syntax::FILE_BYTES < n {
                 return not_loaded(answers::say(1, 0, 0));
             }
             load_tokens(

@@ -22,7 +22,7 @@ use Rattle.meaning.specs.Calls as calls
 use Rattle.demands.specs.Demand1.{PlacesAs, file-refused, too-short, placed}
 use Rattle.demands.proofs.Demand1.{place-iff, accepted-writes-table, running-iff}
 use Rattle.demands.specs.Demand3.{runAnswer}
-use Rattle.meaning.specs.Lines.{refusalLine, recordLine, runLine, machineLine, placer, runner}
+use Rattle.meaning.specs.Lines.{refusalLine, recordLine, runLine, machineLine, placer, runner, traceBytes}
 use Rattle.demands.specs.Widths.{AnswerFits, RunFits}
 use Rattle.demands.proofs.Widths.{refusal-fits, running-fits, trace-number, line-short, table-short}
 use Rattle.answers.specs.Says.{Says}
@@ -33,7 +33,7 @@ use Rattle.monitor.specs.Results.{Places, startOf}
 use Rattle.monitor.specs.declared.Placing.{Placing}
 use Rattle.lines.specs.Written.{Writes, Fits}
 use Rattle.lines.proofs.Writing.{written-length, written-more}
-use Rattle.output.specs.Printed.{Prints}
+use Rattle.output.specs.Printed.{Prints, outputBytes}
 
 -- ---- lines at byte 0
 
@@ -71,7 +71,7 @@ module _ (file buffer : List ℕ) {r : Placing} {after : List ℕ} (p : Places (
       rw (accepted-iff file (x .0) .1 (x .1), placer) (prints (p .bytes ∙ x .3) (p .length ∙ x .2))
 
   -- a number other than 0 is a refusal of the file, since the table fits
-  pub refusal-printed : {n : ℕ} {last : List ℕ} → 4096 ≤ length buffer → (r .answer .number ≡ 0 → ⊥)
+  pub refusal-printed : {n : ℕ} {last : List ℕ} → outputBytes ≤ length buffer → (r .answer .number ≡ 0 → ⊥)
       → (0 + 11 ≤ length after → r .answer .first < 65536 → r .answer .second < 65536
       → Writes (refusalLine (answer (r .answer .number) (r .answer .first) (r .answer .second))) after 0 n last)
       → Prints (placer file) buffer n last
@@ -117,15 +117,15 @@ number-is (ran rec) r s = s .0 .number
 number-is (not-run a) r s = s .0 .number
 
 -- a trace is judged by its first 65,536 bytes
-pub runner-cut : (file trace : List ℕ) → runner file (take 65536 trace) ≡ runner file trace
+pub runner-cut : (file trace : List ℕ) → runner file (take traceBytes trace) ≡ runner file trace
 unfolding runner
 runner-cut file trace = go (check file) refl
   where
-    go : (v : Verdict) → check file ≡ v → runner file (take 65536 trace) ≡ runner file trace
-    go (accepted m) e = rw (e, runner, take-take 65536 65536 trace (omega arith))
+    go : (v : Verdict) → check file ≡ v → runner file (take traceBytes trace) ≡ runner file trace
+    go (accepted m) e = rw (e, runner, take-take traceBytes traceBytes trace (omega arith))
     go (refused a) e = rw (e, runner)
 
-module _ (file trace : List ℕ) (short : length trace ≤ 65536) where
+module _ (file trace : List ℕ) (short : length trace ≤ traceBytes) where
   abbrev pub end : Machine → calls.Running
   end w = running file trace (startOf (check file)) w
 
@@ -157,7 +157,7 @@ module _ (file trace : List ℕ) (short : length trace ≤ 65536) where
     two-lines h = go (check file) refl
       where
         go : (v : Verdict) → check file ≡ v → runLine (end plain-machine) ++ runLine (end table-machine) ≡ runner file trace
-        go (accepted m) e = rw (e, running, runner, take-all 65536 trace short, e)
+        go (accepted m) e = rw (e, running, runner, take-all traceBytes trace short, e)
         go (refused a) e =
             let s = number-is (end plain-machine) r runs in
             let n = refusal-number (refused-iff file a .0 e) in
@@ -168,13 +168,13 @@ module _ (file trace : List ℕ) (short : length trace ≤ 65536) where
       pub one-printed : of-file ≡ true → Prints (runner file trace) before next mid
       one-printed h = rw (← one-line h) (written-prints one)
 
-      pub next-room : 4096 ≤ length before → next + 47 ≤ length mid
+      pub next-room : outputBytes ≤ length before → next + 47 ≤ length mid
       next-room room =
           let line = line-short (end plain-machine) (end-fits plain-machine) in
           let same = written-length one (omega arith) in
           omega (arith, one .behind)
 
-      pub two-printed : {after : List ℕ} {n : ℕ} → of-file ≡ false → 4096 ≤ length before
+      pub two-printed : {after : List ℕ} {n : ℕ} → of-file ≡ false → outputBytes ≤ length before
           → Writes (runLine (end table-machine)) mid next n after → Prints (runner file trace) before n after
       two-printed h room two =
           let line = line-short (end plain-machine) (end-fits plain-machine) in
