@@ -5,6 +5,7 @@ ghost use mathlib.Core.Path.{_≡_};
 ghost use mathlib.Core.List.{[], _∷_};
 ghost use Prim.Native.Nat.{_+_, _*_, _%_, _<_, _≤_};
 ghost use lib.ListN.{length};
+ghost use Rattle.syntax.specs.Limits.{mostVars};
 ghost use Rattle.meaning.specs.Answer as meaning;
 ghost use Rattle.meaning.specs.Hex.{hex2};
 ghost use Rattle.meaning.specs.Lines.{hex4, refusalLine, recordLine};
@@ -78,8 +79,8 @@ fn value_byte(value: u16) -> u8
 }
 
 // The values of the variables, each with 128 added.
-fn put_values(out: &mut [u8], at: usize, vars: usize, values: [u16; 6]) -> usize
-    requires { ⌜ (vars ≤ 6) × (at + 2 * vars ≤ length (now out)) ⌝ }
+fn put_values(out: &mut [u8], at: usize, vars: usize, values: [u16; syntax::VARIABLES]) -> usize
+    requires { ⌜ (vars ≤ mostVars) × (at + 2 * vars ≤ length (now out)) ⌝ }
     ensures { λ r. ⌜ Writes (valuesAt values vars) (now (out .entry)) at r (now (out .exit)) ⌝ }
 {
     let mut to = at;
@@ -93,13 +94,13 @@ fn put_values(out: &mut [u8], at: usize, vars: usize, values: [u16; 6]) -> usize
 }
 
 // The places of the threads.
-fn put_places(out: &mut [u8], at: usize, threads: [Thread; 16]) -> usize
+fn put_places(out: &mut [u8], at: usize, threads: [Thread; machine::THREADS]) -> usize
     requires { ⌜ at + 32 ≤ length (now out) ⌝ }
     ensures { λ r. ⌜ Writes (placesAt threads 16) (now (out .entry)) at r (now (out .exit)) ⌝ }
 {
     let mut to = at;
     let mut t = 0;
-    while t < 16 {
+    while t < machine::THREADS {
         let thread = threads[t];
         let place = thread.place;
         to = put2(out, to, place_byte(place));
@@ -113,13 +114,13 @@ pub fn put_record(
     out: &mut [u8],
     at: usize,
     vars: usize,
-    values: [u16; 6],
-    threads: [Thread; 16],
+    values: [u16; syntax::VARIABLES],
+    threads: [Thread; machine::THREADS],
 ) -> usize
     ensures { λ r. ⌜ ((rec : calls.Record) → Fits rec vars values threads → at + 35 + 2 * vars ≤ length (now (out .entry))
         → Writes (recordLine rec) (now (out .entry)) at r (now (out .exit))) ⌝ }
 {
-    if vars > 6 {
+    if vars > syntax::VARIABLES {
         return at;
     }
     let size = 35 + 2 * vars;

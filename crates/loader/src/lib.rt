@@ -10,6 +10,7 @@ ghost use mathlib.Core.Path.{_≡_};
 ghost use mathlib.Core.List.{List};
 ghost use Prim.Native.Nat.{ℕ, _%_, _≤_, _<_};
 ghost use lib.ListN.{length, getD};
+ghost use Rattle.machine.specs.Limits.{mostRegions, mostStates, mostAfter};
 ghost use Rattle.syntax.specs.Held.Kind.{Words};
 ghost use Rattle.syntax.specs.Token.{Lexeme, Token};
 ghost use Rattle.syntax.specs.Tree.{Monitor};
@@ -91,13 +92,13 @@ fn judge(file: &[u8], kinds: &[u8], values: &[u16], places: &[u16]) -> Judged
 }
 
 // The tokens at which the guards begin, by guard.
-fn guards_at(layout: Layout) -> [u16; 16]
-    ensures { λ r. ⌜ ((g : ℕ) → g < 16 → getD r g 0 ≡ getD (layout .«guards_at») (getD (layout .firsts) g 0 % 16) 0) ⌝ }
+fn guards_at(layout: Layout) -> [u16; machine::REGIONS]
+    ensures { λ r. ⌜ ((g : ℕ) → g < mostRegions → getD r g 0 ≡ getD (layout .«guards_at») (getD (layout .firsts) g 0 % mostRegions) 0) ⌝ }
 {
-    let mut ats = [0u16; 16];
+    let mut ats = [0u16; machine::REGIONS];
     let mut g = 0;
-    while g < 16 {
-        ats[g] = layout.guards_at[(layout.firsts[g] % 16) as usize];
+    while g < machine::REGIONS {
+        ats[g] = layout.guards_at[(layout.firsts[g] % machine::REGION_END) as usize];
         g += 1;
     }
     ats
@@ -115,7 +116,7 @@ fn fill(
     after: &mut [u16],
 ) -> Answer
     ensures { λ r. ⌜ ((m : Monitor) (ls : List Lexeme) → Filling m ls (now (kinds .entry)) (now (values .entry)) bounds layout
-        → 4096 ≤ length (now (kept .entry)) → 4096 ≤ length (now (holds .entry)) → 65536 ≤ length (now (after .entry))
+        → mostStates ≤ length (now (kept .entry)) → mostStates ≤ length (now (holds .entry)) → mostAfter ≤ length (now (after .entry))
         → Filled m place r (now (kept .exit)) (now (holds .exit)) (now (after .exit))) ⌝ }
 {
     let starts = bounds.starts;

@@ -53,9 +53,12 @@ unfoldable pub placer : List ℕ → List ℕ
 placer file = elim (check file) [ accepted m ↦ tableOf (model m) | refused a ↦ refusalLine a ]
 
 -- "it judges a longer trace by its first 65,536 bytes"
+abbrev pub traceBytes : ℕ
+traceBytes = 65536
+
 unfoldable pub runner : List ℕ → List ℕ → List ℕ
 runner file trace =
     elim (check file) [
-      | accepted m ↦ machineLine m plain-machine (take 65536 trace) ++ machineLine m table-machine (take 65536 trace)
+      | accepted m ↦ machineLine m plain-machine (take traceBytes trace) ++ machineLine m table-machine (take traceBytes trace)
       | refused a ↦ refusalLine a
     ]

@@ -30,9 +30,9 @@ pub struct Both {
 pub fn check(file: &[u8]) -> Answer
     ensures { λ r. ⌜ Is r (meaning.check (now (file .entry))) ⌝ }
 {
-    let mut kept = [0u8; 4096];
-    let mut holds = [0u16; 4096];
-    let mut after = [0u16; 65536];
+    let mut kept = [0u8; machine::STATES];
+    let mut holds = [0u16; machine::STATES];
+    let mut after = [0u16; machine::AFTER];
     let loaded = loader::load(file, &mut kept, &mut holds, &mut after);
     loaded.answer
 }
@@ -40,17 +40,17 @@ pub fn check(file: &[u8]) -> Answer
 // The entries of an accepted file's table, from what was loaded of it.
 fn entries_of(
     loaded: Loaded,
-    kept: &[u8; 4096],
-    holds: &[u16; 4096],
-    after: &[u16; 65536],
-) -> [u8; 256]
+    kept: &[u8; machine::STATES],
+    holds: &[u16; machine::STATES],
+    after: &[u16; machine::AFTER],
+) -> [u8; machine::ENTRIES]
     ensures { λ r. ⌜ ((file : List ℕ) → Loads file loaded (now (kept .entry)) (now (holds .entry)) (now (after .entry))
         → EntriesOf file r) ⌝ }
 {
     let bounds = loaded.bounds;
     let layout = loaded.layout;
     let guard_of = layout.guard_of;
-    let mut entries = [0u8; 256];
+    let mut entries = [0u8; machine::ENTRIES];
     table::fill_entries(
         kept,
         holds,
@@ -68,9 +68,9 @@ fn entries_of(
 pub fn place(file: &[u8], table: &mut [u8]) -> Placing
     ensures { λ r. ⌜ Places (calls.place (now (file .entry)) (now (table .entry))) r (now (table .exit)) ⌝ }
 {
-    let mut kept = [0u8; 4096];
-    let mut holds = [0u16; 4096];
-    let mut after = [0u16; 65536];
+    let mut kept = [0u8; machine::STATES];
+    let mut holds = [0u16; machine::STATES];
+    let mut after = [0u16; machine::AFTER];
     let loaded = loader::load(file, &mut kept, &mut holds, &mut after);
     let verdict = loaded.answer;
     if verdict.number != 0 {
@@ -112,10 +112,10 @@ fn run_loaded(
     bytes: &[u8],
     start: usize,
     table: bool,
-    kept: &[u8; 4096],
-    holds: &[u16; 4096],
-    after: &[u16; 65536],
-    entries: &[u8; 256],
+    kept: &[u8; machine::STATES],
+    holds: &[u16; machine::STATES],
+    after: &[u16; machine::AFTER],
+    entries: &[u8; machine::ENTRIES],
 ) -> Running
     ensures { λ r. ⌜ ((file : List ℕ) → Loads file loaded (now (kept .entry)) (now (holds .entry)) (now (after .entry))
         → EntriesOf file (now (entries .entry))
@@ -149,9 +149,9 @@ fn both_loaded(
     loaded: Loaded,
     bytes: &[u8],
     start: usize,
-    kept: &[u8; 4096],
-    holds: &[u16; 4096],
-    after: &[u16; 65536],
+    kept: &[u8; machine::STATES],
+    holds: &[u16; machine::STATES],
+    after: &[u16; machine::AFTER],
 ) -> Both
     ensures { λ r. ⌜ ((file : List ℕ) → Loads file loaded (now (kept .entry)) (now (holds .entry)) (now (after .entry))
         → Agrees file (now (bytes .entry)) start (r .plain) (r .table)) ⌝ }
@@ -169,9 +169,9 @@ fn both_loaded(
 pub fn run(file: &[u8], bytes: &[u8], start: usize, table: bool) -> Running
     ensures { λ r. ⌜ Runs (calls.running (now (file .entry)) (now (bytes .entry)) start (machineOf table)) r ⌝ }
 {
-    let mut kept = [0u8; 4096];
-    let mut holds = [0u16; 4096];
-    let mut after = [0u16; 65536];
+    let mut kept = [0u8; machine::STATES];
+    let mut holds = [0u16; machine::STATES];
+    let mut after = [0u16; machine::AFTER];
     let loaded = loader::load(file, &mut kept, &mut holds, &mut after);
     let entries = entries_of(loaded, &kept, &holds, &after);
     run_loaded(loaded, bytes, start, table, &kept, &holds, &after, &entries)
@@ -181,9 +181,9 @@ pub fn run(file: &[u8], bytes: &[u8], start: usize, table: bool) -> Running
 pub fn run_both(file: &[u8], bytes: &[u8], start: usize) -> Both
     ensures { λ r. ⌜ Agrees (now (file .entry)) (now (bytes .entry)) start (r .plain) (r .table) ⌝ }
 {
-    let mut kept = [0u8; 4096];
-    let mut holds = [0u16; 4096];
-    let mut after = [0u16; 65536];
+    let mut kept = [0u8; machine::STATES];
+    let mut holds = [0u16; machine::STATES];
+    let mut after = [0u16; machine::AFTER];
     let loaded = loader::load(file, &mut kept, &mut holds, &mut after);
     both_loaded(loaded, bytes, start, &kept, &holds, &after)
 }
@@ -192,9 +192,9 @@ pub fn run_both(file: &[u8], bytes: &[u8], start: usize) -> Both
 pub fn run_both_from_start(file: &[u8], bytes: &[u8]) -> Both
     ensures { λ r. ⌜ Agrees (now (file .entry)) (now (bytes .entry)) (startOf (meaning.check (now (file .entry)))) (r .plain) (r .table) ⌝ }
 {
-    let mut kept = [0u8; 4096];
-    let mut holds = [0u16; 4096];
-    let mut after = [0u16; 65536];
+    let mut kept = [0u8; machine::STATES];
+    let mut holds = [0u16; machine::STATES];
+    let mut after = [0u16; machine::AFTER];
     let loaded = loader::load(file, &mut kept, &mut holds, &mut after);
     let start = start_of(loaded);
     both_loaded(loaded, bytes, start, &kept, &holds, &after)
@@ -204,9 +204,9 @@ pub fn run_both_from_start(file: &[u8], bytes: &[u8]) -> Both
 pub fn start_state(file: &[u8]) -> usize
     ensures { λ r. ⌜ r ≡ startOf (meaning.check (now (file .entry))) ⌝ }
 {
-    let mut kept = [0u8; 4096];
-    let mut holds = [0u16; 4096];
-    let mut after = [0u16; 65536];
+    let mut kept = [0u8; machine::STATES];
+    let mut holds = [0u16; machine::STATES];
+    let mut after = [0u16; machine::AFTER];
     let loaded = loader::load(file, &mut kept, &mut holds, &mut after);
     start_of(loaded)
 }

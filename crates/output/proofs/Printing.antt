@@ -71,7 +71,7 @@ module _ (file buffer : List ℕ) {r : Placing} {after : List ℕ} (p : Places (
       rw (accepted-iff file (x .0) .1 (x .1), placer) (prints (p .bytes ∙ x .3) (p .length ∙ x .2))
 
   -- a number other than 0 is a refusal of the file, since the table fits
-  pub refusal-printed : {n : ℕ} {last : List ℕ} → 4096 ≤ length buffer → (r .answer .number ≡ 0 → ⊥)
+  pub refusal-printed : {n : ℕ} {last : List ℕ} → outputBytes ≤ length buffer → (r .answer .number ≡ 0 → ⊥)
       → (0 + 11 ≤ length after → r .answer .first < 65536 → r .answer .second < 65536
       → Writes (refusalLine (answer (r .answer .number) (r .answer .first) (r .answer .second))) after 0 n last)
       → Prints (placer file) buffer n last
@@ -124,15 +124,15 @@ of-file-refused (frame-refused a k q e t) r s h = clash h (s .2)
 of-file-refused (all-allowed a k q e t) r s h = clash h (s .2)
 
 -- a trace is judged by its first 65,536 bytes
-pub runner-cut : (file trace : List ℕ) → runner file (take 65536 trace) ≡ runner file trace
+pub runner-cut : (file trace : List ℕ) → runner file (take traceBytes trace) ≡ runner file trace
 unfolding runner
 runner-cut file trace = go (check file) refl
   where
-    go : (v : Verdict) → check file ≡ v → runner file (take 65536 trace) ≡ runner file trace
-    go (accepted m) e = rw (e, runner, take-take 65536 65536 trace (omega arith))
+    go : (v : Verdict) → check file ≡ v → runner file (take traceBytes trace) ≡ runner file trace
+    go (accepted m) e = rw (e, runner, take-take traceBytes traceBytes trace (omega arith))
     go (refused a) e = rw (e, runner)
 
-module _ (file trace : List ℕ) (short : length trace ≤ 65536) where
+module _ (file trace : List ℕ) (short : length trace ≤ traceBytes) where
   abbrev pub end : Machine → calls.Running
   end w = running file trace (startOf (check file)) w
 
@@ -161,7 +161,7 @@ module _ (file trace : List ℕ) (short : length trace ≤ 65536) where
       pub one-printed : r .«of_file» ≡ true → Prints (runner file trace) before next mid
       one-printed h = rw (← one-line h) (written-prints one)
 
-      pub next-room : 4096 ≤ length before → next + 47 ≤ length mid
+      pub next-room : outputBytes ≤ length before → next + 47 ≤ length mid
       next-room room =
           let line = line-short (end plain-machine) (end-fits plain-machine) in
           let same = written-length one (omega arith) in

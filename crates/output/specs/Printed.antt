@@ -4,6 +4,10 @@ use mathlib.Core.Path.{_≡_}
 use mathlib.Core.List.{List, _++_}
 use lib.ListN.{length, take, drop}
 
+-- the bytes of a buffer that has room for all that the programs print
+abbrev pub outputBytes : ℕ
+outputBytes = 4096
+
 -- the lines stand from byte 0 on, the bytes behind them are as they were, and the count is theirs
 pub record Prints (lines before : List ℕ) (n : ℕ) (after : List ℕ) : Type 0 where
   pub bytes : after ≡ lines ++ drop (length lines) before

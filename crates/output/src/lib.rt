@@ -4,32 +4,32 @@ ghost use mathlib.Core.Path.{_≡_};
 ghost use Prim.Native.Nat.{_+_, _≤_};
 ghost use lib.ListN.{length};
 ghost use Rattle.meaning.specs.Calls as calls;
-ghost use Rattle.meaning.specs.Lines.{runLine, placer, runner};
+ghost use Rattle.meaning.specs.Lines.{runLine, placer, runner, traceBytes};
 ghost use Rattle.demands.specs.Widths.{RunFits};
 ghost use Rattle.run.specs.Results.{Runs};
 ghost use Rattle.digits.specs.Written.{Writes};
 ghost use Rattle.output.specs.Printed.{Prints};
 
 // What placer prints of a file: its table, or its refusal's line.
-pub fn placer_lines(file: &[u8], out: &mut [u8; 4096]) -> usize
+pub fn placer_lines(file: &[u8], out: &mut [u8; OUTPUT_BYTES]) -> usize
     ensures { λ r. ⌜ Prints (placer (now (file .entry))) (now (out .entry)) r (now (out .exit)) ⌝ }
 {
     put_table(file, out)
 }
 
 // What runner prints of a file and a trace: a line for each machine, or the file's refusal once.
-pub fn runner_lines(file: &[u8], trace: &[u8], out: &mut [u8; 4096]) -> usize
+pub fn runner_lines(file: &[u8], trace: &[u8], out: &mut [u8; OUTPUT_BYTES]) -> usize
     ensures { λ r. ⌜ Prints (runner (now (file .entry)) (now (trace .entry))) (now (out .entry)) r (now (out .exit)) ⌝ }
 {
-    if 65536 < trace.len() {
-        return put_runs(file, &trace[..65536], out);
+    if TRACE_BYTES < trace.len() {
+        return put_runs(file, &trace[..TRACE_BYTES], out);
     }
     put_runs(file, trace, out)
 }
 
 // The table, or the refusal's line, into a slice.
 fn put_table(file: &[u8], out: &mut [u8]) -> usize
-    requires { ⌜ 4096 ≤ length (now out) ⌝ }
+    requires { ⌜ outputBytes ≤ length (now out) ⌝ }
     ensures { λ r. ⌜ Prints (placer (now (file .entry))) (now (out .entry)) r (now (out .exit)) ⌝ }
 {
     let placing = monitor::place(file, out);
@@ -40,9 +40,9 @@ fn put_table(file: &[u8], out: &mut [u8]) -> usize
     lines::put_answer(out, 0, answer.number, answer.first, answer.second)
 }
 
-// A trace of at most 65,536 bytes: the plain machine's line, and the table's unless the file is refused.
+// A trace that is not cut: the plain machine's line, and the table's unless the file is refused.
 fn put_runs(file: &[u8], trace: &[u8], out: &mut [u8]) -> usize
-    requires { ⌜ (length (now trace) ≤ 65536) × (4096 ≤ length (now out)) ⌝ }
+    requires { ⌜ (length (now trace) ≤ traceBytes) × (outputBytes ≤ length (now out)) ⌝ }
     ensures { λ r. ⌜ Prints (runner (now (file .entry)) (now (trace .entry))) (now (out .entry)) r (now (out .exit)) ⌝ }
 {
     let both = monitor::run_both_from_start(file, trace);

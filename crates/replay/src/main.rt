@@ -51,14 +51,14 @@ fn read_part(fd: i32, into: &mut [u8], n: usize) -> usize
 fn replay(fd: i32) -> bool {
     let n = read_length(fd);
     let k = read_length(fd);
-    if 9000 < n || 65536 < k {
+    if 9000 < n || output::TRACE_BYTES < k {
         return false;
     }
     let mut file = [0u8; 9000];
-    let mut trace = [0u8; 65536];
+    let mut trace = [0u8; output::TRACE_BYTES];
     let file_end = read_part(fd, &mut file, n);
     let trace_end = read_part(fd, &mut trace, k);
-    let mut out = [0u8; 4096];
+    let mut out = [0u8; output::OUTPUT_BYTES];
     let table = output::placer_lines(&file[..file_end], &mut out);
     io::write_all(1, &out[..table]);
     let runs = output::runner_lines(&file[..file_end], &trace[..trace_end], &mut out);

@@ -5,6 +5,7 @@ use mathlib.Core.Bool.{Bool, true, false}
 use mathlib.Core.List.{map}
 use lib.ListN.{length, getD, replicate}
 use lib.IntN.{pos}
+use Rattle.syntax.specs.Limits.{mostVars}
 use Rattle.machine.specs.Monitor as machine
 use Rattle.stepper.specs.Shown.{placeOf}
 use Rattle.meaning.specs.Held.{Offset}
@@ -19,7 +20,7 @@ use Rattle.answers.specs.Says.{Says}
 pub record Records (rec : calls.Record) (r : code.Record) : Type 0 where
   pub vars : r .vars ≡ length (rec .values)
   pub values : (k : ℕ) → k < length (rec .values) → Offset (getD (rec .values) k (pos 0)) (getD (r .values) k 0)
-  pub unused : (k : ℕ) → k < 6 → length (rec .values) ≤ k → getD (r .values) k 0 ≡ 128
+  pub unused : (k : ℕ) → k < mostVars → length (rec .values) ≤ k → getD (r .values) k 0 ≡ 128
   pub places : map (λ t. placeOf (t .place)) (r .threads) ≡ rec .places
   pub notified : r .notified ≡ rec .notified
   pub how-many : r .«how_many» ≡ rec .howMany
@@ -27,7 +28,7 @@ pub record Records (rec : calls.Record) (r : code.Record) : Type 0 where
 -- the record that stands beside a refusal: no values, all idle, none notified
 pub record NoRecord (r : code.Record) : Type 0 where
   pub vars : r .vars ≡ 0
-  pub values : (k : ℕ) → k < 6 → getD (r .values) k 0 ≡ 128
+  pub values : (k : ℕ) → k < mostVars → getD (r .values) k 0 ≡ 128
   pub places : map (λ t. placeOf (t .place)) (r .threads) ≡ replicate 16 machine.idle
   pub notified : r .notified ≡ 0
   pub how-many : r .«how_many» ≡ 0

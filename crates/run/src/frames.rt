@@ -29,12 +29,12 @@ pub fn run_trace(
     bytes: &[u8],
     state: u16,
     table: bool,
-    holds: &[u16; 4096],
-    after: &[u16; 65536],
-    guard_of: &[u8; 16],
-    begins: &[u8; 16],
-    goes_on: &[u8; 16],
-    entries: &[u8; 256],
+    holds: &[u16; machine::STATES],
+    after: &[u16; machine::AFTER],
+    guard_of: &[u8; machine::REGIONS],
+    begins: &[u8; machine::REGIONS],
+    goes_on: &[u8; machine::REGIONS],
+    entries: &[u8; machine::ENTRIES],
     regions: usize,
 ) -> Ended
     ensures { λ r. ⌜ ((m : Monitor) (kept : List ℕ) (fs : List machine.Frame) → m .regions ≡ regions

@@ -29,8 +29,8 @@ ghost use Rattle.run.specs.Results.{Runs, Records, NoRecord, machineOf};
 // notified set and how many are in it.
 pub struct Record {
     pub vars: usize,
-    pub values: [u16; 6],
-    pub threads: [Thread; 16],
+    pub values: [u16; syntax::VARIABLES],
+    pub threads: [Thread; machine::THREADS],
     pub notified: u16,
     pub how_many: u32,
 }
@@ -47,8 +47,8 @@ pub fn no_record() -> Record
 {
     Record {
         vars: 0,
-        values: [128u16; 6],
-        threads: [Thread { place: Place::Idle }; 16],
+        values: [128u16; syntax::VARIABLES],
+        threads: [Thread { place: Place::Idle }; machine::THREADS],
         notified: 0,
         how_many: 0,
     }
@@ -95,10 +95,10 @@ pub fn run_from(
     bytes: &[u8],
     start: usize,
     table: bool,
-    kept: &[u8; 4096],
-    holds: &[u16; 4096],
-    after: &[u16; 65536],
-    entries: &[u8; 256],
+    kept: &[u8; machine::STATES],
+    holds: &[u16; machine::STATES],
+    after: &[u16; machine::AFTER],
+    entries: &[u8; machine::ENTRIES],
 ) -> Running
     ensures { λ r. ⌜ ((m : Monitor) → Bounded (vars m) bounds → layout .regions ≡ length (regions m)
         → Held (model m) (now (kept .entry)) (now (holds .entry)) (now (after .entry)) (layout .«guard_of»)
@@ -106,7 +106,7 @@ pub fn run_from(
         → (table ≡ true → HeldEntries (model m) (now (entries .entry)))
         → Checked (model m) → Runs (decided.runFrom m (machineOf table) start (now (bytes .entry))) r) ⌝ }
 {
-    if bounds.states <= start || 4096 <= start {
+    if bounds.states <= start || machine::STATES <= start {
         return no_start();
     }
     if kept[start] != 1 {
