@@ -28,7 +28,8 @@ place-two threads t = refl
 -- what f gives for the places of a list is what h gives for its elements, joined
 module _ {A : Type 0} (h : A → List ℕ) (joined : List A → List ℕ) (none : joined [] ≡ [])
     (more : (a : A) (as′ : List A) → joined (a ∷ as′) ≡ h a ++ joined as′) (d : A) where
-  each : (l : List A) (k : ℕ) (f : ℕ → List ℕ) → ((j : ℕ) → j < length l → f (k + j) ≡ h (getD l j d)) → forEach (length l) k f ≡ joined l
+  each : (l : List A) (k : ℕ) (f : ℕ → List ℕ) → ((j : ℕ) → j < length l → f (k + j) ≡ h (getD l j d))
+      → forEach (length l) k f ≡ joined l
   unfolding forEach
   each [] k f e = sym none
   each (a ∷ l) k f e =
@@ -48,28 +49,33 @@ byte-is machine.idle h = refl
 byte-is (machine.waiting r) h = refl
 byte-is (machine.due r) h = rw (mod-eq-of-lt (h r refl))
 
-module _ {rec : calls.Record} {vars : ℕ} {values : List ℕ} {threads : List Thread} (fits : Fits rec vars values threads) where
-  pub values-are : valuesAt values vars ≡ valueDigits (rec .values)
-  unfolding valuesAt valueDigits valueAt
-  values-are =
-      rw (fits .counted)
-      (each (λ a. hex2 (natAbs (a +ℤ pos 128))) valueDigits refl (λ a as′. refl) (pos 0) (rec .values) 0 (valueAt values)
-      (λ j lt.
-      let value = offset-abs _ _ (fits .held j lt) in
-      let byte : getD values j 0 % 256 ≡ getD values j 0 = mod-eq-of-lt (omega (arith, value, fits .digits .values j lt)) in
-      rw (zero-add, byte, value)))
+module _ {rec : calls.Record} {vars : ℕ} {values : List ℕ} {threads : List Thread} (fits : Fits rec vars values threads)
+  where
+    pub values-are : valuesAt values vars ≡ valueDigits (rec .values)
+    unfolding valuesAt valueDigits valueAt
+    values-are =
+        rw (fits .counted)
+        (each (λ a. hex2 (natAbs (a +ℤ pos 128))) valueDigits refl (λ a as′. refl) (pos 0) (rec .values) 0
+        (valueAt values)
+        (λ j lt.
+        let value = offset-abs _ _ (fits .held j lt) in
+        let byte : getD values j 0 % 256 ≡ getD values j 0 =
+        mod-eq-of-lt (omega (arith, value, fits .digits .values j lt)) in
+        rw (zero-add, byte, value)))
 
-  place-is : (t : ℕ) → placesOf threads t ≡ getD (rec .places) t machine.idle
-  unfolding placesOf idleThread placeOf
-  place-is t = sym (List·getD-map (λ t. placeOf (t .place)) threads t idleThread) ∙ ap (λ (ps : List machine.Place). getD ps t machine.idle) (fits .places)
+    place-is : (t : ℕ) → placesOf threads t ≡ getD (rec .places) t machine.idle
+    unfolding placesOf idleThread placeOf
+    place-is t = sym (List·getD-map (λ t. placeOf (t .place)) threads t idleThread)
+        ∙ ap (λ (ps : List machine.Place). getD ps t machine.idle) (fits .places)
 
-  pub places-are : length threads ≡ 16 → placesAt threads 16 ≡ placeDigits (rec .places)
-  unfolding placesAt placeDigits placeAt
-  places-are l =
-      let n : length (rec .places) ≡ 16 = ap length (sym (fits .places)) ∙ length-map threads (λ t. placeOf (t .place)) ∙ l in
-      rw (← n)
-      (each (λ p. hex2 (placeByte p)) placeDigits refl (λ p ps. refl) machine.idle (rec .places) 0 (placeAt threads)
-      (λ j lt. rw (zero-add, place-is j, byte-is _ (fits .digits .dues j))))
+    pub places-are : length threads ≡ 16 → placesAt threads 16 ≡ placeDigits (rec .places)
+    unfolding placesAt placeDigits placeAt
+    places-are l =
+        let n : length (rec .places) ≡ 16 = ap length (sym (fits .places)) ∙ length-map threads (λ t. placeOf (t .place))
+        ∙ l in
+        rw (← n)
+        (each (λ p. hex2 (placeByte p)) placeDigits refl (λ p ps. refl) machine.idle (rec .places) 0 (placeAt threads)
+        (λ j lt. rw (zero-add, place-is j, byte-is _ (fits .digits .dues j))))
 
 pub values-length : (values : List ℕ) (n : ℕ) → length (valuesAt values n) ≡ 2 * n
 unfolding valuesAt

@@ -16,12 +16,16 @@ use Rattle.meaning.proofs.Sizes.{Sizes, sizes-of}
 use Rattle.evaluator.specs.Coding.{EndsCond}
 
 -- where none stands behind n others there are at most n
-at-most : (n : ℕ) (ts : List Token) → ((before after : List Token) (t : Token) → ts ≡ before ++ (t ∷ after) → n ≤ length before → ⊥)
+at-most : (n : ℕ) (ts : List Token) → ((before after : List Token) (t : Token) → ts ≡ before ++ (t ∷ after)
+    → n ≤ length before → ⊥)
     → length ts ≤ n
 at-most n [] none-past = omega arith
 at-most zero (t ∷ ts) none-past = absurd (none-past [] ts t refl (omega arith))
 at-most (suc n) (t ∷ ts) none-past =
-    omega (arith, at-most n ts (λ b a u e h. none-past (t ∷ b) a u (ap {B = List Token} (λ us. t ∷ us) e) (omega arith)))
+    omega (
+      arith,
+      at-most n ts (λ b a u e h. none-past (t ∷ b) a u (ap {B = List Token} (λ us. t ∷ us) e) (omega arith)),
+    )
 
 -- 3: "past the 1,024th"
 pub few-tokens : (ts : List Token) → crowded 0 0 0 ts ≡ none → length ts ≤ 1024

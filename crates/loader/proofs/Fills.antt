@@ -39,7 +39,8 @@ pub kept-row : (m : Monitor) (row : List ℕ) → TruthRow (vars m) (truth (m .k
 unfolding TruthRow
 kept-row m row t = kept-of-row m row (λ s h. t s h ∙ ap bit (keep-is-kept m (stateAt (vars m) s)))
 
-module _ {m : Monitor} {ls : List Lexeme} {kinds values : List ℕ} {b : Bounds} {l : Layout} (f : Filling m ls kinds values b l) where
+module _ {m : Monitor} {ls : List Lexeme} {kinds values : List ℕ} {b : Bounds} {l : Layout}
+    (f : Filling m ls kinds values b l) where
   pub keeping : Condition (vars m) (m .keep) kinds values b (l .keep)
   keeping =
       record {
@@ -55,7 +56,8 @@ module _ {m : Monitor} {ls : List Lexeme} {kinds values : List ℕ} {b : Bounds}
   few-guards : length (guards m) ≤ 16
   few-guards = omega (arith, guards-few m, f .few-regions)
 
-  guards-of : (ats : List ℕ) → ((g : ℕ) → g < 16 → getD ats g 0 ≡ getD (l .«guards_at») (getD (l .firsts) g 0 % 16) 0) → GuardsAt m ls ats
+  guards-of : (ats : List ℕ) → ((g : ℕ) → g < 16 → getD ats g 0 ≡ getD (l .«guards_at») (getD (l .firsts) g 0 % 16) 0)
+      → GuardsAt m ls ats
   unfolding GuardsAt
   guards-of ats e =
       guards-stand m ls ats (l .firsts) (l .«guards_at») (f .laid .first-below) (f .laid .first-has)
@@ -64,7 +66,8 @@ module _ {m : Monitor} {ls : List Lexeme} {kinds values : List ℕ} {b : Bounds}
       let small : getD (l .firsts) g 0 % 16 ≡ getD (l .firsts) g 0 = omega (arith, f .few-regions) in
       e g (omega (arith, few-guards)) ∙ ap (λ (k : ℕ). getD (l .«guards_at») k 0) small)
 
-  pub guarding : (ats : List ℕ) → ((g : ℕ) → g < 16 → getD ats g 0 ≡ getD (l .«guards_at») (getD (l .firsts) g 0 % 16) 0)
+  pub guarding : (ats : List ℕ)
+      → ((g : ℕ) → g < 16 → getD ats g 0 ≡ getD (l .«guards_at») (getD (l .firsts) g 0 % 16) 0)
       → Guards m kinds values b ats (l .guards)
   guarding ats e =
       record {
@@ -114,14 +117,20 @@ module _ (m : Monitor) (place : ℕ) (r : Answer) (kept holds after : List ℕ) 
 
   module _ (on : t ≡ true) {x : Broken} (a : BrokenAs x (broken m)) where
     -- 9
-    pub filled-9 : (k n : ℕ) → x ≡ At k n → (r .number ≡ 9) × (r .first ≡ k) × (r .second ≡ n) → Filled m place r kept holds after
+    pub filled-9 : (k n : ℕ) → x ≡ At k n → (r .number ≡ 9) × (r .first ≡ k) × (r .second ≡ n)
+        → Filled m place r kept holds after
     filled-9 k n e (p, q, s) =
         let stops = stopped (broken m) a e in
         record {
           fails = λ off. clash on (is ∙ off);
           breaks = λ _ i j h.
               let same : _≡_ {A = ℕ × ℕ} (k, n) (i, j) = cc in
-              record { number = p; first = q ∙ ap (λ (x : ℕ × ℕ). x .0) same; second = s ∙ ap (λ (x : ℕ × ℕ). x .1) same };
+              record {
+                number = p;
+                first = q ∙ ap (λ (x : ℕ × ℕ). x .0) same;
+                second =
+                    s ∙ ap (λ (x : ℕ × ℕ). x .1) same;
+              };
           passes = λ _ h. different (cc);
         }
 

@@ -10,7 +10,8 @@ use Rattle.meaning.specs.Model.{beginsIn, regions, follows, model}
 
 pub held-places : {begins goesOn : List ℕ} (m : Monitor)
     → ((r : ℕ) → r < length (regions m) → getD begins r 0 ≡ bit (beginsIn (all (m .methods)) r))
-    → ((r : ℕ) → r < length (regions m) → follows m r ≡ followsBy r (getD goesOn r 0)) → HeldPlaces (model m) begins goesOn
+    → ((r : ℕ) → r < length (regions m) → follows m r ≡ followsBy r (getD goesOn r 0))
+    → HeldPlaces (model m) begins goesOn
 unfolding model
 held-places m by-begins by-follows =
     record { by-begins = by-begins; by-follows = by-follows }

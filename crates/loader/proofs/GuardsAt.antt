@@ -22,7 +22,8 @@ module _ (m : Monitor) (ls : List Lexeme) (ats firsts of-regions : List ℕ)
       let r = getD firsts g 0 in
       let (us, e) = stand r (first-below g h) in
       let spells : spellCond (region m r .guard) ≡ spellCond (getD (guards m) g noGuard) =
-      sym (guard-spells m r (first-below g h)) ∙ ap (λ (k : ℕ). spellCond (getD (guards m) k noGuard)) (first-has g h) in (
+      sym (guard-spells m r (first-below g h)) ∙ ap (λ (k : ℕ). spellCond (getD (guards m) k noGuard)) (first-has g h)
+      in (
         mark rparen ∷ us,
         ap (λ (k : ℕ). drop k ls) (of-firsts g h) ∙ e ∙ ap (λ (cs : List Lexeme). cs ++ (mark rparen ∷ us)) spells,
         ends-guard us,

@@ -147,7 +147,8 @@ module _ {file : List ℕ} {ts : List Token} {kinds values places : List ℕ} (w
     unfolding regions
     loads =
         split (keptAt m (starts (vars m))) (λ on. go on (broken m) refl)
-        (λ off. refuses (says-8 w (p .uncrowded) m (p .grammar) (p .counts) (p .names) (p .ranges) (j .keep) (p .keep-stands) off)
+        (λ off. refuses (says-8 w (p .uncrowded) m (p .grammar) (p .counts) (p .names) (p .ranges) (j .keep)
+        (p .keep-stands) off)
         (rw at-keep at (filled .fails off)))
       where
         go : keptAt m (starts (vars m)) ≡ true → (o : Option (ℕ × ℕ)) → broken m ≡ o

@@ -1,4 +1,5 @@
--- Names: those behind `var` are the variables' in their order, so a resolved file is held as the evaluator has it. By what a tree spells: no `var` stands behind the variables.
+-- Names: those behind `var` are the variables' in their order, so a resolved file is held as the evaluator has it. By
+-- what a tree spells: no `var` stands behind the variables.
 use Prim.Native.Nat.{ℕ, suc}
 use native.Mathlib.Omega.{arith}
 use mathlib.Core.Path.{_≡_, refl, sym, ap, _∙_}
@@ -7,9 +8,14 @@ use mathlib.Core.Option.{some}
 use mathlib.Core.List.{List, [], _∷_, _++_, map, append-assoc, append-nil}
 use lib.ListN.{length, getD, drop, getElem?, length-map}
 use Rattle.syntax.specs.Bytes.{sameBytes}
-use Rattle.syntax.specs.Token.{Lexeme, name, key, number, mark, lbrace, rbrace, semicolon, k-var, k-keep, Token, lexemes, isKey, keywordNumber}
+use Rattle.syntax.specs.Token.{Lexeme, name, key, number, mark, lbrace, rbrace, semicolon, k-var, k-keep, Token}
+use Rattle.syntax.specs.Token.{lexemes, isKey, keywordNumber}
 use Rattle.syntax.specs.Held.Kind.{kindOf, Words}
-use Rattle.syntax.specs.Tree.{Int, plain, negated, Atom, literal, variable, Term, Expr, Cond, only, or, Conj, just, and, Simple, negation, bracketed, constant, compare, Block, end, then, Stmt, assign, if-then, if-else, Region, Method, Var, Monitor, all, each, spellInt, spellAtom, spellTerm, spellExpr, spellConstant, spellCond, spellConj, spellSimple, spellBlock, spellStmt, spellRegion, spellMethod, spellVar, spell}
+use Rattle.syntax.specs.Tree.{Int, plain, negated, Atom, literal, variable, Term, Expr, Cond, only, or, Conj, just, and}
+use Rattle.syntax.specs.Tree.{Simple, negation, bracketed, constant, compare, Block, end, then, Stmt, assign, if-then}
+use Rattle.syntax.specs.Tree.{if-else, Region, Method, Var, Monitor, all, each, spellInt, spellAtom, spellTerm}
+use Rattle.syntax.specs.Tree.{spellExpr, spellConstant, spellCond, spellConj, spellSimple, spellBlock, spellStmt}
+use Rattle.syntax.specs.Tree.{spellRegion, spellMethod, spellVar, spell}
 use Rattle.logic.proofs.Bools.{split}
 use Rattle.logic.proofs.Bools.{different}
 use Rattle.meaning.proofs.KeywordPlaces.{times, times-append, behindKeep}
@@ -20,12 +26,14 @@ use Rattle.loader.proofs.TokenSlices.{lexemes-map, at-lexeme}
 -- the names behind `var` among lexemes, the lexeme before coming first
 titlesIn : Lexeme → List Lexeme → List (List ℕ)
 titlesIn before [] = []
-titlesIn before (name x ∷ ls) = elim (isKey k-var before) [ true ↦ x ∷ titlesIn (name x) ls | false ↦ titlesIn (name x) ls ]
+titlesIn before (name x ∷ ls) =
+    elim (isKey k-var before) [ true ↦ x ∷ titlesIn (name x) ls | false ↦ titlesIn (name x) ls ]
 titlesIn before (key k ∷ ls) = titlesIn (key k) ls
 titlesIn before (number n ∷ ls) = titlesIn (number n) ls
 titlesIn before (mark m ∷ ls) = titlesIn (mark m) ls
 
-one-more : (before : Lexeme) (k : ℕ) (l : Lexeme) (ts : List Token) → ((c : Lexeme) → titlesFrom c ts ≡ titlesIn c (lexemes ts))
+one-more : (before : Lexeme) (k : ℕ) (l : Lexeme) (ts : List Token)
+    → ((c : Lexeme) → titlesFrom c ts ≡ titlesIn c (lexemes ts))
     → titlesFrom before (record { at = k; lexeme = l } ∷ ts) ≡ titlesIn before (l ∷ lexemes ts)
 unfolding titlesFrom titlesIn
 one-more before k (name x) ts rest = split (isKey k-var before) (λ h. cc (rest (name x))) (λ h. cc (rest (name x)))
@@ -50,7 +58,8 @@ unfolding times spellAtom isKey
 none-atom (literal i) = none-int i
 none-atom (variable x) = refl
 
-none-each : {A : Type 0} (f : A → List Lexeme) → ((a : A) → times k-var (f a) ≡ 0) → (as′ : List A) → times k-var (each f as′) ≡ 0
+none-each : {A : Type 0} (f : A → List Lexeme) → ((a : A) → times k-var (f a) ≡ 0) → (as′ : List A)
+    → times k-var (each f as′) ≡ 0
 unfolding times each
 none-each f h [] = refl
 none-each f h (a ∷ as′) = simp (times-append, h, none-each f h as′)
@@ -110,7 +119,8 @@ unfolding times behindKeep isKey keywordNumber
 none-behind m = simp (times-append, none-cond, none-each spellMethod none-method (all (m .methods)))
 
 -- so there are no names behind `var` there
-no-titles : (before : Lexeme) (ls : List Lexeme) → isKey k-var before ≡ false → times k-var ls ≡ 0 → titlesIn before ls ≡ []
+no-titles : (before : Lexeme) (ls : List Lexeme) → isKey k-var before ≡ false → times k-var ls ≡ 0 → titlesIn before ls
+    ≡ []
 unfolding titlesIn times isKey
 no-titles before [] h e = refl
 no-titles before (name x ∷ ls) h e = rw (h, titlesIn) (no-titles (name x) ls refl e)
@@ -137,12 +147,14 @@ unfolding titlesIn each spellVar isKey keywordNumber
 over-vars before [] ls = refl
 over-vars before (v ∷ vs) ls = simp (append-assoc, over-int, over-vars (mark semicolon) vs ls)
 
-pub titles-spelled : (ts : List Token) (m : Monitor) → spell m ≡ lexemes ts → titlesOf ts ≡ map (λ v. v .title) (all (m .vars))
+pub titles-spelled : (ts : List Token) (m : Monitor) → spell m ≡ lexemes ts
+    → titlesOf ts ≡ map (λ v. v .title) (all (m .vars))
 unfolding titlesOf titlesIn spell behindKeep isKey keywordNumber
 titles-spelled ts m spelt =
     in-lexemes (number 0) ts ∙ ap (titlesIn (number 0)) (sym spelt)
     ∙ over-vars (mark lbrace) (all (m .vars)) (behindKeep m)
-    ∙ ap (λ (ys : List (List ℕ)). map (λ v. v .title) (all (m .vars)) ++ ys) (no-titles (key k-keep) (behindKeep m) refl (none-behind m))
+    ∙ ap (λ (ys : List (List ℕ)). map (λ v. v .title) (all (m .vars)) ++ ys)
+    (no-titles (key k-keep) (behindKeep m) refl (none-behind m))
     ∙ append-nil (map (λ v. v .title) (all (m .vars)))
 
 pub slot-same : (vs : List Var) (x : List ℕ) → slotIn (map (λ v. v .title) vs) x ≡ slotOf vs x
@@ -151,7 +163,8 @@ slot-same [] x = refl
 slot-same (v ∷ vs) x = split (sameBytes (v .title) x) (λ h. cc) (λ h. cc (slot-same vs x))
 
 -- kinds, and values that are resolved and then linked
-pub codes : {file : List ℕ} {ts : List Token} {kinds values places : List ℕ} (m : Monitor) (resolved linked : List ℕ) → spell m ≡ lexemes ts
+pub codes : {file : List ℕ} {ts : List Token} {kinds values places : List ℕ} (m : Monitor) (resolved linked : List ℕ)
+    → spell m ≡ lexemes ts
     → Words file ts kinds values places → Resolved ts resolved → length linked ≡ length resolved
     → ((i : ℕ) → (getElem? (lexemes ts) i ≡ some (mark lbrace) → ⊥) → getD linked i 0 ≡ getD resolved i 0)
     → ((i : ℕ) (b : Block) (us : List Lexeme) → drop i (lexemes ts) ≡ mark lbrace ∷ (spellBlock b ++ (mark rbrace ∷ us))
@@ -163,10 +176,13 @@ codes {ts = ts} m resolved linked spelt w r long others braces =
       by-kind = lexemes-map kindOf ts ∙ sym (w .by-kind);
       as-long = long ∙ rw (r, w .by-kind, length-map, length-map);
       by-number = λ i n e. at i (number n) e (λ z. different (cc));
-      by-name = λ i x e. at i (name x) e (λ z. different (cc)) ∙ ap (λ ys. slotIn ys x) (titles-spelled ts m spelt) ∙ slot-same (all (m .vars)) x;
+      by-name = λ i x e. at i (name x) e (λ z. different (cc)) ∙ ap (λ ys. slotIn ys x) (titles-spelled ts m spelt)
+          ∙ slot-same (all (m .vars)) x;
       by-brace = braces;
     }
   where
-    at : (i : ℕ) (l : Lexeme) → getElem? (lexemes ts) i ≡ some l → (l ≡ mark lbrace → ⊥) → getD linked i 0 ≡ slotOrValue (titlesOf ts) l
+    at : (i : ℕ) (l : Lexeme) → getElem? (lexemes ts) i ≡ some l → (l ≡ mark lbrace → ⊥) → getD linked i 0
+        ≡ slotOrValue (titlesOf ts) l
     at i l e other =
-        others i (λ z. other (cc)) ∙ ap (λ (vs : List ℕ). getD vs i 0) r ∙ at-lexeme (slotOrValue (titlesOf ts)) ts i l e
+        others i (λ z. other (cc)) ∙ ap (λ (vs : List ℕ). getD vs i 0) r ∙ at-lexeme (slotOrValue (titlesOf ts)) ts i l
+        e

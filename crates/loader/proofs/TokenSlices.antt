@@ -1,4 +1,5 @@
--- The slices of a scan, as far as it filled them, hold the tokens of the file; and what the variables' reader asks of them: a number is below 1,000.
+-- The slices of a scan, as far as it filled them, hold the tokens of the file; and what the variables' reader asks of
+-- them: a number is below 1,000.
 use Prim.Native.Nat.{ℕ, zero, suc, _-_, _≤_, _<_}
 use native.Mathlib.Omega.{arith}
 use mathlib.Core.Path.{_≡_, refl, sym, subst, ap, _∙_}
@@ -18,9 +19,18 @@ use Rattle.logic.proofs.Bools.{both, no-some}
 use Rattle.scanner.specs.Coded.{Coded}
 use Rattle.variables.specs.Bounded.{Numbers}
 
-pub words : {file : List ℕ} {ts : List Token} {kinds values places : List ℕ} → length file ≤ 8192 → tokenize file ≡ tokens ts
-    → Coded ts kinds values places → Words file ts (take (length ts) kinds) (take (length ts) values) (take (length ts) places)
-words short cut c = record { short = short; cut = cut; by-kind = c .by-kind; by-value = c .by-value; by-place = c .by-place }
+pub words : {file : List ℕ} {ts : List Token} {kinds values places : List ℕ} → length file ≤ 8192
+    → tokenize file ≡ tokens ts
+    → Coded ts kinds values places → Words file ts (take (length ts) kinds) (take (length ts) values)
+    (take (length ts) places)
+words short cut c = record {
+  short = short;
+  cut = cut;
+  by-kind = c .by-kind;
+  by-value = c .by-value;
+  by-place =
+      c .by-place;
+}
 
 -- Lexemes and tokens by their places
 
@@ -37,7 +47,8 @@ at-lexeme f [] i l e = no-some e
 at-lexeme f (t ∷ ts) zero l e = let same : t .lexeme ≡ l = cc in ap f same
 at-lexeme f (t ∷ ts) (suc i) l e = at-lexeme f ts i l e
 
-token-of : (ts : List Token) (i : ℕ) (l : Lexeme) → getElem? (lexemes ts) i ≡ some l → (t : Token) × List·Memᴰ t ts × (t .lexeme ≡ l)
+token-of : (ts : List Token) (i : ℕ) (l : Lexeme) → getElem? (lexemes ts) i ≡ some l
+    → (t : Token) × List·Memᴰ t ts × (t .lexeme ≡ l)
 unfolding lexemes
 token-of [] i l e = no-some e
 token-of (t ∷ ts) zero l e = (t, List·Memᴰ·head refl, cc)

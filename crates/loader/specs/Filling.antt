@@ -1,4 +1,5 @@
--- What is known of a file whose names and braces are resolved, and what filling the slices from it says: refusals 8 and 9.
+-- What is known of a file whose names and braces are resolved, and what filling the slices from it says: refusals 8 and
+-- 9.
 use Prim.Native.Nat.{ℕ, _≤_}
 use mathlib.Core.Path.{_≡_}
 use mathlib.Core.Bool.{true, false}

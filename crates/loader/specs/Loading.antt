@@ -1,4 +1,5 @@
--- What the stages of loading a file say of its check: the answer, and of an accepted file all that the table and the machines look up.
+-- What the stages of loading a file say of its check: the answer, and of an accepted file all that the table and the
+-- machines look up.
 use Prim.Native.Nat.{ℕ, zero, suc}
 use mathlib.Core.Path.{_≡_}
 use mathlib.Core.List.{List, [], _∷_}

@@ -93,7 +93,9 @@ fn judge(file: &[u8], kinds: &[u8], values: &[u16], places: &[u16]) -> Judged
 
 // The tokens at which the guards begin, by guard.
 fn guards_at(layout: Layout) -> [u16; machine::REGIONS]
-    ensures { λ r. ⌜ ((g : ℕ) → g < mostRegions → getD r g 0 ≡ getD (layout .«guards_at») (getD (layout .firsts) g 0 % mostRegions) 0) ⌝ }
+    ensures { λ r.
+        ⌜ ((g : ℕ) → g < mostRegions → getD r g 0 ≡ getD (layout .«guards_at») (getD (layout .firsts) g 0 % mostRegions)
+        0) ⌝ }
 {
     let mut ats = [0u16; machine::REGIONS];
     let mut g = 0;
@@ -115,8 +117,10 @@ fn fill(
     holds: &mut [u16],
     after: &mut [u16],
 ) -> Answer
-    ensures { λ r. ⌜ ((m : Monitor) (ls : List Lexeme) → Filling m ls (now (kinds .entry)) (now (values .entry)) bounds layout
-        → mostStates ≤ length (now (kept .entry)) → mostStates ≤ length (now (holds .entry)) → mostAfter ≤ length (now (after .entry))
+    ensures { λ r.
+        ⌜ ((m : Monitor) (ls : List Lexeme) → Filling m ls (now (kinds .entry)) (now (values .entry)) bounds layout
+        → mostStates ≤ length (now (kept .entry)) → mostStates ≤ length (now (holds .entry))
+        → mostAfter ≤ length (now (after .entry))
         → Filled m place r (now (kept .exit)) (now (holds .exit)) (now (after .exit))) ⌝ }
 {
     let starts = bounds.starts;

@@ -1,5 +1,5 @@
--- What was loaded of a file, by its verdict: a number other than 0 is its refusal, and with 0 there is its monitor. Runs over it, and
--- its start state.
+-- What was loaded of a file, by its verdict: a number other than 0 is its refusal, and with 0 there is its monitor.
+-- Runs over it, and its start state.
 use Prim.Native.Nat.{ℕ, _≤_}
 use native.Mathlib.Omega.{arith}
 use mathlib.Core.Path.{_≡_, refl}
@@ -57,7 +57,8 @@ module _ (file bytes : List ℕ) (start : ℕ) (w : Machine) where
       let (a, e) = refusal-of file (r .answer) is other in rw (e, running) (rw e at is, none, whose)
 
   pub ran-loaded : (r : Running) (a : code.Answer) → Is a (check file) → a .number ≡ 0
-      → ((m : Monitor) → check file ≡ accepted m → Runs (runFrom m w start bytes) r) → Runs (running file bytes start w) r
+      → ((m : Monitor) → check file ≡ accepted m → Runs (runFrom m w start bytes) r)
+      → Runs (running file bytes start w) r
   unfolding running
   ran-loaded r a is z by = let (m, e) = monitor-of file a is z in rw (e, running) (by m e)
 
@@ -68,7 +69,8 @@ module _ {file : List ℕ} {l : Loaded} {kept holds after : List ℕ} (loads : L
   no-start other = let (a, e) = refusal-of file (l .answer) (loads .verdict) other in rw e refl
 
   pub start-at : l .answer .number ≡ 0 → (r : ℕ)
-      → ((vs : List Var) (as′ : List ℤ) → Bounded vs (l .bounds) → Biased vs as′ (l .bounds .starts) → State vs as′ → r ≡ numberOf vs as′)
+      → ((vs : List Var) (as′ : List ℤ) → Bounded vs (l .bounds) → Biased vs as′ (l .bounds .starts) → State vs as′
+      → r ≡ numberOf vs as′)
       → r ≡ startOf (check file)
   unfolding startOf
   start-at z r number =

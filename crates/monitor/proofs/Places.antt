@@ -35,12 +35,14 @@ module _ {file : List ℕ} {l : Loaded} {kept holds after : List ℕ} (loads : L
       → Places (place file buffer) (record { answer = l .answer; length = 0 }) buffer
   unfolding place Is answerOf
   not-placed buffer other =
-      let (a, e) = refusal-of file (l .answer) (loads .verdict) other in rw (e, place) (record { answer = rw e at (loads .verdict); length = refl; bytes = refl })
+      let (a, e) = refusal-of file (l .answer) (loads .verdict) other in
+      rw (e, place) (record { answer = rw e at (loads .verdict); length = refl; bytes = refl })
 
   -- an accepted file: its entries are filled, and its table is written
   module _ (z : l .answer .number ≡ 0) (entries : List ℕ) {buffer behind : List ℕ} {r : Placed}
       (fill : EntriesOf file entries)
-      (write : (n : machine.Monitor) → n .regions ≡ l .layout .regions → n .guards ≡ l .layout .guards → l .layout .regions ≤ 16
+      (write : (n : machine.Monitor) → n .regions ≡ l .layout .regions → n .guards ≡ l .layout .guards
+      → l .layout .regions ≤ 16
       → l .layout .guards ≤ 16 → HeldEntries n entries → WritesTable (tableOf n) buffer r behind) where
     abbrev m : Monitor
     m = monitor-of file (l .answer) (loads .verdict) z .0
@@ -70,13 +72,21 @@ module _ {file : List ℕ} {l : Loaded} {kept holds after : List ℕ} (loads : L
         go true t = let s : r ≡ Short = rw (t, placedOf) at (w .answer) in different (cc)
         go false t =
             let s : r ≡ Length (length table) = rw (t, placedOf) at (w .answer) in
-            rw (t, written) (record { answer = says-accepted m e; length = cc; bytes = rw (t, bufferOf) at (w .buffer) })
+            rw (t, written)
+            (record { answer = says-accepted m e; length = cc; bytes = rw (t, bufferOf) at (w .buffer) })
 
     pub too-short : (a : code.Answer) → (a .number ≡ 10) × (a .first ≡ 0) × (a .second ≡ 0) → r ≡ Short
         → Places (place file buffer) (record { answer = a; length = 0 }) behind
     unfolding place written placedOf bufferOf
     too-short a (x, y, z) at-short = rw (e, place) (go (ltb (length buffer) (length table)) refl)
       where
-        go : (b : Bool) → ltb (length buffer) (length table) ≡ b → Places (written table buffer) (record { answer = a; length = 0 }) behind
-        go true t = rw (t, written) (record { answer = record { number = x; first = y; second = z }; length = refl; bytes = rw (t, bufferOf) at (w .buffer) })
+        go : (b : Bool) → ltb (length buffer) (length table) ≡ b
+            → Places (written table buffer) (record { answer = a; length = 0 }) behind
+        go true t =
+            rw (t, written) (record {
+              answer = record { number = x; first = y; second = z };
+              length = refl;
+              bytes =
+                  rw (t, bufferOf) at (w .buffer);
+            })
         go false t = let s : r ≡ Length (length table) = rw (t, placedOf) at (w .answer) in different (cc)

@@ -1,5 +1,6 @@
-// The library: the check of a file, the placing of its table into a lent buffer, and runs of a trace on either machine or on both,
-// from a start state or from the start values. No call asks anything of its caller; each states its complete result for every input.
+// The library: the check of a file, the placing of its table into a lent buffer, and runs of a trace on either machine
+// or on both, from a start state or from the start values. No call asks anything of its caller; each states its
+// complete result for every input.
 use answers::Answer;
 use loader::Loaded;
 use run::Running;
@@ -95,7 +96,8 @@ pub fn place(file: &[u8], table: &mut [u8]) -> Placing
 
 // The number of the state at the start values of what was loaded; 0 of a refused file.
 fn start_of(loaded: Loaded) -> usize
-    ensures { λ r. ⌜ ((file kept holds after : List ℕ) → Loads file loaded kept holds after → r ≡ startOf (meaning.check file)) ⌝ }
+    ensures { λ r. ⌜ ((file kept holds after : List ℕ) → Loads file loaded kept holds after
+        → r ≡ startOf (meaning.check file)) ⌝ }
 {
     let verdict = loaded.answer;
     if verdict.number != 0 {
@@ -190,7 +192,8 @@ pub fn run_both(file: &[u8], bytes: &[u8], start: usize) -> Both
 
 // Both machines on one trace, from the start values.
 pub fn run_both_from_start(file: &[u8], bytes: &[u8]) -> Both
-    ensures { λ r. ⌜ Agrees (now (file .entry)) (now (bytes .entry)) (startOf (meaning.check (now (file .entry)))) (r .plain) (r .table) ⌝ }
+    ensures { λ r. ⌜ Agrees (now (file .entry)) (now (bytes .entry)) (startOf (meaning.check (now (file .entry))))
+        (r .plain) (r .table) ⌝ }
 {
     let mut kept = [0u8; machine::STATES];
     let mut holds = [0u16; machine::STATES];

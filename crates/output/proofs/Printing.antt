@@ -56,7 +56,8 @@ answer-is s = λ i. record { number = s .number i; first = s .first i; second = 
 module _ (r : code.Answer) {before after : List ℕ} {at n : ℕ}
     (put : at + 11 ≤ length before → r .first < 65536 → r .second < 65536
     → Writes (refusalLine (answer (r .number) (r .first) (r .second))) before at n after) where
-  pub answer-written : {a : Answer} → Says r a → AnswerFits a → at + 11 ≤ length before → Writes (refusalLine a) before at n after
+  pub answer-written : {a : Answer} → Says r a → AnswerFits a → at + 11 ≤ length before
+      → Writes (refusalLine a) before at n after
   answer-written s f room =
       subst (λ x. Writes (refusalLine x) before at n after) (answer-is s)
       (put room (omega (arith, s .first, f .first)) (omega (arith, s .second, f .second)))
@@ -107,7 +108,8 @@ module _ (r : Running) {before after : List ℕ} {at n : ℕ} (room : at + 47 �
   unfolding Runs RunFits runLine
   record-written z put (ran rec) s f =
       let held = s .1 in
-      put rec (record { counted = held .vars; held = held .values; places = held .places; digits = f }) (omega (arith, held .vars, f .few))
+      put rec (record { counted = held .vars; held = held .values; places = held .places; digits = f })
+      (omega (arith, held .vars, f .few))
   record-written z put (refused-file a) s f = absurd (omega (arith, s .0 .number, f .refuses))
   record-written z put (not-run a) s f = absurd (omega (arith, s .0 .number, f .refuses))
 
@@ -153,7 +155,8 @@ module _ (file trace : List ℕ) (short : length trace ≤ traceBytes) where
     unfolding running runLine machineLine runner startOf Runs
     two-lines h = go (check file) refl
       where
-        go : (v : Verdict) → check file ≡ v → runLine (end plain-machine) ++ runLine (end table-machine) ≡ runner file trace
+        go : (v : Verdict) → check file ≡ v → runLine (end plain-machine) ++ runLine (end table-machine)
+            ≡ runner file trace
         go (accepted m) e = rw (e, running, runner, take-all 65536 trace short, e)
         go (refused a) e = clash ((rw (e, running) at runs) .2) h
 

@@ -1,4 +1,5 @@
--- A run of a list, frame by frame: what one frame does to what is left of the run, and what the code's record shows on the way.
+-- A run of a list, frame by frame: what one frame does to what is left of the run, and what the code's record shows on
+-- the way.
 use Prim.Native.Nat.{ℕ, suc, _+_, _*_, _<_, _≤_}
 use native.Mathlib.Omega.{arith}
 use native.Mathlib.Numerals.{add-one}
@@ -26,7 +27,8 @@ use Rattle.run.specs.Ended.{EndsAs}
 use Rattle.run.specs.declared.frames.Ended.{Ended}
 
 -- what the contract asks of a monitor and a list of frames
-pub record Asked (bytes : List ℕ) (state : ℕ) (table : Bool) (holds after guardOf begins goesOn entries : List ℕ) (regions : ℕ)
+pub record Asked (bytes : List ℕ) (state : ℕ) (table : Bool) (holds after guardOf begins goesOn entries : List ℕ)
+    (regions : ℕ)
     (m : Monitor) (kept : List ℕ) (fs : List machine.Frame) : Type 0 where
   pub count : m .regions ≡ regions
   pub held : Held m kept holds after guardOf
@@ -38,24 +40,37 @@ pub record Asked (bytes : List ℕ) (state : ℕ) (table : Bool) (holds after gu
 
 -- an end that is so for all that is asked is so as the contract says it
 pub for-asked :
-    (bytes : List ℕ) (state : ℕ) (table : Bool) (holds after guardOf begins goesOn entries : List ℕ) (regions : ℕ) (e : Ended)
+    (bytes : List ℕ) (state : ℕ) (table : Bool) (holds after guardOf begins goesOn entries : List ℕ) (regions : ℕ)
+    (e : Ended)
     → ((m : Monitor) (kept : List ℕ) (fs : List machine.Frame)
     → Asked bytes state table holds after guardOf begins goesOn entries regions m kept fs
     → EndsAs e (run m (toldOn m table) 0 (allIdle state) fs))
     → (m : Monitor) (kept : List ℕ) (fs : List machine.Frame) → m .regions ≡ regions → Held m kept holds after guardOf
-    → HeldPlaces m begins goesOn → (table ≡ true → HeldEntries m entries) → Checked m → m .kept state ≡ true → framesOf bytes ≡ frames fs
+    → HeldPlaces m begins goesOn → (table ≡ true → HeldEntries m entries) → Checked m → m .kept state ≡ true
+    → framesOf bytes ≡ frames fs
     → EndsAs e (run m (toldOn m table) 0 (allIdle state) fs)
-for-asked bytes state table holds after guardOf begins goesOn entries regions e all m kept fs count held places table-held checked start read =
+for-asked bytes state table holds after guardOf begins goesOn entries regions e all m kept fs count held places
+    table-held checked start read =
     all m kept fs
-    (record { count = count; held = held; places = places; table-held = table-held; checked = checked; start = start; read = read })
+    (record {
+      count = count;
+      held = held;
+      places = places;
+      table-held = table-held;
+      checked = checked;
+      start =
+          start;
+      read = read;
+    })
 
 -- the run after k frames: a point that the record shows, from which the rest of the list ends as the whole does
-pub record Point (m : Monitor) (table : Bool) (state : ℕ) (fs : List machine.Frame) (r : code.Run) (k : ℕ) : Type 0 where
-  pub point : Config
-  pub rest : run m (toldOn m table) 0 (allIdle state) fs ≡ run m (toldOn m table) k point (drop k fs)
-  pub below : k ≤ length fs
-  pub shows : Shows r point
-  pub reached : Reached m point
+pub record Point (m : Monitor) (table : Bool) (state : ℕ) (fs : List machine.Frame) (r : code.Run) (k : ℕ) : Type 0
+  where
+    pub point : Config
+    pub rest : run m (toldOn m table) 0 (allIdle state) fs ≡ run m (toldOn m table) k point (drop k fs)
+    pub below : k ≤ length fs
+    pub shows : Shows r point
+    pub reached : Reached m point
 
 -- ---- the code's record on the way
 
@@ -72,7 +87,8 @@ pub record Here (bytes : List ℕ) (fs : List machine.Frame) (k : ℕ) : Type 0 
   pub rest : drop k fs ≡ frame ∷ drop (suc k) fs
   pub more : k < length fs
 
-pub frame-here : (bytes : List ℕ) (fs : List machine.Frame) (k at : ℕ) → framesOf bytes ≡ frames fs → at ≡ 7 * k → at < length bytes
+pub frame-here : (bytes : List ℕ) (fs : List machine.Frame) (k at : ℕ) → framesOf bytes ≡ frames fs → at ≡ 7 * k
+    → at < length bytes
     → Here bytes fs k
 frame-here bytes fs k at e s h =
     let d : machine.Frame = record { thread = 0; region = 0; flag = false } in
@@ -82,7 +98,8 @@ frame-here bytes fs k at e s h =
     record { frame = getD fs k d; numbers = a .numbers; thread = a .thread; rest = drop-cons fs k d l; more = l }
 
 -- a step of the code on the frame that is next in the list
-pub record Stepped (m : Monitor) (table : Bool) (state : ℕ) (fs : List machine.Frame) (before : code.Run) (k : ℕ) (o : coded.Outcome) : Type 0 where
+pub record Stepped (m : Monitor) (table : Bool) (state : ℕ) (fs : List machine.Frame) (before : code.Run) (k : ℕ)
+    (o : coded.Outcome) : Type 0 where
   pub from : Point m table state fs before k
   pub frame : Frame
   pub rest : drop k fs ≡ frameOf frame ∷ drop (suc k) fs
@@ -90,9 +107,11 @@ pub record Stepped (m : Monitor) (table : Bool) (state : ℕ) (fs : List machine
   pub steps : Steps before o (stepBy m table (from .point) frame)
 
 pub stepped :
-    (m : Monitor) (table : Bool) (state : ℕ) (bytes : List ℕ) (fs : List machine.Frame) (before : code.Run) (k at : ℕ) (o : coded.Outcome)
+    (m : Monitor) (table : Bool) (state : ℕ) (bytes : List ℕ) (fs : List machine.Frame) (before : code.Run) (k at : ℕ)
+    (o : coded.Outcome)
     (p : Point m table state fs before k) → framesOf bytes ≡ frames fs → at ≡ 7 * k → at < length bytes
-    → (f : Frame) (n : Numbers) → n ≡ numbersAt bytes at → f ≡ record { thread = n .thread; region = n .region; flag = n .flag }
+    → (f : Frame) (n : Numbers) → n ≡ numbersAt bytes at
+    → f ≡ record { thread = n .thread; region = n .region; flag = n .flag }
     → (f .thread < 16 → Steps before o (stepBy m table (p .point) f)) → Stepped m table state fs before k o
 unfolding frameOf
 stepped m table state bytes fs before k at o p e s h f n l i steps =
@@ -105,7 +124,8 @@ stepped m table state bytes fs before k at o p e s h f n l i steps =
     let y = x .thread in
     record { from = p; frame = f; rest = rw (t, r, b) (x .rest); more = x .more; steps = steps (omega arith) }
 
-module _ (m : Monitor) (table : Bool) (state : ℕ) (fs : List machine.Frame) (before : code.Run) (k : ℕ) (o : coded.Outcome)
+module _ (m : Monitor) (table : Bool) (state : ℕ) (fs : List machine.Frame) (before : code.Run) (k : ℕ)
+    (o : coded.Outcome)
     (x : Stepped m table state fs before k o) where
   abbrev now : Config
   now = x .from .point
@@ -135,7 +155,8 @@ module _ (m : Monitor) (table : Bool) (state : ℕ) (fs : List machine.Frame) (b
   unfolding stepBy Steps
   point-next ok taken = go (step m (toldOn m table) now next) refl (x .steps)
     where
-      go : (y : Outcome) → step m (toldOn m table) now next ≡ y → Steps before o y → Point m table state fs (o .run) (k + 1)
+      go : (y : Outcome) → step m (toldOn m table) now next ≡ y → Steps before o y
+          → Point m table state fs (o .run) (k + 1)
       go (moved d) q s = rw add-one (record {
         point = d;
         rest = here ∙ run-on m (toldOn m table) k now d next (drop (suc k) fs) q;
@@ -143,10 +164,12 @@ module _ (m : Monitor) (table : Bool) (state : ℕ) (fs : List machine.Frame) (b
         shows = s .1;
         reached = step-reached m ok (toldOn m table) now d next q (x .from .reached);
       })
-      go (refused a) q s = let n = refused-number (told-decides m (toldOn m table)) now next a q in absurd (omega (arith, s .0))
+      go (refused a) q s = let n = refused-number (told-decides m (toldOn m table)) now next a q in
+          absurd (omega (arith, s .0))
 
 -- past the last frame the run is accepted
-pub ends-accepted : (m : Monitor) (table : Bool) (state : ℕ) (bytes : List ℕ) (fs : List machine.Frame) (r : code.Run) (k : ℕ)
+pub ends-accepted : (m : Monitor) (table : Bool) (state : ℕ) (bytes : List ℕ) (fs : List machine.Frame) (r : code.Run)
+    (k : ℕ)
     → Point m table state fs r k → framesOf bytes ≡ frames fs → length bytes ≤ 7 * k
     → (e : Ended) → e .number ≡ 0 → e .run ≡ r → EndsAs e (run m (toldOn m table) 0 (allIdle state) fs)
 unfolding EndsAs run

@@ -1,4 +1,5 @@
--- From the code's record of a run to the meaning's, and from the tests at its start and the end of the code's run to what it gives.
+-- From the code's record of a run to the meaning's, and from the tests at its start and the end of the code's run to
+-- what it gives.
 use Prim.Native.Nat.{ℕ, zero, suc, _+_, _/_, _%_, _^_, _<_, _≤_}
 use native.Mathlib.Omega.{arith}
 use native.Mathlib.Nat.{pow-suc}
@@ -69,7 +70,8 @@ set-shown (suc n) t s f h e =
     (λ u l. sym (member-suc s u) ∙ e (suc u) (omega arith) ∙ ap f (omega arith)) in
     go (f t) (sym (member-zero s) ∙ e 0 (omega arith) ∙ ap f (omega arith)) (rest .0) (rest .1)
   where
-    go : (b : Bool) → eqb (s % 2) 1 ≡ b → s / 2 ≡ bits (eachThread n (t + 1) f) → count.ones (s / 2) ≡ ones (eachThread n (t + 1) f)
+    go : (b : Bool) → eqb (s % 2) 1 ≡ b → s / 2 ≡ bits (eachThread n (t + 1) f) → count.ones (s / 2)
+        ≡ ones (eachThread n (t + 1) f)
         → (s ≡ bits (b ∷ eachThread n (t + 1) f)) × (count.ones s ≡ ones (b ∷ eachThread n (t + 1) f))
     go true d x y =
         let o = eqb-true (s % 2) 1 d in
@@ -81,15 +83,24 @@ set-shown (suc n) t s f h e =
         (omega arith, omega arith)
 
 -- the record of a run that shows a point, with the values of its state
-pub recorded : (m : Monitor) (c : Config) (end : code.Run) (vs : List ℕ) (vars-held many : ℕ) → Shows end c → length (end .threads) ≡ 16
+pub recorded : (m : Monitor) (c : Config) (end : code.Run) (vs : List ℕ) (vars-held many : ℕ) → Shows end c
+    → length (end .threads) ≡ 16
     → end .notified < 2 ^ 16 → vars-held ≡ length (vars m) → Biased (vars m) (stateAt (vars m) (end .state)) vs
     → many ≡ size (end .notified) 16
-    → Records (recordOf m c) (record { vars = vars-held; values = vs; threads = end .threads; notified = end .notified; «how_many» = many })
+    → Records (recordOf m c) (record {
+      vars = vars-held;
+      values = vs;
+      threads = end .threads;
+      notified =
+          end .notified;
+      «how_many» = many;
+    })
 unfolding recordOf threads
 recorded m c end vs vars-held many s l small counted values sized =
     let v = subst (λ (n : ℕ). Biased (vars m) (stateAt (vars m) n) vs) (s .state) values in
     let n = v .each-value in
-    let set = set-shown 16 0 (end .notified) (c .notified) small (λ u h. s .notices u h ∙ ap (c .notified) (omega arith)) in
+    let set =
+    set-shown 16 0 (end .notified) (c .notified) small (λ u h. s .notices u h ∙ ap (c .notified) (omega arith)) in
     record {
       vars = counted ∙ sym n;
       values = λ k h. v .held k (omega arith);
@@ -125,7 +136,8 @@ unfolding bit
 kept-other true n e o = absurd (o e)
 kept-other false n e o = refl
 
-from-other : (m : Monitor) (w : Machine) (s : ℕ) (bytes : List ℕ) → kept m s ≡ false → runFrom m w s bytes ≡ not-run (answer 11 0 0)
+from-other : (m : Monitor) (w : Machine) (s : ℕ) (bytes : List ℕ) → kept m s ≡ false → runFrom m w s bytes
+    ≡ not-run (answer 11 0 0)
 unfolding runFrom
 from-other m w s bytes k = rw (runFrom, k)
 
@@ -158,7 +170,8 @@ module _ (m : Monitor) (table : Bool) (s : ℕ) (bytes : List ℕ) (r : Running)
     unfolding runFrames
     by-end h =
         subst (λ x. Runs x r)
-        (sym (from-kept m (machineOf table) s bytes k ∙ ap (runFrames m (machineOf table) s) read ∙ ap (runningOf m) list-ends)) h
+        (sym (from-kept m (machineOf table) s bytes k ∙ ap (runFrames m (machineOf table) s) read
+        ∙ ap (runningOf m) list-ends)) h
 
     module _ (e : Ended) (ends : EndsAs e end) where
       -- a refusal
@@ -173,12 +186,15 @@ module _ (m : Monitor) (table : Bool) (s : ℕ) (bytes : List ℕ) (r : Running)
 
       -- an end
       pub ran-accepted : Checked (model m) → e .number ≡ 0
-          → ((c : Config) → Shows (e .run) c → c .state < state.count (vars m) → Runs (runningOf m (accepted c)) r) → Ran
+          → ((c : Config) → Shows (e .run) c → c .state < state.count (vars m) → Runs (runningOf m (accepted c)) r)
+          → Ran
       unfolding EndsAs model
       ran-accepted ok zero-number h = by-end (go end refl ends)
         where
           go : (x : Run) → end ≡ x → EndsAs e x → Runs (runningOf m x) r
-          go (accepted c) q p = h c (p .1) (kept-below m (c .state) (run-reached m ok s k fs (machineOf table) c (list-ends ∙ q) .is-kept))
+          go (accepted c) q p =
+              h c (p .1)
+              (kept-below m (c .state) (run-reached m ok s k fs (machineOf table) c (list-ends ∙ q) .is-kept))
           go (stopped a j) q p =
               let w = run-stops m (machineOf table) s fs a j (list-ends ∙ q) in
               let same = p .0 in

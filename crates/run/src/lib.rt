@@ -1,4 +1,5 @@
-// Runs a trace over an accepted file's slices, from a start state, on either machine: 11 to 14, or the record of the run.
+// Runs a trace over an accepted file's slices, from a start state, on either machine: 11 to 14, or the record of the
+// run.
 mod frames;
 
 use answers::Answer;
@@ -25,8 +26,8 @@ ghost use Rattle.stepper.specs.Shown.{Shows};
 ghost use Rattle.variables.specs.Bounded.{Bounded};
 ghost use Rattle.run.specs.Results.{Runs, Records, NoRecord, machineOf};
 
-// The record of a run: how many variables there are and each value with 128 added, the place of each of sixteen threads, the
-// notified set and how many are in it.
+// The record of a run: how many variables there are and each value with 128 added, the place of each of sixteen
+// threads, the notified set and how many are in it.
 pub struct Record {
     pub vars: usize,
     pub values: [u16; syntax::VARIABLES],

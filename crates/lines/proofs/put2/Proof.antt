@@ -33,12 +33,5 @@ returns c = two-stores _ _ _ _ _ (search needs) (search needs) (c .before .hex-d
 pub put2-spec : {M : Type 1} → statement M
 put2-spec =
     tie.close
-    (tie.spec
-    hex-digit-requires
-    slice-write-out
-    hex-digit-requires-2
-    add-out
-    slice-write-out-2
-    add-result
-    same-length
+    (tie.spec hex-digit-requires slice-write-out hex-digit-requires-2 add-out slice-write-out-2 add-result same-length
     returns)

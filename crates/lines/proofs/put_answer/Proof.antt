@@ -49,13 +49,5 @@ returns-3 c =
 pub put-answer-spec : {M : Type 1} → statement M
 put-answer-spec =
     tie.close
-    (tie.spec
-    returns
-    sub-if2
-    returns-2
-    put2-requires
-    put4-requires
-    put4-requires-2
-    put-end-requires
-    same-length
+    (tie.spec returns sub-if2 returns-2 put2-requires put4-requires put4-requires-2 put-end-requires same-length
     returns-3)

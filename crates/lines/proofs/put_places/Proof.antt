@@ -62,7 +62,8 @@ loop-again c =
     let q = w .before .before .before .before .before in
     let a = q .before .before .args in (
       turn 16 (placeAt (a .t3)) (room q) (q .loop .t) (q .loop .inv .0)
-          (w .before .before .before .before .loop-test .taken) (rw (w .before .place-byte .ensures) at (w .put2 .ensures)),
+          (w .before .before .before .before .loop-test .taken)
+          (rw (w .before .place-byte .ensures) at (w .put2 .ensures)),
       omega arith,
     )
 
@@ -81,16 +82,5 @@ returns c =
 pub put-places-spec : {M : Type 1} → statement M
 put-places-spec =
     tie.close
-    (tie.spec
-    Inv-loop
-    μ-loop
-    loop-holds
-    mul-thread
-    array-copy-out-thread
-    place-byte-requires
-    put2-requires
-    add-t
-    loop-less
-    loop-again
-    same-length
-    returns)
+    (tie.spec Inv-loop μ-loop loop-holds mul-thread array-copy-out-thread place-byte-requires put2-requires add-t
+    loop-less loop-again same-length returns)

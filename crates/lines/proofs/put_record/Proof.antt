@@ -68,21 +68,11 @@ returns-4 c =
     let m = places-length (b .args .threads) 16 in
     let l : length (b .args .threads) ≡ 16 = omega (arith, b .good .1 .1 .1 .1 .0) in
     rw (← values-are fits, ← places-are fits l)
-    (written-four (s .put2 .ensures) (t .put-values .ensures) (u .put-places .ensures) (d .put-end .ensures) (omega arith))
+    (written-four (s .put2 .ensures) (t .put-values .ensures) (u .put-places .ensures) (d .put-end .ensures)
+    (omega arith))
 
 pub put-record-spec : {M : Type 1} → statement M
 put-record-spec =
     tie.close
-    (tie.spec
-    returns
-    mul-size
-    add-size
-    returns-2
-    sub-if3
-    returns-3
-    put2-requires
-    put-values-requires
-    put-places-requires
-    put-end-requires
-    same-length
-    returns-4)
+    (tie.spec returns mul-size add-size returns-2 sub-if3 returns-3 put2-requires put-values-requires
+    put-places-requires put-end-requires same-length returns-4)

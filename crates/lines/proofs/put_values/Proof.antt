@@ -80,16 +80,5 @@ returns c =
 pub put-values-spec : {M : Type 1} → statement M
 put-values-spec =
     tie.close
-    (tie.spec
-    Inv-loop
-    μ-loop
-    loop-holds
-    mul-value
-    array-read-value
-    value-byte-requires
-    put2-requires
-    add-k
-    loop-less
-    loop-again
-    same-length
-    returns)
+    (tie.spec Inv-loop μ-loop loop-holds mul-value array-read-value value-byte-requires put2-requires add-k loop-less
+    loop-again same-length returns)

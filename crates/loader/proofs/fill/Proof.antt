@@ -52,7 +52,8 @@ start-of c = row-of c .before .before .before
 abbrev entry-of : At → tie.Start
 entry-of c = start-of c .before .before .before .before .before .before .before
 
-module _ (c : At) {m : Monitor} {ls : List Lexeme} (f : Given (start-of c) m ls) (l₁ : 4096 ≤ length (now (entry-of c .args .kept)))
+module _ (c : At) {m : Monitor} {ls : List Lexeme} (f : Given (start-of c) m ls)
+    (l₁ : 4096 ≤ length (now (entry-of c .args .kept)))
     (l₂ : 4096 ≤ length (now (entry-of c .args .holds))) (l₃ : 65536 ≤ length (now (entry-of c .args .after))) where
   few-regions : entry-of c .args .layout .regions ≤ 16
   few-regions = omega (arith, f .few-regions, f .laid .region-count)
@@ -109,24 +110,7 @@ returns-3 c m ls f l₁ l₂ l₃ =
 pub fill-spec : {M : Type 1} → statement M
 fill-spec =
     tie.close
-    (tie.spec
-    (λ c κs. search needs)
-    (λ c κs. search needs)
-    returns
-    (λ c κs. search needs)
-    (λ c κs. search needs)
-    (λ c κs. search needs)
-    (λ c κs. search needs)
-    (λ c κs. search needs)
-    (λ c. search needs)
-    (λ c κs. search needs)
-    (λ c. search needs)
-    (λ c κs. search needs)
-    (λ c. search needs)
-    (λ c. search needs)
-    (λ c. search needs)
-    returns-2
-    (λ c. search needs)
-    (λ c. search needs)
-    (λ c. search needs)
-    returns-3)
+    (tie.spec (λ c κs. search needs) (λ c κs. search needs) returns (λ c κs. search needs) (λ c κs. search needs)
+    (λ c κs. search needs) (λ c κs. search needs) (λ c κs. search needs) (λ c. search needs) (λ c κs. search needs)
+    (λ c. search needs) (λ c κs. search needs) (λ c. search needs) (λ c. search needs) (λ c. search needs) returns-2
+    (λ c. search needs) (λ c. search needs) (λ c. search needs) returns-3)

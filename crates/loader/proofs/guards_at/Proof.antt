@@ -17,7 +17,8 @@ use Rattle.loader.proofs.guards_at.Tie as tie
 abbrev token : Layout → ℕ → ℕ
 token l g = getD (l .«guards_at») (getD (l .firsts) g 0 % 16) 0
 
-one-more : (f : ℕ → ℕ) (xs : List ℕ) (g : ℕ) → g < length xs → ((k : ℕ) → k < g → getD xs k 0 ≡ f k) → (k : ℕ) → k < g + 1
+one-more : (f : ℕ → ℕ) (xs : List ℕ) (g : ℕ) → g < length xs → ((k : ℕ) → k < g → getD xs k 0 ≡ f k) → (k : ℕ)
+    → k < g + 1
     → getD (set xs g (f g)) k 0 ≡ f k
 one-more f xs g h below k low =
     split (eqb k g) (λ e. let same = eqb-true k g e in rw (same, getD-set-same xs g (f g) 0 h))
@@ -35,8 +36,12 @@ loop-holds c = (omega arith, refl, λ k h. absurd (omega arith))
 
 loop-again : tie.Need-loop-again Inv-loop μ-loop
 loop-again c =
-    let b = c .before .before .before in
-    (omega arith, simp length-set (b .loop .inv .1), one-more (token (b .before .args .t1)) (b .loop .ats) (b .loop .g) (omega arith) (b .loop .inv .2))
+    let b = c .before .before .before in (
+      omega arith,
+      simp length-set (b .loop .inv .1),
+      one-more (token (b .before .args .t1)) (b .loop .ats) (b .loop .g)
+          (omega arith) (b .loop .inv .2),
+    )
 
 returns : tie.Need-returns Inv-loop μ-loop
 returns c g h = c .before .loop .inv .2 g (omega arith)
@@ -44,17 +49,5 @@ returns c g h = c .before .loop .inv .2 g (omega arith)
 pub guards-at-spec : {M : Type 1} → statement M
 guards-at-spec =
     tie.close
-    (tie.spec
-    Inv-loop
-    μ-loop
-    loop-holds
-    (λ c. search needs)
-    (λ c. omega arith)
-    (λ c. omega arith)
-    (λ c. omega arith)
-    (λ c. omega arith)
-    (λ c. search needs)
-    (λ c. omega arith)
-    (λ c. omega arith)
-    loop-again
-    returns)
+    (tie.spec Inv-loop μ-loop loop-holds (λ c. search needs) (λ c. omega arith) (λ c. omega arith) (λ c. omega arith)
+    (λ c. omega arith) (λ c. search needs) (λ c. omega arith) (λ c. omega arith) loop-again returns)

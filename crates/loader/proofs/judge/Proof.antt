@@ -199,34 +199,8 @@ returns-6 c ts w =
 pub judge-spec : {M : Type 1} → statement M
 judge-spec =
     tie.close
-    (tie.spec
-    (λ c κs. search needs)
-    (λ c. search needs)
-    (λ c κs. search needs)
-    not-judged-requires
-    returns
-    enum-told
-    read-requires
-    enum-known-i
-    place-of-requires
-    not-judged-requires-2
-    returns-2
-    enum-told-2
-    find-past-limit-requires
-    enum-known-k-2
-    wide-requires-2
-    not-judged-requires-3
-    returns-3
-    enum-told-3
-    find-misnamed-requires
-    enum-known-k-3
-    wide-requires-3
-    not-judged-requires-4
-    returns-4
-    enum-told-4
-    read-requires-2
-    place-of-requires-2
-    not-judged-requires-5
-    returns-5
-    say-requires
-    returns-6)
+    (tie.spec (λ c κs. search needs) (λ c. search needs) (λ c κs. search needs) not-judged-requires returns enum-told
+    read-requires enum-known-i place-of-requires not-judged-requires-2 returns-2 enum-told-2 find-past-limit-requires
+    enum-known-k-2 wide-requires-2 not-judged-requires-3 returns-3 enum-told-3 find-misnamed-requires enum-known-k-3
+    wide-requires-3 not-judged-requires-4 returns-4 enum-told-4 read-requires-2 place-of-requires-2
+    not-judged-requires-5 returns-5 say-requires returns-6)

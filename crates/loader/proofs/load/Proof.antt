@@ -38,27 +38,12 @@ returns-3 c l₁ l₂ l₃ =
 pub load-spec : {M : Type 1} → statement M
 load-spec =
     tie.close
-    (tie.spec
-    (λ c κs. search needs)
-    (λ c. search needs)
-    (λ c κs. search needs)
-    (λ c κs. search needs)
-    (λ c. search needs)
-    (λ c κs. search needs)
-    (λ c κs. search needs)
-    (λ c. search needs)
-    (λ c. counted (c .before) .in-kinds .room)
-    (λ c. counted (c .before .before) .in-kinds .long)
-    (λ c. counted (c .before .before) .in-values .room)
-    (λ c. counted (c .before .before .before) .in-values .long)
+    (tie.spec (λ c κs. search needs) (λ c. search needs) (λ c κs. search needs) (λ c κs. search needs)
+    (λ c. search needs) (λ c κs. search needs) (λ c κs. search needs) (λ c. search needs)
+    (λ c. counted (c .before) .in-kinds .room) (λ c. counted (c .before .before) .in-kinds .long)
+    (λ c. counted (c .before .before) .in-values .room) (λ c. counted (c .before .before .before) .in-values .long)
     (λ c. counted (c .before .before .before) .in-places .room)
     (λ c. counted (c .before .before .before .before) .in-places .long)
     (λ c. counted (c .before .before .before .before) .few)
-    (λ c. sym (length-take-le _ _ (counted (c .before .before .before .before .before) .few)))
-    (λ c κs. search needs)
-    returns
-    returns-2
-    (λ c. search needs)
-    (λ c. search needs)
-    (λ c. search needs)
-    returns-3)
+    (λ c. sym (length-take-le _ _ (counted (c .before .before .before .before .before) .few))) (λ c κs. search needs)
+    returns returns-2 (λ c. search needs) (λ c. search needs) (λ c. search needs) returns-3)

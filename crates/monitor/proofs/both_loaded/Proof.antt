@@ -1,4 +1,5 @@
--- `monitor::both_loaded` meets its contract: the two runs over what was loaded, with the same entries, and demand 3 of them.
+-- `monitor::both_loaded` meets its contract: the two runs over what was loaded, with the same entries, and demand 3 of
+-- them.
 use borrow.Author.Needs.{needs}
 use Rattle.demands.proofs.Demand3.{same-running}
 use Rattle.run.specs.Results.{machineOf}

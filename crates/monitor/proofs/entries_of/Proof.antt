@@ -1,4 +1,5 @@
--- `monitor::entries_of` meets its contract: the slices hold the monitor of an accepted file, and so do the entries filled from them.
+-- `monitor::entries_of` meets its contract: the slices hold the monitor of an accepted file, and so do the entries
+-- filled from them.
 use mathlib.Core.Path.{sym}
 use borrow.Author.Needs.{needs}
 use Rattle.meaning.specs.Model.{model}
@@ -10,7 +11,8 @@ returns : tie.Need-returns
 unfolding EntriesOf model
 returns c file loads m e =
     let x = loads .monitored m e in
-    c .fill-entries .ensures (model m) (sym (x .bounded .states)) (sym (x .region-count)) (sym (x .guard-count)) (x .held)
+    c .fill-entries .ensures (model m) (sym (x .bounded .states)) (sym (x .region-count)) (sym (x .guard-count))
+    (x .held)
 
 pub entries-of-spec : {M : Type 1} → statement M
 entries-of-spec = tie.close (tie.spec (λ c κs. search needs) returns)

@@ -1,4 +1,5 @@
--- `monitor::place` meets its contract: a refused file is answered as it was loaded, an accepted one by what writing its table says.
+-- `monitor::place` meets its contract: a refused file is answered as it was loaded, an accepted one by what writing its
+-- table says.
 use borrow.Author.Needs.{needs}
 use Rattle.monitor.proofs.Loaded.{long}
 use Rattle.monitor.proofs.Places.{not-placed, too-short, placed}
@@ -6,39 +7,32 @@ use Rattle.monitor.proofs.place.Statement.{statement}
 use Rattle.monitor.proofs.place.Tie as tie
 
 returns : tie.Need-returns
-returns c = not-placed (c .before .before .before .before .before .before .load .ensures (long 4096 0) (long 4096 0) (long 65536 0)) _ (c .if1 .taken)
+returns c =
+    not-placed (c .before .before .before .before .before .before .load .ensures (long 4096 0) (long 4096 0)
+    (long 65536 0)) _ (c .if1 .taken)
 
 returns-2 : tie.Need-returns-2
 returns-2 c =
     let w = c .before .before .before .before .before in
     let e = w .before .before .before in
     let i = e .before .before .before .before .before in
-    let loads = i .before .before .before .before .before .before .load .ensures (long 4096 0) (long 4096 0) (long 65536 0) in
-    too-short loads (i .if1 .left) _ (e .entries-of .ensures _ loads) (w .write-table .ensures) _ (c .say .ensures) (c .before .enum-told .given .1)
+    let loads = i .before .before .before .before .before .before .load .ensures (long 4096 0) (long 4096 0)
+    (long 65536 0) in
+    too-short loads (i .if1 .left) _ (e .entries-of .ensures _ loads) (w .write-table .ensures) _ (c .say .ensures)
+    (c .before .enum-told .given .1)
 
 returns-3 : tie.Need-returns-3
 returns-3 c =
     let w = c .before .before .before .before .before in
     let e = w .before .before .before in
     let i = e .before .before .before .before .before in
-    let loads = i .before .before .before .before .before .before .load .ensures (long 4096 0) (long 4096 0) (long 65536 0) in
+    let loads = i .before .before .before .before .before .before .load .ensures (long 4096 0) (long 4096 0)
+    (long 65536 0) in
     placed loads (i .if1 .left) _ (e .entries-of .ensures _ loads) (w .write-table .ensures) _ (c .before .n .given .1)
 
 pub place-spec : {M : Type 1} → statement M
 place-spec =
     tie.close
-    (tie.spec
-    (λ c. search needs)
-    (λ c. search needs)
-    (λ c. search needs)
-    (λ c κs. search needs)
-    returns
-    (λ c κs. search needs)
-    (λ c κs. search needs)
-    (λ c. search needs)
-    (λ c κs. search needs)
-    (λ c. search needs)
-    (λ c. search needs)
-    returns-2
-    (λ c. search needs)
-    returns-3)
+    (tie.spec (λ c. search needs) (λ c. search needs) (λ c. search needs) (λ c κs. search needs) returns
+    (λ c κs. search needs) (λ c κs. search needs) (λ c. search needs) (λ c κs. search needs) (λ c. search needs)
+    (λ c. search needs) returns-2 (λ c. search needs) returns-3)

@@ -7,17 +7,12 @@ use Rattle.monitor.proofs.run.Tie as tie
 returns : tie.Need-returns
 returns c =
     let e = c .before .before .before .before .before in
-    let loads = e .before .before .before .before .before .before .before .load .ensures (long 4096 0) (long 4096 0) (long 65536 0) in
+    let loads = e .before .before .before .before .before .before .before .load .ensures (long 4096 0) (long 4096 0)
+    (long 65536 0) in
     c .run-loaded .ensures _ loads (e .entries-of .ensures _ loads)
 
 pub run-spec : {M : Type 1} → statement M
 run-spec =
     tie.close
-    (tie.spec
-    (λ c. search needs)
-    (λ c. search needs)
-    (λ c. search needs)
-    (λ c κs. search needs)
-    (λ c κs. search needs)
-    (λ c κs. search needs)
-    returns)
+    (tie.spec (λ c. search needs) (λ c. search needs) (λ c. search needs) (λ c κs. search needs) (λ c κs. search needs)
+    (λ c κs. search needs) returns)

@@ -1,4 +1,5 @@
--- `monitor::start_of` meets its contract: a refused file has no start, an accepted one that of the variables that were loaded.
+-- `monitor::start_of` meets its contract: a refused file has no start, an accepted one that of the variables that were
+-- loaded.
 use borrow.Author.Needs.{needs}
 use Rattle.monitor.proofs.Loaded.{no-start, start-at}
 use Rattle.monitor.proofs.start_of.Statement.{statement}
@@ -8,7 +9,8 @@ returns : tie.Need-returns
 returns c file kept holds after loads = no-start loads (c .if1 .taken)
 
 returns-2 : tie.Need-returns-2
-returns-2 c file kept holds after loads = start-at loads (c .before .before .before .if1 .left) _ (c .number-of .ensures)
+returns-2 c file kept holds after loads =
+    start-at loads (c .before .before .before .if1 .left) _ (c .number-of .ensures)
 
 pub start-of-spec : {M : Type 1} → statement M
 start-of-spec = tie.close (tie.spec returns (λ c κs. search needs) returns-2)

@@ -1,4 +1,5 @@
--- `output::put_runs` meets its contract: the plain machine's line, which is the file's refusal or has the table's behind it.
+-- `output::put_runs` meets its contract: the plain machine's line, which is the file's refusal or has the table's
+-- behind it.
 use native.Mathlib.Omega.{arith}
 use borrow.Author.Needs.{needs}
 use Rattle.meaning.specs.Calls.{plain-machine, table-machine}
@@ -23,7 +24,8 @@ returns-2 c =
     let s = p .before .before .before .before .before .before .before .before in
     let both = p .before .before .before .before .run-both-from-start .ensures in
     let short = s .pre .0 in
-    let one = p .put-running .ensures _ (both .plain-runs) (end-fits _ _ short plain-machine) (omega (arith, s .pre .1)) in
+    let one = p .put-running .ensures _ (both .plain-runs) (end-fits _ _ short plain-machine) (omega (arith, s .pre .1))
+    in
     two-printed _ _ short _ (both .plain-runs) one (q .before .before .if1 .left) (s .pre .1)
     (q .put-running2 .ensures _ (both .table-runs) (end-fits _ _ short table-machine)
     (next-room _ _ short _ (both .plain-runs) one (s .pre .1)))
@@ -31,11 +33,5 @@ returns-2 c =
 pub put-runs-spec : {M : Type 1} → statement M
 put-runs-spec =
     tie.close
-    (tie.spec
-    (λ c κs. search needs)
-    (λ c κs. search needs)
-    (λ c. search needs)
-    returns
-    (λ c κs. search needs)
-    (λ c. search needs)
-    returns-2)
+    (tie.spec (λ c κs. search needs) (λ c κs. search needs) (λ c. search needs) returns (λ c κs. search needs)
+    (λ c. search needs) returns-2)

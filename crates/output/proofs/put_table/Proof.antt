@@ -10,15 +10,11 @@ returns c = table-printed _ _ (c .before .before .before .before .before .place 
 returns-2 : tie.Need-returns-2
 returns-2 c =
     let a = c .before .before in
-    refusal-printed _ _ (a .before .before .before .before .before .before .before .place .ensures) (a .before .before .before .before .before .before .before .before .before .before .before .pre) (a .before .before .if1 .left) (a .put-answer .ensures)
+    refusal-printed _ _ (a .before .before .before .before .before .before .before .place .ensures)
+    (a .before .before .before .before .before .before .before .before .before .before .before .pre)
+    (a .before .before .if1 .left) (a .put-answer .ensures)
 
 pub put-table-spec : {M : Type 1} → statement M
 put-table-spec =
     tie.close
-    (tie.spec
-    (λ c κs. search needs)
-    (λ c. search needs)
-    returns
-    (λ c κs. search needs)
-    (λ c. search needs)
-    returns-2)
+    (tie.spec (λ c κs. search needs) (λ c. search needs) returns (λ c κs. search needs) (λ c. search needs) returns-2)

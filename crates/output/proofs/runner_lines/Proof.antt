@@ -18,9 +18,4 @@ returns c = rw (← runner-cut) (c .put-runs .ensures)
 pub runner-lines-spec : {M : Type 1} → statement M
 runner-lines-spec =
     tie.close
-    (tie.spec
-    slice-aggregate-put-runs
-    put-runs-requires
-    returns
-    (λ c κs. search needs)
-    (λ c. search needs))
+    (tie.spec slice-aggregate-put-runs put-runs-requires returns (λ c κs. search needs) (λ c. search needs))

@@ -1,4 +1,5 @@
--- `run::record_of` meets its contract: the values of the state, the places thread by thread, and the set by its members.
+-- `run::record_of` meets its contract: the values of the state, the places thread by thread, and the set by its
+-- members.
 use native.Mathlib.Omega.{arith}
 use lib.ListN.{length-map}
 use borrow.Author.Needs.{needs}
@@ -21,7 +22,8 @@ returns c m d b s l =
     let g = c .before .before .struct-known .given in
     let long = c .before .before .before .before .good .1 .0 .1 .1 .1 .0 .1 .0 .1 in
     let same = s .state in
-    recorded m d _ _ _ _ s (simp length-map at long) (omega arith) (b .counted) (c .before .values-of .ensures (vars m) b (omega arith))
+    recorded m d _ _ _ _ s (simp length-map at long) (omega arith) (b .counted)
+    (c .before .values-of .ensures (vars m) b (omega arith))
     (c .count .ensures)
 
 pub record-of-spec : {M : Type 1} → statement M

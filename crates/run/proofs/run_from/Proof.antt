@@ -1,4 +1,5 @@
--- `run::run_from` meets its contract: a start that is no kept state, a line that is no frame, a refused frame, or the record.
+-- `run::run_from` meets its contract: a start that is no kept state, a line that is no frame, a refused frame, or the
+-- record.
 use native.Mathlib.Omega.{arith}
 use mathlib.Core.Path.{_≡_, refl, sym, _∙_}
 use mathlib.Core.Logic.{⊎-elim}
@@ -23,7 +24,8 @@ use Rattle.run.specs.Ended.{EndsAs}
 use Rattle.variables.specs.Bounded.{Bounded}
 use Rattle.trace.proofs.FramesAt.{counted-frames, counted-bad}
 use Rattle.run.specs.Results.{Runs}
-use Rattle.run.proofs.Records.{past-states, kept-by, kept-one, kept-other, not-started, not-framed, ran-refused, ran-accepted}
+use Rattle.run.proofs.Records.{past-states, kept-by, kept-one, kept-other, not-started, not-framed, ran-refused}
+use Rattle.run.proofs.Records.{ran-accepted}
 use Rattle.run.proofs.run_from.Statement.{statement}
 use Rattle.run.proofs.run_from.Tie as tie
 
@@ -36,7 +38,9 @@ returns c m b n h p t ok =
     let few = b .few-states in
     let states = b .states in
     not-started m (a .table) (a .start) (a .bytes .now) _
-    (past-states m (a .start) (⊎-elim (λ x. let y = x .taken in omega arith) (λ x. let y = leb-true 4096 (a .start) (x .1 .taken) in omega arith) (c .before .if1 .came)))
+    (past-states m (a .start)
+    (⊎-elim (λ x. let y = x .taken in omega arith) (λ x. let y = leb-true 4096 (a .start) (x .1 .taken) in
+    omega arith) (c .before .if1 .came)))
     (c .no-start .ensures)
 
 element-copy-out-if3 : tie.Need-element-copy-out-if3
@@ -51,13 +55,15 @@ returns-2 c m b n h p t ok =
     let a = e .before .before .before .args in
     let low : a .start < count (vars m) = omega (arith, b .states, e .if1 .left) in
     not-started m (a .table) (a .start) (a .bytes .now) _
-    (kept-other (kept m (a .start)) _ (kept-by m _ _ _ _ h (a .start) low) (c .before .if3 .taken)) (c .no-start2 .ensures)
+    (kept-other (kept m (a .start)) _ (kept-by m _ _ _ _ h (a .start) low) (c .before .if3 .taken))
+    (c .no-start2 .ensures)
 
 -- past the tests the start is a kept state
 started : (c : tie.Else3) →
     let a = c .before .before .before .before .before .before .args in
     (m : Monitor) → Bounded (vars m) (a .bounds)
-    → Held (model m) (now (a .kept)) (now (a .holds)) (now (a .after)) (a .layout .«guard_of») → kept m (a .start) ≡ true
+    → Held (model m) (now (a .kept)) (now (a .holds)) (now (a .after)) (a .layout .«guard_of») → kept m (a .start)
+    ≡ true
 started c m b h =
     let e = c .before .before .before in
     let a = e .before .before .before .args in
@@ -114,7 +120,8 @@ not-run-requires-2 c κs = search needs
 returns-4 : tie.Need-returns-4
 returns-4 c m b n h p t ok =
     let f = facts (c .before .before) m b n h p t ok in
-    ran-refused m _ _ _ _ (f .0) (f .1) (f .2) (c .before .before .run-trace .result) (f .3) (c .before .if4 .taken) (c .not-run2 .ensures)
+    ran-refused m _ _ _ _ (f .0) (f .1) (f .2) (c .before .before .run-trace .result) (f .3) (c .before .if4 .taken)
+    (c .not-run2 .ensures)
 
 say-requires : tie.Need-say-requires
 say-requires c κs = search needs
@@ -135,21 +142,6 @@ returns-5 c m b n h p t ok =
 pub run-from-spec : {M : Type 1} → statement M
 run-from-spec =
     tie.close
-    (tie.spec
-    no-start-requires
-    returns
-    element-copy-out-if3
-    no-start-requires-2
-    returns-2
-    count-requires
-    enum-known-k
-    not-run-requires
-    returns-3
-    enum-told
-    cast-run-trace
-    run-trace-requires
-    not-run-requires-2
-    returns-4
-    say-requires
-    record-of-requires
-    returns-5)
+    (tie.spec no-start-requires returns element-copy-out-if3 no-start-requires-2 returns-2 count-requires enum-known-k
+    not-run-requires returns-3 enum-told cast-run-trace run-trace-requires not-run-requires-2 returns-4 say-requires
+    record-of-requires returns-5)
