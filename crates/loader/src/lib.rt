@@ -181,7 +181,7 @@ fn load_tokens(
     ensures { λ r. ⌜ ((ts : List Token)
         → Words (now (file .entry)) ts (now (kinds .entry)) (now (values .entry)) (now (places .entry))
         → length (now (operands .entry)) ≡ length ts
-        → 4096 ≤ length (now (kept .entry)) → 4096 ≤ length (now (holds .entry)) → 65536 ≤ length (now (after .entry))
+        → mostStates ≤ length (now (kept .entry)) → mostStates ≤ length (now (holds .entry)) → mostAfter ≤ length (now (after .entry))
         → Loads (now (file .entry)) r (now (kept .exit)) (now (holds .exit)) (now (after .exit))) ⌝ }
 {
     let judged = judge(file, kinds, values, places);
@@ -213,14 +213,14 @@ fn load_tokens(
 
 // 1 to 9: the verdict of a file, and of an accepted one all that the table and the machines look up.
 pub fn load(file: &[u8], kept: &mut [u8], holds: &mut [u16], after: &mut [u16]) -> Loaded
-    ensures { λ r. ⌜ (4096 ≤ length (now (kept .entry)) → 4096 ≤ length (now (holds .entry))
-        → 65536 ≤ length (now (after .entry))
+    ensures { λ r. ⌜ (mostStates ≤ length (now (kept .entry)) → mostStates ≤ length (now (holds .entry))
+        → mostAfter ≤ length (now (after .entry))
         → Loads (now (file .entry)) r (now (kept .exit)) (now (holds .exit)) (now (after .exit))) ⌝ }
 {
-    let mut kinds = [0u8; 8192];
-    let mut values = [0u16; 8192];
-    let mut places = [0u16; 8192];
-    let mut operands = [0u16; 8192];
+    let mut kinds = [0u8; syntax::FILE_BYTES];
+    let mut values = [0u16; syntax::FILE_BYTES];
+    let mut places = [0u16; syntax::FILE_BYTES];
+    let mut operands = [0u16; syntax::FILE_BYTES];
     match scanner::scan(file, &mut kinds, &mut values, &mut places) {
         Scanned::TooLong => not_loaded(answers::say(1, 0, 0)),
         Scanned::Bad(k) => not_loaded(answers::say(2, k, 0)),
