@@ -40,7 +40,8 @@ atomKind (literal (negated n)) = kindOf (mark token.minus)
 atomKind (variable x) = nameKind
 
 module _ {ks values : List ℕ} where
-  pub atom-name : {at n slot : ℕ} → getD ks at noKind ≡ nameKind → Next ks at n → slot ≡ getD values at 0 → AtomRead ks values at slot 128 128 n
+  pub atom-name : {at n slot : ℕ} → getD ks at noKind ≡ nameKind → Next ks at n → slot ≡ getD values at 0
+      → AtomRead ks values at slot 128 128 n
   unfolding frontKind spellAtom spellInt kindOf markNumber atomValue
   atom-name {at} {n} {slot} kind next value = record {
     from = next .from;
@@ -54,14 +55,16 @@ module _ {ks values : List ℕ} where
           → drop at ls ≡ spellAtom a ++ us → frontKind (spellAtom a ++ us) ≡ nameKind
           → (atomValue vs as′ a ≡ pos (operand vars slot 128) -ℤ pos 128) × (drop n ls ≡ us)
       go vs as′ vars ls us (literal (plain k)) codes biased e f = apart numberKind nameKind refl refl f
-      go vs as′ vars ls us (literal (negated k)) codes biased e f = apart (kindOf (mark token.minus)) nameKind refl refl f
+      go vs as′ vars ls us (literal (negated k)) codes biased e f =
+          apart (kindOf (mark token.minus)) nameKind refl refl f
       go vs as′ vars ls us (variable x) codes biased e f = (
         slot-value vs as′ x (biased .each-value)
             ∙ ap (λ (k : ℕ). getD as′ k (pos 0)) (sym (value ∙ name-at codes at x e)) ∙ slot-held biased slot,
         behind codes next e,
       )
 
-  pub atom-minus : {at r n m : ℕ} → getD ks at noKind ≡ kindOf (mark token.minus) → Next ks at r → Next ks r n → m ≤ 65535 → m ≡ getD values r 0
+  pub atom-minus : {at r n m : ℕ} → getD ks at noKind ≡ kindOf (mark token.minus) → Next ks at r → Next ks r n
+      → m ≤ 65535 → m ≡ getD values r 0
       → AtomRead ks values at 6 0 m n
   unfolding frontKind spellAtom spellInt kindOf markNumber atomValue intOf operand
   atom-minus {at} {r} {n} {m} kind one two small value = record {
@@ -82,7 +85,8 @@ module _ {ks values : List ℕ} where
       )
       go vs as′ ls us (variable x) codes e f = apart nameKind (kindOf (mark token.minus)) refl refl f
 
-  pub atom-number : {at n p : ℕ} → (getD ks at noKind ≡ nameKind → ⊥) → (getD ks at noKind ≡ kindOf (mark token.minus) → ⊥) → Next ks at n
+  pub atom-number : {at n p : ℕ} → (getD ks at noKind ≡ nameKind → ⊥)
+      → (getD ks at noKind ≡ kindOf (mark token.minus) → ⊥) → Next ks at n
       → p ≤ 65535 → p ≡ getD values at 0 → AtomRead ks values at 6 p 0 n
   unfolding frontKind spellAtom spellInt kindOf markNumber atomValue intOf operand
   atom-number {at} {n} {p} no-name no-minus next small value = record {
@@ -110,13 +114,15 @@ sign-same added taken e = apart (kindOf (mark plus)) (kindOf (mark token.minus))
 sign-same taken added e = apart (kindOf (mark token.minus)) (kindOf (mark plus)) refl refl e
 sign-same taken taken e = refl
 
-sign-ends : {A : Type 0} (s : Sign) (k : ℕ) → (k ≡ kindOf (mark plus) → ⊥) → (k ≡ kindOf (mark token.minus) → ⊥) → k ≡ kindOf (mark (signMark s)) → A
+sign-ends : {A : Type 0} (s : Sign) (k : ℕ) → (k ≡ kindOf (mark plus) → ⊥) → (k ≡ kindOf (mark token.minus) → ⊥)
+    → k ≡ kindOf (mark (signMark s)) → A
 unfolding markNumber signMark
 sign-ends added k f g e = absurd (f e)
 sign-ends taken k f g e = absurd (g e)
 
 -- a sign is a token
-pub past-sign : {ks : List ℕ} {at r : ℕ} (s : Sign) → Next ks at r → getD ks at noKind ≡ kindOf (mark (signMark s)) → r ≡ suc at
+pub past-sign : {ks : List ℕ} {at r : ℕ} (s : Sign) → Next ks at r → getD ks at noKind ≡ kindOf (mark (signMark s))
+    → r ≡ suc at
 unfolding markNumber signMark kindOf keywordNumber
 past-sign added next e = kind-within (kindOf (mark plus)) next e refl .1
 past-sign taken next e = kind-within (kindOf (mark token.minus)) next e refl .1
@@ -183,7 +189,8 @@ module _ {ks values vars : List ℕ} (minus : Bool) (lanes : List ℕ) {at n : �
       (e ∙ append-assoc (spellAtom (x .first)) (each spellTerm (x .more)) us) tt
 
   -- no further term
-  rest-end : (getD ks n noKind ≡ kindOf (mark plus) → ⊥) → (getD ks n noKind ≡ kindOf (mark token.minus) → ⊥) → RestRead ks values vars minus lanes at sums n
+  rest-end : (getD ks n noKind ≡ kindOf (mark plus) → ⊥) → (getD ks n noKind ≡ kindOf (mark token.minus) → ⊥)
+      → RestRead ks values vars minus lanes at sums n
   unfolding frontKind each spellTerm kindOf termsValue markNumber keywordNumber
   rest-end no-plus no-minus = record {
     from = term .from;
@@ -201,7 +208,8 @@ module _ {ks values vars : List ℕ} (minus : Bool) (lanes : List ℕ) {at n : �
       go vs as′ ls us (t ∷ ts) z y h e f = sign-ends (t .sign) (getD ks n noKind) no-plus no-minus (sym f)
 
   -- a term more
-  rest-more : (minus′ : Bool) {r n′ : ℕ} {sums′ : List ℕ} → getD ks n noKind ≡ kindOf (mark (signMark (signOf minus′))) → Next ks n r
+  rest-more : (minus′ : Bool) {r n′ : ℕ} {sums′ : List ℕ} → getD ks n noKind ≡ kindOf (mark (signMark (signOf minus′)))
+      → Next ks n r
       → RestRead ks values vars minus′ sums r sums′ n′ → RestRead ks values vars minus lanes at sums′ n′
   unfolding frontKind spellExpr each spellTerm kindOf termsValue EndsExpr markNumber keywordNumber
   rest-more minus′ {r} {n′} {sums′} kind next rest = record {
@@ -215,7 +223,8 @@ module _ {ks values vars : List ℕ} (minus : Bool) (lanes : List ℕ) {at n : �
     where
       go : (j : ℕ) → j < 16 → (vs : List Var) (as′ : List ℤ) (ls us : List Lexeme) (ts : List Term) → Codes vs ls ks values
           → Biased vs as′ (lane vars j) → (z : ℤ) → z ≡ worth (getD sums j 0)
-          → drop n ls ≡ each spellTerm ts ++ us → EndsExpr us → frontKind (each spellTerm ts ++ us) ≡ kindOf (mark (signMark (signOf minus′)))
+          → drop n ls ≡ each spellTerm ts ++ us → EndsExpr us
+          → frontKind (each spellTerm ts ++ us) ≡ kindOf (mark (signMark (signOf minus′)))
           → (termsValue vs as′ z ts ≡ worth (getD sums′ j 0)) × (drop n′ ls ≡ us)
       go j l vs as′ ls us [] codes biased z h e ends f = sign-ends (signOf minus′) (frontKind us) (ends .0) (ends .1) f
       go j l vs as′ ls us (t ∷ ts) codes biased z h e ends f =
@@ -267,7 +276,8 @@ module _ {ks values vars : List ℕ} {at : ℕ} where
 
   module _ {lanes sums : List ℕ} {minus : Bool} {place n : ℕ} (open′ : Open ks values vars at lanes minus place)
       (term : TermRead ks values vars minus lanes place sums n) where
-    pub open-last : (getD ks n noKind ≡ kindOf (mark plus) → ⊥) → (getD ks n noKind ≡ kindOf (mark token.minus) → ⊥) → ExprRead ks values vars at sums n
+    pub open-last : (getD ks n noKind ≡ kindOf (mark plus) → ⊥) → (getD ks n noKind ≡ kindOf (mark token.minus) → ⊥)
+        → ExprRead ks values vars at sums n
     open-last no-plus no-minus = open′ .whole sums n (rest-end minus lanes term no-plus no-minus)
 
     pub open-more : (minus′ : Bool) {r : ℕ} → getD ks n noKind ≡ kindOf (mark (signMark (signOf minus′))) → Next ks n r
@@ -304,7 +314,8 @@ semicolon-ends us = (eqb-false _ _ refl, eqb-false _ _ refl)
 -- a kind that continues a condition
 abbrev continues : ℕ → Bool
 continues k =
-    eqb k (kindOf (mark plus)) || eqb k (kindOf (mark token.minus)) || eqb k (kindOf (mark and-and)) || eqb k (kindOf (mark or-or))
+    eqb k (kindOf (mark plus)) || eqb k (kindOf (mark token.minus)) || eqb k (kindOf (mark and-and))
+    || eqb k (kindOf (mark or-or))
 
 -- any other ends it
 whole-ends : (us : List Lexeme) (k : ℕ) → frontKind us ≡ k → continues k ≡ false → EndsWhole us
@@ -321,7 +332,8 @@ rparen-ends us = whole-ends (mark rparen ∷ us) (kindOf (mark rparen)) refl ref
 -- Conditions
 
 module _ {ks values vars : List ℕ} where
-  pub compare-reads : {at k r n kind : ℕ} {a b : List ℕ} {holds : List Bool} → ExprRead ks values vars at a k → kind ≡ getD ks k noKind → Next ks k r
+  pub compare-reads : {at k r n kind : ℕ} {a b : List ℕ} {holds : List Bool} → ExprRead ks values vars at a k
+      → kind ≡ getD ks k noKind → Next ks k r
       → ExprRead ks values vars r b n → ((j : ℕ) → j < 16 → getD holds j false ≡ testOf kind (getD a j 0) (getD b j 0))
       → CompareRead ks values vars at holds n
   unfolding spellCompared comparedTruth frontKind kindOf
@@ -367,13 +379,15 @@ simple-front (constant false) us = refl
 simple-front (compare e o f) us =
     compare-front (e .first) (each spellTerm (e .more)) (mark (comparisonMark o) ∷ spellExpr f) us
 
-not-atom : {A : Type 0} (a : Atom) (k : ℕ) → eqb numberKind k ≡ false → eqb (kindOf (mark token.minus)) k ≡ false → eqb nameKind k ≡ false → atomKind a ≡ k → A
+not-atom : {A : Type 0} (a : Atom) (k : ℕ) → eqb numberKind k ≡ false → eqb (kindOf (mark token.minus)) k ≡ false
+    → eqb nameKind k ≡ false → atomKind a ≡ k → A
 unfolding atomKind
 not-atom (literal (plain n)) k d e f h = apart numberKind k d refl h
 not-atom (literal (negated n)) k d e f h = apart (kindOf (mark token.minus)) k e refl h
 not-atom (variable x) k d e f h = apart nameKind k f refl h
 
-not-constant : {A : Type 0} (b : Bool) (k : ℕ) → eqb (kindOf (key k-true)) k ≡ false → eqb (kindOf (key k-false)) k ≡ false → constantKind b ≡ k → A
+not-constant : {A : Type 0} (b : Bool) (k : ℕ) → eqb (kindOf (key k-true)) k ≡ false
+    → eqb (kindOf (key k-false)) k ≡ false → constantKind b ≡ k → A
 unfolding constantKind
 not-constant true k d e h = apart (kindOf (key k-true)) k d refl h
 not-constant false k d e h = apart (kindOf (key k-false)) k e refl h
@@ -385,7 +399,8 @@ constant-same true false e = apart (kindOf (key k-true)) (kindOf (key k-false)) 
 constant-same false true e = apart (kindOf (key k-false)) (kindOf (key k-true)) refl refl e
 constant-same false false e = refl
 
-constant-apart : {A : Type 0} (b : Bool) (k : ℕ) → eqb k (kindOf (key k-true)) ≡ false → eqb k (kindOf (key k-false)) ≡ false → k ≡ constantKind b → A
+constant-apart : {A : Type 0} (b : Bool) (k : ℕ) → eqb k (kindOf (key k-true)) ≡ false
+    → eqb k (kindOf (key k-false)) ≡ false → k ≡ constantKind b → A
 unfolding constantKind
 constant-apart true k d e h = apart k (kindOf (key k-true)) d refl h
 constant-apart false k d e h = apart k (kindOf (key k-false)) e refl h
@@ -401,7 +416,8 @@ constant-spelled true us = (key k-true, refl)
 constant-spelled false us = (key k-false, refl)
 
 module _ {ks values vars : List ℕ} where
-  pub simple-not : {at r n : ℕ} {holds turned : List Bool} → getD ks at noKind ≡ kindOf (mark bang) → Next ks at r → SimpleRead ks values vars r holds n
+  pub simple-not : {at r n : ℕ} {holds turned : List Bool} → getD ks at noKind ≡ kindOf (mark bang) → Next ks at r
+      → SimpleRead ks values vars r holds n
       → ((j : ℕ) → j < 16 → getD turned j false ≡ not (getD holds j false)) → SimpleRead ks values vars at turned n
   unfolding spellSimple simpleTruth simpleKind kindOf markNumber keywordNumber
   simple-not {at} {r} {n} {holds} {turned} kind next simple turns = record {
@@ -416,11 +432,14 @@ module _ {ks values vars : List ℕ} where
       go j l vs as′ ls us (negation s) codes biased e ends f =
           let t = simple .reads j l vs as′ ls us s codes biased (behind codes next e) ends in
           (turns j l ∙ ap not (t .0), t .1)
-      go j l vs as′ ls us (bracketed c) codes biased e ends f = apart (kindOf (mark lparen)) (kindOf (mark bang)) refl refl f
+      go j l vs as′ ls us (bracketed c) codes biased e ends f =
+          apart (kindOf (mark lparen)) (kindOf (mark bang)) refl refl f
       go j l vs as′ ls us (constant b) codes biased e ends f = not-constant b (kindOf (mark bang)) refl refl f
-      go j l vs as′ ls us (compare a o b) codes biased e ends f = not-atom (a .first) (kindOf (mark bang)) refl refl refl f
+      go j l vs as′ ls us (compare a o b) codes biased e ends f =
+          not-atom (a .first) (kindOf (mark bang)) refl refl refl f
 
-  pub simple-bracketed : {at r k n : ℕ} {holds : List Bool} → getD ks at noKind ≡ kindOf (mark lparen) → Next ks at r → CondRead ks values vars r holds k → Next ks k n
+  pub simple-bracketed : {at r k n : ℕ} {holds : List Bool} → getD ks at noKind ≡ kindOf (mark lparen) → Next ks at r
+      → CondRead ks values vars r holds k → Next ks k n
       → SimpleRead ks values vars at holds n
   unfolding spellSimple simpleTruth simpleKind kindOf markNumber keywordNumber
   simple-bracketed {at} {r} {k} {n} {holds} kind next whole last = record {
@@ -430,7 +449,8 @@ module _ {ks values vars : List ℕ} where
   }
     where
       go : (j : ℕ) → j < 16 → (vs : List Var) (as′ : List ℤ) (ls us : List Lexeme) (x : Simple) → Codes vs ls ks values → Biased vs as′ (lane vars j)
-          → drop at ls ≡ spellSimple x ++ us → simpleKind x ≡ kindOf (mark lparen) → (getD holds j false ≡ simpleTruth x vs as′) × (drop n ls ≡ us)
+          → drop at ls ≡ spellSimple x ++ us → simpleKind x ≡ kindOf (mark lparen)
+          → (getD holds j false ≡ simpleTruth x vs as′) × (drop n ls ≡ us)
       go j l vs as′ ls us (negation s) codes biased e f = apart (kindOf (mark bang)) (kindOf (mark lparen)) refl refl f
       go j l vs as′ ls us (bracketed c) codes biased e f =
           let t = whole .reads j l vs as′ ls (mark rparen ∷ us) c codes biased
@@ -439,7 +459,8 @@ module _ {ks values vars : List ℕ} where
       go j l vs as′ ls us (constant b) codes biased e f = not-constant b (kindOf (mark lparen)) refl refl f
       go j l vs as′ ls us (compare a o b) codes biased e f = not-atom (a .first) (kindOf (mark lparen)) refl refl refl f
 
-  pub simple-constant : (h : Bool) {at n : ℕ} → getD ks at noKind ≡ constantKind h → Next ks at n → SimpleRead ks values vars at (replicate 16 h) n
+  pub simple-constant : (h : Bool) {at n : ℕ} → getD ks at noKind ≡ constantKind h → Next ks at n
+      → SimpleRead ks values vars at (replicate 16 h) n
   unfolding spellSimple simpleTruth simpleKind kindOf markNumber keywordNumber
   simple-constant h {at} {n} kind next = record {
     from = next .from;
@@ -457,8 +478,10 @@ module _ {ks values vars : List ℕ} where
           (sym (constant-same b h f), behind codes next (e ∙ constant-spelled b us .1))
       go vs as′ ls us (compare a o b) codes e f = atom-constant (a .first) h f
 
-  pub simple-compare : {at n : ℕ} {holds : List Bool} → (getD ks at noKind ≡ kindOf (mark bang) → ⊥) → (getD ks at noKind ≡ kindOf (mark lparen) → ⊥) → (getD ks at noKind ≡ kindOf (key k-true) → ⊥)
-      → (getD ks at noKind ≡ kindOf (key k-false) → ⊥) → CompareRead ks values vars at holds n → SimpleRead ks values vars at holds n
+  pub simple-compare : {at n : ℕ} {holds : List Bool} → (getD ks at noKind ≡ kindOf (mark bang) → ⊥)
+      → (getD ks at noKind ≡ kindOf (mark lparen) → ⊥) → (getD ks at noKind ≡ kindOf (key k-true) → ⊥)
+      → (getD ks at noKind ≡ kindOf (key k-false) → ⊥) → CompareRead ks values vars at holds n
+      → SimpleRead ks values vars at holds n
   unfolding spellSimple simpleTruth simpleKind constantKind spellCompared comparedTruth
   simple-compare {at} {n} {holds} no-not no-bracket no-true no-false two = record {
     from = two .from;
@@ -513,7 +536,8 @@ module _ {X Y : Type 0} {spellX : X → List Lexeme} {EndsX : List Lexeme → Ty
     {spellY : Y → List Lexeme} {EndsY : List Lexeme → Type 0} {meansY : Y → List Var → List ℤ → Bool} {m : Mark} {op : Bool → Bool → Bool}
     (chain : Chain spellX EndsX meansX spellY EndsY meansY m op) {ks values vars : List ℕ} where
   -- no mark behind the item
-  chain-one : {at n : ℕ} {holds : List Bool} → Truths spellX EndsX meansX ks values vars at holds n → (getD ks n noKind ≡ kindOf (mark m) → ⊥)
+  chain-one : {at n : ℕ} {holds : List Bool} → Truths spellX EndsX meansX ks values vars at holds n
+      → (getD ks n noKind ≡ kindOf (mark m) → ⊥)
       → Truths spellY EndsY meansY ks values vars at holds n
   unfolding frontKind kindOf
   chain-one {at} {n} {holds} item none = record {
@@ -553,21 +577,25 @@ module _ {X Y : Type 0} {spellX : X → List Lexeme} {EndsX : List Lexeme → Ty
   }
 
 module _ {ks values vars : List ℕ} where
-  pub conj-one : {at n : ℕ} {holds : List Bool} → SimpleRead ks values vars at holds n → (getD ks n noKind ≡ kindOf (mark and-and) → ⊥) → ConjRead ks values vars at holds n
+  pub conj-one : {at n : ℕ} {holds : List Bool} → SimpleRead ks values vars at holds n
+      → (getD ks n noKind ≡ kindOf (mark and-and) → ⊥) → ConjRead ks values vars at holds n
   unfolding markNumber
   conj-one item none = chain-one conj-chain item none
 
-  pub conj-more : {at n r n′ : ℕ} {holds holds′ both : List Bool} → SimpleRead ks values vars at holds n → getD ks n noKind ≡ kindOf (mark and-and) → Next ks n r
+  pub conj-more : {at n r n′ : ℕ} {holds holds′ both : List Bool} → SimpleRead ks values vars at holds n
+      → getD ks n noKind ≡ kindOf (mark and-and) → Next ks n r
       → ConjRead ks values vars r holds′ n′ → ((j : ℕ) → j < 16 → getD both j false ≡ getD holds j false && getD holds′ j false)
       → ConjRead ks values vars at both n′
   unfolding markNumber
   conj-more item kind next more joins = chain-more conj-chain item kind next more joins
 
-  pub cond-one : {at n : ℕ} {holds : List Bool} → ConjRead ks values vars at holds n → (getD ks n noKind ≡ kindOf (mark or-or) → ⊥) → CondRead ks values vars at holds n
+  pub cond-one : {at n : ℕ} {holds : List Bool} → ConjRead ks values vars at holds n
+      → (getD ks n noKind ≡ kindOf (mark or-or) → ⊥) → CondRead ks values vars at holds n
   unfolding markNumber
   cond-one item none = chain-one cond-chain item none
 
-  pub cond-more : {at n r n′ : ℕ} {holds holds′ both : List Bool} → ConjRead ks values vars at holds n → getD ks n noKind ≡ kindOf (mark or-or) → Next ks n r
+  pub cond-more : {at n r n′ : ℕ} {holds holds′ both : List Bool} → ConjRead ks values vars at holds n
+      → getD ks n noKind ≡ kindOf (mark or-or) → Next ks n r
       → CondRead ks values vars r holds′ n′ → ((j : ℕ) → j < 16 → getD both j false ≡ getD holds j false || getD holds′ j false)
       → CondRead ks values vars at both n′
   unfolding markNumber

@@ -47,7 +47,8 @@ no-else : (b : Block) (us : List Lexeme) → frontKind (spellBlock b ++ (mark rb
 unfolding frontKind spellBlock kindOf markNumber keywordNumber
 no-else end us h = apart (kindOf (mark rbrace)) (kindOf (key k-else)) refl refl h
 no-else (then s b) us h =
-    not-stmt s (λ e. apart (kindOf (key k-else)) nameKind refl refl e) (λ e. apart (kindOf (key k-else)) (kindOf (key k-if)) refl refl e)
+    not-stmt s (λ e. apart (kindOf (key k-else)) nameKind refl refl e)
+    (λ e. apart (kindOf (key k-else)) (kindOf (key k-if)) refl refl e)
     (sym h ∙ ap frontKind (split s b (mark rbrace ∷ us)) ∙ stmt-front s (spellBlock b ++ (mark rbrace ∷ us)))
 
 -- Runs one after the other, where a fault stays one
@@ -88,7 +89,8 @@ side false h o p = refl
 
 module _ {ks values lows highs vars : List ℕ} {on : List Bool} where
   -- no statement
-  pub block-end : (at : ℕ) → length vars ≡ 96 → (getD ks at noKind ≡ nameKind → ⊥) → (getD ks at noKind ≡ kindOf (key k-if) → ⊥)
+  pub block-end : (at : ℕ) → length vars ≡ 96 → (getD ks at noKind ≡ nameKind → ⊥)
+      → (getD ks at noKind ≡ kindOf (key k-if) → ⊥)
       → BlockRun ks values lows highs vars on at (replicate 16 true) vars
   unfolding spellBlock runBlock RunAs
   block-end at long no-name no-if = record {
@@ -139,7 +141,8 @@ if-else-runs c a b vs as′ true h = cc
 if-else-runs c a b vs as′ false h = cc
 
 module _ {ks values lows highs vars : List ℕ} {on ok : List Bool} {held : List ℕ} where
-  pub stmt-assign : {at a b k n slot : ℕ} {sums : List ℕ} → (getD ks at noKind ≡ kindOf (key k-if) → ⊥) → at < length ks → Next ks at a → Next ks a b
+  pub stmt-assign : {at a b k n slot : ℕ} {sums : List ℕ} → (getD ks at noKind ≡ kindOf (key k-if) → ⊥)
+      → at < length ks → Next ks at a → Next ks a b
       → ExprRead ks values vars b sums k → Next ks k n → slot ≡ getD values at 0 → Stored lows highs vars on slot sums ok held
       → StmtRun ks values lows highs vars on at ok held n
   unfolding spellStmt runStmt frontKind kindOf keywordNumber
@@ -162,7 +165,8 @@ module _ {ks values lows highs vars : List ℕ} {on ok : List Bool} {held : List
       go j l vs as′ ls us (if-then c d) codes biased ranges h = absurd (no-if (sym (front-is codes at refl h)))
       go j l vs as′ ls us (if-else c d d′) codes biased ranges h = absurd (no-if (sym (front-is codes at refl h)))
 
-  pub stmt-if : {at a b k open′ n : ℕ} {holds : List Bool} → getD ks at noKind ≡ kindOf (key k-if) → at < length ks → Next ks at a → Next ks a b
+  pub stmt-if : {at a b k open′ n : ℕ} {holds : List Bool} → getD ks at noKind ≡ kindOf (key k-if) → at < length ks
+      → Next ks at a → Next ks a b
       → CondRead ks values vars b holds k → Next ks k open′ → BranchRun ks values lows highs vars on open′ holds ok held n
       → StmtRun ks values lows highs vars on at ok held n
   unfolding spellStmt runStmt frontKind kindOf keywordNumber oneBlock
@@ -176,7 +180,8 @@ module _ {ks values lows highs vars : List ℕ} {on ok : List Bool} {held : List
       go : (j : ℕ) → j < 16 → (vs : List Var) (as′ : List ℤ) (ls us : List Lexeme) (s : Stmt) → Codes vs ls ks values → Biased vs as′ (lane vars j)
           → Ranges vs lows highs → drop at ls ≡ spellStmt s ++ us → (frontKind us ≡ kindOf (key k-else) → ⊥)
           → RunIn vs on ok held j as′ (runStmt s vs as′) × (drop n ls ≡ us)
-      go j l vs as′ ls us (assign x e) codes biased ranges d f = apart nameKind (kindOf (key k-if)) refl refl (front-is codes at kind d)
+      go j l vs as′ ls us (assign x e) codes biased ranges d f =
+          apart nameKind (kindOf (key k-if)) refl refl (front-is codes at kind d)
       go j l vs as′ ls us (if-then c b) codes biased ranges d f =
           let t = test .reads j l vs as′ ls (mark rparen ∷ oneBlock b us) c codes biased
           (behind codes two (behind codes one d) ∙ simp append-assoc) (rparen-ends (oneBlock b us)) in
@@ -216,7 +221,8 @@ module _ {ks values lows highs vars : List ℕ} (on holds : List Bool) {on₁ : 
       (run .runs j l vs as′ ls us b codes biased ranges (behind codes enter e))
 
   -- one block
-  pub branch-one : (getD ks next noKind ≡ kindOf (key k-else) → ⊥) → BranchRun ks values lows highs vars on open′ holds ok₁ held₁ next
+  pub branch-one : (getD ks next noKind ≡ kindOf (key k-else) → ⊥)
+      → BranchRun ks values lows highs vars on open′ holds ok₁ held₁ next
   unfolding oneBlock frontKind kindOf keywordNumber
   branch-one no-else = record {
     long = run .long;
@@ -232,7 +238,8 @@ module _ {ks values lows highs vars : List ℕ} (on holds : List Bool) {on₁ : 
   }
 
   -- two blocks
-  pub branch-two : {other last final second : ℕ} {on₂ ok₂ both : List Bool} {held₂ : List ℕ} → getD ks next noKind ≡ kindOf (key k-else) → Next ks next other
+  pub branch-two : {other last final second : ℕ} {on₂ ok₂ both : List Bool} {held₂ : List ℕ}
+      → getD ks next noKind ≡ kindOf (key k-else) → Next ks next other
       → Closes ks values other last → Next ks last final → Next ks other second
       → ((j : ℕ) → j < 16 → getD on₂ j false ≡ getD on j false && not (getD holds j false))
       → BlockRun ks values lows highs held₁ on₂ second ok₂ held₂

@@ -119,7 +119,8 @@ comparison-shape =
     (either (isMark at-most) _ le _ (either (isMark above) _ gt _ (single (isMark at-least) ge)))))
 
 module _ {ks : List ℕ} {from to : Pos} where
-  pub took-mark : (m : Mark) → Expects ks from (kindOf (mark m)) (kindOf (mark m)) to → Follows (Unit {0}) ks from (expect (isMark m)) to
+  pub took-mark : (m : Mark) → Expects ks from (kindOf (mark m)) (kindOf (mark m)) to
+      → Follows (Unit {0}) ks from (expect (isMark m)) to
   took-mark m h = h .by (isMark m) (by-mark m)
 
   pub took-key : (k : Keyword) → Expects ks from (kindOf (key k)) (kindOf (key k)) to
@@ -135,5 +136,6 @@ module _ {ks : List ℕ} {from to : Pos} where
   pub took-sign : Expects ks from (kindOf (mark plus)) (kindOf (mark minus)) to → Follows Sign ks from readSign to
   took-sign h = shaped added sign-shape (h .by isSign by-sign)
 
-  pub took-comparison : Expects ks from (kindOf (mark same)) (kindOf (mark at-least)) to → Follows Comparison ks from readComparison to
+  pub took-comparison : Expects ks from (kindOf (mark same)) (kindOf (mark at-least)) to
+      → Follows Comparison ks from readComparison to
   took-comparison h = shaped eq comparison-shape (h .by isComparison by-comparison)

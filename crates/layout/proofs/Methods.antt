@@ -42,7 +42,8 @@ region-first : (q : Region) (qs : List Region) (us : List Lexeme) → regionsAhe
 unfolding each
 region-first q qs us = append-assoc (spellRegion q) (each spellRegion qs) (mark rbrace ∷ us)
 
-kind-of-region : (q : Region) (qs : List Region) (us : List Lexeme) → getD (map kindOf (regionsAhead (q ∷ qs) us)) 0 noKind ≡ kindOf (key k-waituntil)
+kind-of-region : (q : Region) (qs : List Region) (us : List Lexeme)
+    → getD (map kindOf (regionsAhead (q ∷ qs) us)) 0 noKind ≡ kindOf (key k-waituntil)
 unfolding each spellRegion kindOf keywordNumber
 kind-of-region q qs us = refl
 
@@ -58,7 +59,8 @@ flag-ahead (q ∷ qs) us = refl
 module _ (file : List ℕ) (ts : List Token) (kinds values places : List ℕ) (words : Words file ts kinds values places) where
   module _ (before : List Flagged) (all-qs : List Region) (us : List Lexeme) where
     -- at `waituntil` there is a region ahead
-    no-region : {C : Type 0} (i : ℕ) → drop i (lexemes ts) ≡ regionsAhead [] us → getD kinds i noKind ≡ kindOf (key k-waituntil) → C
+    no-region : {C : Type 0} (i : ℕ) → drop i (lexemes ts) ≡ regionsAhead [] us
+        → getD kinds i noKind ≡ kindOf (key k-waituntil) → C
     unfolding kindOf markNumber keywordNumber
     no-region i stands kind =
         let e = kind-behind file ts kinds values places words i _ stands in
@@ -67,7 +69,8 @@ module _ (file : List ℕ) (ts : List Token) (kinds values places : List ℕ) (w
 
     turn : (l : Layout) (i b : ℕ) (s : Spot) (done : List Flagged) (qs : List Region) → Holds (lexemes ts) done l → length done + length qs ≤ 16
         → drop i (lexemes ts) ≡ regionsAhead qs us → done ++ flagRegions b qs ≡ before ++ flagRegions 1 all-qs → length ts ≤ 1024
-        → getD kinds i noKind ≡ kindOf (key k-waituntil) → AddsRegion file kinds values places l i b s → Ahead (lexemes ts) before all-qs us (s .layout) (s .at) 0
+        → getD kinds i noKind ≡ kindOf (key k-waituntil) → AddsRegion file kinds values places l i b s
+        → Ahead (lexemes ts) before all-qs us (s .layout) (s .at) 0
     unfolding flagRegions
     turn l i b s done [] h f stands whole small kind adds = no-region i stands kind
     turn l i b s done (q ∷ qs) h f stands whole small kind adds =
@@ -86,27 +89,32 @@ module _ (file : List ℕ) (ts : List Token) (kinds values places : List ℕ) (w
         }
 
     pub ahead-turn : (l : Layout) (i b : ℕ) (s : Spot) → Ahead (lexemes ts) before all-qs us l i b → length ts ≤ 1024
-        → getD kinds i noKind ≡ kindOf (key k-waituntil) → AddsRegion file kinds values places l i b s → Ahead (lexemes ts) before all-qs us (s .layout) (s .at) 0
+        → getD kinds i noKind ≡ kindOf (key k-waituntil) → AddsRegion file kinds values places l i b s
+        → Ahead (lexemes ts) before all-qs us (s .layout) (s .at) 0
     ahead-turn l i b s a = turn l i b s (a .done) (a .qs) (a .holds) (a .few) (a .stands) (a .whole)
 
     full : {C : Type 0} (l : Layout) (i : ℕ) (done : List Flagged) (qs : List Region) → Holds (lexemes ts) done l → length done + length qs ≤ 16
-        → drop i (lexemes ts) ≡ regionsAhead qs us → getD kinds i noKind ≡ kindOf (key k-waituntil) → 16 ≤ l .regions → C
+        → drop i (lexemes ts) ≡ regionsAhead qs us → getD kinds i noKind ≡ kindOf (key k-waituntil) → 16 ≤ l .regions
+        → C
     full l i done [] h f stands kind many = no-region i stands kind
     full l i done (q ∷ qs) h f stands kind many = absurd (omega (arith, h .count))
 
     -- a layout that is full has no region ahead
-    pub ahead-full : {C : Type 0} (l : Layout) (i b : ℕ) → Ahead (lexemes ts) before all-qs us l i b → getD kinds i noKind ≡ kindOf (key k-waituntil) → 16 ≤ l .regions → C
+    pub ahead-full : {C : Type 0} (l : Layout) (i b : ℕ) → Ahead (lexemes ts) before all-qs us l i b
+        → getD kinds i noKind ≡ kindOf (key k-waituntil) → 16 ≤ l .regions → C
     ahead-full l i b a = full l i (a .done) (a .qs) (a .holds) (a .few) (a .stands)
 
     over : (l : Layout) (i b : ℕ) (done : List Flagged) (qs : List Region) → Holds (lexemes ts) done l
         → drop i (lexemes ts) ≡ regionsAhead qs us → done ++ flagRegions b qs ≡ before ++ flagRegions 1 all-qs
-        → (getD kinds i noKind ≡ kindOf (key k-waituntil) → ⊥) → Reached (lexemes ts) (before ++ flagRegions 1 all-qs) (mark rbrace ∷ us) record { layout = l; at = i }
+        → (getD kinds i noKind ≡ kindOf (key k-waituntil) → ⊥)
+        → Reached (lexemes ts) (before ++ flagRegions 1 all-qs) (mark rbrace ∷ us) record { layout = l; at = i }
     unfolding flagRegions each
     over l i b done [] h stands whole n = rw (sym whole, append-nil done) (record { holds = h; behind = stands })
     over l i b done (q ∷ qs) h stands whole n =
         absurd (n (kind-behind file ts kinds values places words i _ stands ∙ kind-of-region q qs us))
 
-    pub ahead-over : (l : Layout) (i b : ℕ) → Ahead (lexemes ts) before all-qs us l i b → (getD kinds i noKind ≡ kindOf (key k-waituntil) → ⊥)
+    pub ahead-over : (l : Layout) (i b : ℕ) → Ahead (lexemes ts) before all-qs us l i b
+        → (getD kinds i noKind ≡ kindOf (key k-waituntil) → ⊥)
         → Reached (lexemes ts) (before ++ flagRegions 1 all-qs) (mark rbrace ∷ us) record { layout = l; at = i }
     ahead-over l i b a = over l i b (a .done) (a .qs) (a .holds) (a .stands) (a .whole)
 
@@ -132,7 +140,8 @@ method-first x ms ls i h =
     later 3 i ls _ h ∙ append-assoc (qs ++ (mark rbrace ∷ [])) (each spellMethod ms) (mark rbrace ∷ [])
     ∙ append-assoc qs (mark rbrace ∷ []) (methodsAhead ms)
 
-kind-of-method : (x : Method) (ms : List Method) → getD (map kindOf (methodsAhead (x ∷ ms))) 0 noKind ≡ kindOf (key k-method)
+kind-of-method : (x : Method) (ms : List Method)
+    → getD (map kindOf (methodsAhead (x ∷ ms))) 0 noKind ≡ kindOf (key k-method)
 unfolding each spellMethod kindOf keywordNumber
 kind-of-method x ms = refl
 
@@ -148,7 +157,8 @@ flag-count b (q ∷ qs) = ap suc (flag-count 0 qs)
 module _ (file : List ℕ) (ts : List Token) (kinds values places : List ℕ) (words : Words file ts kinds values places) (small : length ts ≤ 1024)
     (all-ms : List Method) (few : length (flagged all-ms) ≤ 16) where
   turn-all : (l : Layout) (i : ℕ) (s : Spot) (done : List Flagged) (ms : List Method) → Holds (lexemes ts) done l
-      → drop i (lexemes ts) ≡ methodsAhead ms → done ++ flagged ms ≡ flagged all-ms → getD kinds i noKind ≡ kindOf (key k-method)
+      → drop i (lexemes ts) ≡ methodsAhead ms → done ++ flagged ms ≡ flagged all-ms
+      → getD kinds i noKind ≡ kindOf (key k-method)
       → AddsMethod file kinds values places l (i + 3) s → AheadAll (lexemes ts) all-ms (s .layout) (s .at + 1)
   unfolding flagged kindOf markNumber keywordNumber
   turn-all l i s done [] h stands whole kind adds =
@@ -170,17 +180,20 @@ module _ (file : List ℕ) (ts : List Token) (kinds values places : List ℕ) (w
         whole = append-assoc done (flagRegions 1 qs) (flagged ms) ∙ whole;
       }
 
-  pub all-turn : (l : Layout) (i : ℕ) (s : Spot) → AheadAll (lexemes ts) all-ms l i → getD kinds i noKind ≡ kindOf (key k-method)
+  pub all-turn : (l : Layout) (i : ℕ) (s : Spot) → AheadAll (lexemes ts) all-ms l i
+      → getD kinds i noKind ≡ kindOf (key k-method)
       → AddsMethod file kinds values places l (i + 3) s → AheadAll (lexemes ts) all-ms (s .layout) (s .at + 1)
   all-turn l i s a = turn-all l i s (a .done) (a .ms) (a .holds) (a .stands) (a .whole)
 
   over-all : (l : Layout) (i : ℕ) (done : List Flagged) (ms : List Method) → Holds (lexemes ts) done l
-      → drop i (lexemes ts) ≡ methodsAhead ms → done ++ flagged ms ≡ flagged all-ms → (getD kinds i noKind ≡ kindOf (key k-method) → ⊥)
+      → drop i (lexemes ts) ≡ methodsAhead ms → done ++ flagged ms ≡ flagged all-ms
+      → (getD kinds i noKind ≡ kindOf (key k-method) → ⊥)
       → Holds (lexemes ts) (flagged all-ms) l
   unfolding flagged
   over-all l i done [] h stands whole n = rw (sym whole, append-nil done) h
   over-all l i done (x ∷ ms) h stands whole n =
       absurd (n (kind-behind file ts kinds values places words i _ stands ∙ kind-of-method x ms))
 
-  pub all-over : (l : Layout) (i : ℕ) → AheadAll (lexemes ts) all-ms l i → (getD kinds i noKind ≡ kindOf (key k-method) → ⊥) → Holds (lexemes ts) (flagged all-ms) l
+  pub all-over : (l : Layout) (i : ℕ) → AheadAll (lexemes ts) all-ms l i
+      → (getD kinds i noKind ≡ kindOf (key k-method) → ⊥) → Holds (lexemes ts) (flagged all-ms) l
   all-over l i a = over-all l i (a .done) (a .ms) (a .holds) (a .stands) (a .whole)

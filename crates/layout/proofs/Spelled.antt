@@ -45,9 +45,12 @@ spelled-kinds ls at q us h =
     let guard : drop (at + 2) ls ≡ spellCond (q .guard) ++ (mark rparen ∷ behind-guard) =
     later 2 at ls _ h ∙ append-assoc (spellCond (q .guard)) (mark rparen ∷ mark lbrace ∷ (spellBlock (q .body) ++ (mark rbrace ∷ []))) us
     ∙ ap (λ (x : List Lexeme). spellCond (q .guard) ++ (mark rparen ∷ mark lbrace ∷ x)) (append-assoc (spellBlock (q .body)) (mark rbrace ∷ []) us) in
-    let bracket = close-stands openBracket shutBracket (at + 2) ls (spellCond (q .guard)) behind-guard (mark rparen) (brackets-balanced (q .guard)) (λ e. omega arith) refl guard in
-    let body : drop (bodyOf kinds at) ls ≡ spellBlock (q .body) ++ behind-body = later 2 (at + 2 + bracketEnd (drop (at + 2) kinds)) ls _ bracket in
-    let brace = close-stands openBrace shutBrace (bodyOf kinds at) ls (spellBlock (q .body)) us (mark rbrace) (braces-balanced (q .body)) (λ e. omega arith) refl body in
+    let bracket = close-stands openBracket shutBracket (at + 2) ls (spellCond (q .guard)) behind-guard (mark rparen)
+    (brackets-balanced (q .guard)) (λ e. omega arith) refl guard in
+    let body : drop (bodyOf kinds at) ls ≡ spellBlock (q .body) ++ behind-body = later 2
+    (at + 2 + bracketEnd (drop (at + 2) kinds)) ls _ bracket in
+    let brace = close-stands openBrace shutBrace (bodyOf kinds at) ls (spellBlock (q .body)) us (mark rbrace)
+    (braces-balanced (q .body)) (λ e. omega arith) refl body in
     record {
       stands = record { behind-guard = behind-guard; behind-body = us; guard-stands = guard; body-stands = body };
       behind = later 1 (bodyOf kinds at + braceEnd (drop (bodyOf kinds at) kinds)) ls _ brace;
@@ -60,7 +63,8 @@ module _ (file : List ℕ) (ts : List Token) (kinds values places : List ℕ) (w
   spelled at q us h = rw (kinds-are file ts kinds values places words) (spelled-kinds (lexemes ts) at q us h)
 
   -- the kind at a token is that of what stands there
-  pub kind-behind : (at : ℕ) (us : List Lexeme) → drop at (lexemes ts) ≡ us → getD kinds at noKind ≡ getD (map kindOf us) 0 noKind
+  pub kind-behind : (at : ℕ) (us : List Lexeme) → drop at (lexemes ts) ≡ us
+      → getD kinds at noKind ≡ getD (map kindOf us) 0 noKind
   kind-behind at us h =
       rw (kinds-are file ts kinds values places words)
       (ap (λ (k : ℕ). getD (map kindOf (lexemes ts)) k noKind) (sym (add-zero at)) ∙ sym (getD-drop at (map kindOf (lexemes ts)) 0 noKind)

@@ -28,7 +28,8 @@ other l k = not (eqb k (kindOf l))
 -- a kind of a file's tokens but brackets, braces and `keep`
 abbrev quiet : ℕ → Bool
 quiet k =
-    other (mark lbrace) k && other (mark rbrace) k && other (mark lparen) k && other (mark rparen) k && other (key k-keep) k
+    other (mark lbrace) k && other (mark rbrace) k && other (mark lparen) k && other (mark rparen) k && other
+    (key k-keep) k
 
 -- nor a semicolon: a kind of a condition's tokens but brackets
 abbrev calm : ℕ → Bool
@@ -71,7 +72,8 @@ module _ (P : List Lexeme → Type 0) (nil : P []) (joins : (v w : List Lexeme) 
   of-terms : (ts : List Term) → P (each spellTerm ts)
   unfolding each spellTerm
   of-terms [] = nil
-  of-terms (t ∷ ts) = join (join (calmly (mark (signMark (t .sign))) (sign-kind (t .sign))) (of-atom (t .atom))) (of-terms ts)
+  of-terms (t ∷ ts) =
+      join (join (calmly (mark (signMark (t .sign))) (sign-kind (t .sign))) (of-atom (t .atom))) (of-terms ts)
 
   of-expr : (e : Expr) → P (spellExpr e)
   unfolding spellExpr
@@ -97,7 +99,8 @@ module _ (P : List Lexeme → Type 0) (nil : P []) (joins : (v w : List Lexeme) 
     of-simple (negation s) = join (calmly (mark bang) refl) (of-simple s)
     of-simple (bracketed c) = wraps _ (of-cond c)
     of-simple (constant b) = of-constant b
-    of-simple (compare e o f) = join (of-expr e) (join (calmly (mark (comparisonMark o)) (comparison-kind o)) (of-expr f))
+    of-simple (compare e o f) =
+        join (of-expr e) (join (calmly (mark (comparisonMark o)) (comparison-kind o)) (of-expr f))
 
   module _ (plainly : (l : Lexeme) → quiet (kindOf l) ≡ true → P (l ∷ []))
       (blocks : (w : List Lexeme) → P w → P (mark lbrace ∷ (w ++ (mark rbrace ∷ [])))) where
@@ -146,7 +149,8 @@ module _ (P : List Lexeme → Type 0) (nil : P []) (joins : (v w : List Lexeme) 
 -- Braces over blocks, brackets and semicolons over conditions
 
 module _ (o c : ℕ) where
-  balanced-by : (test : ℕ → Bool) → test o ≡ false → test c ≡ false → (l : Lexeme) → test (kindOf l) ≡ true → Balanced o c (l ∷ [])
+  balanced-by : (test : ℕ → Bool) → test o ≡ false → test c ≡ false → (l : Lexeme) → test (kindOf l) ≡ true
+      → Balanced o c (l ∷ [])
   balanced-by test p q l h = balanced-one o c l (apart-by test h p) (apart-by test h q)
 
   around : (l r : Lexeme) → Balanced o c (l ∷ []) → Balanced o c (r ∷ []) → (w : List Lexeme) → Balanced o c w
@@ -156,14 +160,16 @@ module _ (o c : ℕ) where
 pub brackets-balanced : (c : Cond) → Balanced openBracket shutBracket (spellCond c)
 unfolding kindOf markNumber keywordNumber
 brackets-balanced =
-    of-cond (Balanced openBracket shutBracket) (balanced-nil openBracket shutBracket) (λ v w p q. balanced-join openBracket shutBracket p q)
+    of-cond (Balanced openBracket shutBracket) (balanced-nil openBracket shutBracket)
+    (λ v w p q. balanced-join openBracket shutBracket p q)
     (balanced-by openBracket shutBracket calm refl refl)
     (λ w p. balanced-wrap openBracket shutBracket (mark lparen) (mark rparen) refl (λ e. omega arith) refl p)
 
 pub semicolons-balanced : (c : Cond) → Balanced noKind semicolonKind (spellCond c)
 unfolding kindOf markNumber keywordNumber
 semicolons-balanced =
-    of-cond (Balanced noKind semicolonKind) (balanced-nil noKind semicolonKind) (λ v w p q. balanced-join noKind semicolonKind p q) calmly
+    of-cond (Balanced noKind semicolonKind) (balanced-nil noKind semicolonKind)
+    (λ v w p q. balanced-join noKind semicolonKind p q) calmly
     (around noKind semicolonKind (mark lparen) (mark rparen) (balanced-one noKind semicolonKind (mark lparen) (λ e. omega arith) (λ e. omega arith))
     (balanced-one noKind semicolonKind (mark rparen) (λ e. omega arith) (λ e. omega arith)))
   where
@@ -173,7 +179,8 @@ semicolons-balanced =
 pub braces-balanced : (b : Block) → Balanced openBrace shutBrace (spellBlock b)
 unfolding kindOf markNumber keywordNumber
 braces-balanced =
-    of-block (Balanced openBrace shutBrace) (balanced-nil openBrace shutBrace) (λ v w p q. balanced-join openBrace shutBrace p q)
+    of-block (Balanced openBrace shutBrace) (balanced-nil openBrace shutBrace)
+    (λ v w p q. balanced-join openBrace shutBrace p q)
     (balanced-by openBrace shutBrace calm refl refl)
     (around openBrace shutBrace (mark lparen) (mark rparen) (balanced-one openBrace shutBrace (mark lparen) (λ e. omega arith) (λ e. omega arith))
     (balanced-one openBrace shutBrace (mark rparen) (λ e. omega arith) (λ e. omega arith)))
@@ -190,10 +197,12 @@ free-join : (v w : List Lexeme) → Free v → Free w → Free (v ++ w)
 free-join [] w p q = q
 free-join (l ∷ v) w (next h p) q = next h (free-join v w p q)
 
-free-around : (l r : Lexeme) → (kindOf l ≡ kindOf (key k-keep) → ⊥) → (kindOf r ≡ kindOf (key k-keep) → ⊥) → (w : List Lexeme) → Free w → Free (l ∷ (w ++ (r ∷ [])))
+free-around : (l r : Lexeme) → (kindOf l ≡ kindOf (key k-keep) → ⊥) → (kindOf r ≡ kindOf (key k-keep) → ⊥)
+    → (w : List Lexeme) → Free w → Free (l ∷ (w ++ (r ∷ [])))
 free-around l r p q w h = next p (free-join w (r ∷ []) h (next q none))
 
-free-one : (test : ℕ → Bool) → test (kindOf (key k-keep)) ≡ false → (l : Lexeme) → test (kindOf l) ≡ true → Free (l ∷ [])
+free-one : (test : ℕ → Bool) → test (kindOf (key k-keep)) ≡ false → (l : Lexeme) → test (kindOf l) ≡ true
+    → Free (l ∷ [])
 free-one test f l h = next (apart-by test h f) none
 
 free-brackets : (w : List Lexeme) → Free w → Free (mark lparen ∷ (w ++ (mark rparen ∷ [])))
@@ -220,7 +229,8 @@ pub keep-once : (m : Monitor) (ls us : List Lexeme) (k : ℕ) → spell m ≡ ls
     → us ≡ each spellMethod (all (m .methods)) ++ (mark rbrace ∷ [])
 unfolding spell kindOf markNumber keywordNumber
 keep-once m ls us k e h =
-    let front = next {l = key k-monitor} (λ e. omega arith) (next {l = name (m .title)} (λ e. omega arith) (next {l = mark lbrace} (λ e. omega arith) free-vars)) in
+    let front = next {l = key k-monitor} (λ e. omega arith)
+    (next {l = name (m .title)} (λ e. omega arith) (next {l = mark lbrace} (λ e. omega arith) free-vars)) in
     let same = keep-splits (key k-monitor ∷ name (m .title) ∷ mark lbrace ∷ each spellVar (all (m .vars)))
     (spellCond (m .keep) ++ (mark semicolon ∷ methods)) (take k ls) (spellCond (m .keep) ++ (mark semicolon ∷ us)) front free-rest
     (e ∙ sym (take-append-drop k ls) ∙ ap (λ (x : List Lexeme). take k ls ++ x) h) in
@@ -233,10 +243,12 @@ keep-once m ls us k e h =
     methods = each spellMethod (all (m .methods)) ++ (mark rbrace ∷ [])
 
     free-vars : Free (each spellVar (all (m .vars)))
-    free-vars = of-vars Free none free-join (free-one calm refl) free-brackets (free-one quiet refl) free-braces (all (m .vars))
+    free-vars =
+        of-vars Free none free-join (free-one calm refl) free-brackets (free-one quiet refl) free-braces (all (m .vars))
 
     free-rest : Free (spellCond (m .keep) ++ (mark semicolon ∷ methods))
     free-rest =
-        free-join (spellCond (m .keep)) (mark semicolon ∷ methods) (of-cond Free none free-join (free-one calm refl) free-brackets (m .keep))
+        free-join (spellCond (m .keep)) (mark semicolon ∷ methods)
+        (of-cond Free none free-join (free-one calm refl) free-brackets (m .keep))
         (next (λ e. omega arith) (free-join (each spellMethod (all (m .methods))) (mark rbrace ∷ [])
         (of-methods Free none free-join (free-one calm refl) free-brackets (free-one quiet refl) free-braces (all (m .methods))) (next (λ e. omega arith) none)))

@@ -180,7 +180,8 @@ module _ (file : List ℕ) (m : Monitor) (ts : List Token) (kinds values places 
   pub methods-at : drop (k + 1 + semicolonEnd (drop (k + 1) kinds) + 1) (lexemes ts) ≡ methodsAhead (all (m .methods))
   unfolding IsKeep kindOf markNumber
   methods-at =
-      let semi = close-stands noKind semicolonKind (k + 1) (lexemes ts) (spellCond (m .keep)) (keep .0) (mark semicolon) (semicolons-balanced (m .keep))
+      let semi = close-stands noKind semicolonKind (k + 1) (lexemes ts) (spellCond (m .keep)) (keep .0)
+      (mark semicolon) (semicolons-balanced (m .keep))
       (λ e. omega arith) refl (later 1 k (lexemes ts) _ (keep .1)) in
       rw (kinds-are file ts kinds values places words)
       (later 1 (k + 1 + semicolonEnd (drop (k + 1) (map kindOf (lexemes ts)))) (lexemes ts) _ semi

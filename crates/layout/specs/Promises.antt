@@ -155,7 +155,8 @@ module _ (file kinds values places : List ℕ) where
 
   abbrev pub AddsRegion : Layout → ℕ → ℕ → Spot → Type 0
   AddsRegion l at begins s =
-      (ts : List Token) (done : List Flagged) (q : Region) (us : List Lexeme) → Words file ts kinds values places → length ts ≤ mostTokens
+      (ts : List Token) (done : List Flagged) (q : Region) (us : List Lexeme) → Words file ts kinds values places
+      → length ts ≤ mostTokens
       → Holds (lexemes ts) done l → drop at (lexemes ts) ≡ spellRegion q ++ us
       → Reached (lexemes ts) (done ++ (record { region = q; begins = begins; goesOn = flagAt (map kindOf us) 0 } ∷ [])) us s
 

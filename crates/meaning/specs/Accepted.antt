@@ -44,7 +44,8 @@ closes l = isMark rbrace l || isMark rparen l
 
 unfoldable pub Crowded : List Token → Token → Type 0
 Crowded before t =
-    (mostTokens ≤ length before) ⊎ ((opens (t .lexeme) ≡ true) × (howMany closes before + mostOpen < howMany opens before + 1))
+    (mostTokens ≤ length before)
+    ⊎ ((opens (t .lexeme) ≡ true) × (howMany closes before + mostOpen < howMany opens before + 1))
 
 -- 5
 unfoldable pub PastLimit : List Token → Token → Type 0

@@ -78,11 +78,13 @@ module _ {file : List ℕ} {ts : List Token} {kinds values places : List ℕ} (h
 
 -- Brackets and braces by kind
 
-pub kind-opens : (l : Lexeme) → opens l ≡ (eqb (kindOf l) (kindOf (mark lbrace)) || eqb (kindOf l) (kindOf (mark lparen)))
+pub kind-opens : (l : Lexeme)
+    → opens l ≡ (eqb (kindOf l) (kindOf (mark lbrace)) || eqb (kindOf l) (kindOf (mark lparen)))
 unfolding opens
 kind-opens l = rw (kind-mark lbrace l, kind-mark lparen l)
 
-pub kind-closes : (l : Lexeme) → closes l ≡ (eqb (kindOf l) (kindOf (mark rbrace)) || eqb (kindOf l) (kindOf (mark rparen)))
+pub kind-closes : (l : Lexeme)
+    → closes l ≡ (eqb (kindOf l) (kindOf (mark rbrace)) || eqb (kindOf l) (kindOf (mark rparen)))
 unfolding closes
 kind-closes l = rw (kind-mark rbrace l, kind-mark rparen l)
 
@@ -213,7 +215,8 @@ few-next {ts = ts} h n {i = i} vs′ ms′ f l v m =
     let s = f .counts in
     let t = tokenAt ts i .lexeme in
     let e = passed limiting h (0, 0, 0) s i (f .so-far) l n in
-    let k = neither (isKey k-var t && leb mostVars (s .0)) (isKey k-method t && leb mostMethods (s .1)) (isKey k-waituntil t && leb mostRegions (s .2)) e in
+    let k = neither (isKey k-var t && leb mostVars (s .0)) (isKey k-method t && leb mostMethods (s .1))
+    (isKey k-waituntil t && leb mostRegions (s .2)) e in
     record {
       counts = limiting .next s t;
       so-far = goes-on limiting h (0, 0, 0) s i (f .so-far) l e;

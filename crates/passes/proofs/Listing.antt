@@ -48,7 +48,8 @@ titles-token last at (mark m) ts = refl
 -- What `declared` ensures, said of the lexeme: the names with what it adds
 
 grown : {file : List ℕ} {names after : Names} {titles : List (List ℕ)} {start len : ℕ} (adds b : Bool) (l : Lexeme) → Grows names adds start len after
-    → Titles file titles names → adds ≡ (isName l && b) → (b ≡ true → length titles < mostMethods) → ((x : List ℕ) → l ≡ name x → Stands file x start len)
+    → Titles file titles names → adds ≡ (isName l && b) → (b ≡ true → length titles < mostMethods)
+    → ((x : List ℕ) → l ≡ name x → Stands file x start len)
     → Titles file (titles ++ added b l) after
 unfolding added isName
 grown adds true (name x) d t e r s = d _ _ t .1 x e (r refl) (s x refl)
@@ -60,7 +61,8 @@ grown adds b (mark m) d t e r s = rw append-nil (d _ _ t .0 e)
 module _ {file : List ℕ} {ts : List Token} {kinds values places : List ℕ} (h : Words file ts kinds values places) (i : ℕ) (l : i < length kinds) where
   pub grown-at : {names after : Names} {titles : List (List ℕ)} {before : ℕ} (k : Keyword) (last : Lexeme) (adds : Bool)
       → before ≡ kindOf last → adds ≡ (eqb (getD kinds i 0) nameKind && eqb before (kindOf (key k)))
-      → Grows names adds (getD places i 0) (getD values i 0) after → Titles file titles names → (isKey k last ≡ true → length titles < mostMethods)
+      → Grows names adds (getD places i 0) (getD values i 0) after → Titles file titles names
+      → (isKey k last ≡ true → length titles < mostMethods)
       → Titles file (titles ++ added (isKey k last) (tokenAt ts i .lexeme)) after
   grown-at k last adds e f d t r =
       grown adds (isKey k last) (tokenAt ts i .lexeme) d t (rw (kind-name, kind-key k last, ← kind-at h i, ← e) f) r (name-stands h i l)
@@ -75,13 +77,15 @@ pub record Listing (file : List ℕ) (ts : List Token) (vars : Names) (before i 
   pub held : Titles file titles vars
   pub few : Few ts i last (length titles) 0
 
-pub listing-first : (file : List ℕ) (ts : List Token) (vars : Names) → Titles file [] vars → Listing file ts vars numberKind 0
+pub listing-first : (file : List ℕ) (ts : List Token) (vars : Names) → Titles file [] vars
+    → Listing file ts vars numberKind 0
 unfolding titlesOf kindOf
 listing-first file ts vars t = record { last = number 0; known = refl; titles = []; so-far = refl; held = t; few = few-first ts }
 
 pub listing-next : {file : List ℕ} {ts : List Token} {kinds values places : List ℕ} → Words file ts kinds values places → pastLimit 0 0 0 ts ≡ none
     → {vars vars′ : Names} {before i : ℕ} (adds : Bool) → Listing file ts vars before i → i < length kinds
-    → adds ≡ (eqb (getD kinds i 0) nameKind && eqb before (kindOf (key k-var))) → Grows vars adds (getD places i 0) (getD values i 0) vars′
+    → adds ≡ (eqb (getD kinds i 0) nameKind && eqb before (kindOf (key k-var)))
+    → Grows vars adds (getD places i 0) (getD values i 0) vars′
     → Listing file ts vars′ (getD kinds i 0) (i + 1)
 listing-next {ts = ts} h n {i = i} adds s l e d =
     let t = tokenAt ts i in
@@ -91,7 +95,8 @@ listing-next {ts = ts} h n {i = i} adds s l e d =
       known = kind-at h i;
       titles = s .titles ++ added b (t .lexeme);
       so-far = s .so-far ∙ rw (here h i l, titles-token (s .last) (t .at) (t .lexeme) (drop (i + 1) ts), append-assoc);
-      held = grown-at h i l k-var (s .last) adds (s .known) e d (s .held) (room b _ _ mostVars (s .few .vars) (s .few .few-vars) (omega arith));
+      held = grown-at h i l k-var (s .last) adds (s .known) e d (s .held)
+          (room b _ _ mostVars (s .few .vars) (s .few .few-vars) (omega arith));
       few = few-next h n _ 0 (s .few) l (rw length-append (omega (arith, added-few b (t .lexeme) (length (s .titles))))) (omega arith);
     }
 

@@ -110,7 +110,8 @@ pub record Naming (file : List ℕ) (ts : List Token) (vars methods : Names) (be
   pub methods-held : Titles file (reverse ms) methods
   pub few : Few ts i last (length vs) (length ms)
 
-pub naming-first : (file : List ℕ) (ts : List Token) (vars methods : Names) → Titles file [] vars → Titles file [] methods → Naming file ts vars methods numberKind 0
+pub naming-first : (file : List ℕ) (ts : List Token) (vars methods : Names) → Titles file [] vars
+    → Titles file [] methods → Naming file ts vars methods numberKind 0
 unfolding kindOf
 naming-first file ts vars methods t u =
     record { last = number 0; known = refl; vs = []; ms = []; so-far = refl; vars-held = t; methods-held = u; few = few-first ts }
@@ -136,8 +137,10 @@ module _ {file : List ℕ} {ts : List Token} {kinds values places : List ℕ} (h
   pub naming-next : pastLimit 0 0 0 ts ≡ none → i < length kinds → (r : Bool)
       → Judges file vars methods (getD kinds i 0) before (getD places i 0) (getD values i 0) r → r ≡ false
       → {vars′ methods′ : Names} (a b : Bool)
-      → a ≡ (eqb (getD kinds i 0) nameKind && eqb before (kindOf (key k-var))) → Grows vars a (getD places i 0) (getD values i 0) vars′
-      → b ≡ (eqb (getD kinds i 0) nameKind && eqb before (kindOf (key k-method))) → Grows methods b (getD places i 0) (getD values i 0) methods′
+      → a ≡ (eqb (getD kinds i 0) nameKind && eqb before (kindOf (key k-var)))
+      → Grows vars a (getD places i 0) (getD values i 0) vars′
+      → b ≡ (eqb (getD kinds i 0) nameKind && eqb before (kindOf (key k-method)))
+      → Grows methods b (getD places i 0) (getD values i 0) methods′
       → Naming file ts vars′ methods′ (getD kinds i 0) (i + 1)
   naming-next n l r d e a b f p g q =
       let t = tokenAt ts i in

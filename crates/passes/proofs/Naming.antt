@@ -64,7 +64,8 @@ slot-member (y ∷ ys) x = split (sameBytes y x)
 
 -- One name more
 
-pub one-more : {file : List ℕ} {titles : List (List ℕ)} {names : Names} (x : List ℕ) (start len : ℕ) → Titles file titles names → length titles < mostMethods
+pub one-more : {file : List ℕ} {titles : List (List ℕ)} {names : Names} (x : List ℕ) (start len : ℕ)
+    → Titles file titles names → length titles < mostMethods
     → length (names .starts) ≡ mostMethods → length (names .lens) ≡ mostMethods → Stands file x start len
     → Titles file (titles ++ (x ∷ []))
     (record { starts = set (names .starts) (names .count) start; lens = set (names .lens) (names .count) len; count = names .count + 1 })

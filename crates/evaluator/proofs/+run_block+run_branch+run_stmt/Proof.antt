@@ -85,14 +85,16 @@ unfolding kindOf markNumber keywordNumber
 run-block-returns t c =
     let start = c .before .before .before .before in
     let kind = sym (c .before .kind-at .ensures) ∙ c .if1 .taken in
-    block-end (start .args .at) (start .pre .1 .1) (λ e. apart (kindOf (mark rbrace)) nameKind refl kind e) (λ e. apart (kindOf (mark rbrace)) (kindOf (key k-if)) refl kind e)
+    block-end (start .args .at) (start .pre .1 .1) (λ e. apart (kindOf (mark rbrace)) nameKind refl kind e)
+    (λ e. apart (kindOf (mark rbrace)) (kindOf (key k-if)) refl kind e)
 
 run-block-returns-2 : (t : ℕ) → run-block-lts.Need-returns-2 (run-block-calls t) (run-block-at t) run-block.Post
 unfolding kindOf markNumber keywordNumber
 run-block-returns-2 t c =
     let start = c .before .before .before .before .before in
     let kind = sym (c .before .before .kind-at .ensures) ∙ c .if2 .taken in
-    block-end (start .args .at) (start .pre .1 .1) (λ e. apart noKind nameKind refl kind e) (λ e. apart noKind (kindOf (key k-if)) refl kind e)
+    block-end (start .args .at) (start .pre .1 .1) (λ e. apart noKind nameKind refl kind e)
+    (λ e. apart noKind (kindOf (key k-if)) refl kind e)
 
 run-block-run-stmt-requires : (t : ℕ) → run-block-lts.Need-run-stmt-requires (run-block-calls t) (run-block-at t) run-block.Post
 run-block-run-stmt-requires t c κs =

@@ -32,7 +32,8 @@ kind-at-requires : tie.Need-kind-at-requires Inv-loop μ-loop
 kind-at-requires c κs = tt
 
 -- in a turn `waituntil` stands there
-waits : (q : tie.Then1 Inv-loop μ-loop) → getD (q .before .before .before .before .before .before .before .args .kinds .now) (q .before .before .loop .i) noKind ≡ kindOf (key k-waituntil)
+waits : (q : tie.Then1 Inv-loop μ-loop)
+    → getD (q .before .before .before .before .before .before .before .args .kinds .now) (q .before .before .loop .i) noKind ≡ kindOf (key k-waituntil)
 unfolding kindOf keywordNumber
 waits q = sym (q .before .kind-at .ensures) ∙ q .if1 .taken
 
@@ -55,7 +56,8 @@ add-region-requires c κs =
 loop-less : tie.Need-loop-less Inv-loop μ-loop
 loop-less c =
     let q = c .before .before .before .before .before .before in
-    let low = kind-within (q .before .before .before .before .before .args .kinds .now) (q .loop .i) (key k-waituntil) (waits (c .before .before .before .before)) in
+    let low = kind-within (q .before .before .before .before .before .args .kinds .now) (q .loop .i) (key k-waituntil)
+    (waits (c .before .before .before .before)) in
     omega (arith, low, c .before .add-region .ensures .1)
 
 loop-again : tie.Need-loop-again Inv-loop μ-loop

@@ -25,7 +25,8 @@ bracket q =
     let a = q .before .before .before .before .before .args in
     let ks = a .kinds .now in
     let e = q .closing .ensures in
-    let w = close-within openBracket shutBracket (a .at + 2) ks (length ks + 1) (omega (arith, q .before .before .before .before .before .pre .1)) (omega arith) in
+    let w = close-within openBracket shutBracket (a .at + 2) ks (length ks + 1)
+    (omega (arith, q .before .before .before .before .before .pre .1)) (omega arith) in
     (omega (arith, e, w), omega (arith, e))
 
 -- the body's closing brace
@@ -40,7 +41,8 @@ brace q =
     let b = bracket (q .before) in
     let e = q .closing2 .ensures in
     let body : q .before .closing .result + 2 ≡ bodyOf ks (a .at) = ap (λ n. n + 2) (q .before .closing .ensures) in
-    let w = close-within openBrace shutBrace (q .before .closing .result + 2) ks (length ks + 3) (omega (arith, b .0)) (omega arith) in
+    let w = close-within openBrace shutBrace (q .before .closing .result + 2) ks (length ks + 3) (omega (arith, b .0))
+    (omega arith) in
     (omega (arith, e, w), omega (arith, e, b .1), body, ap (λ n. n + 1) (e ∙ ap (λ n. n + braceEnd (drop n ks)) body))
 
 -- a guard's number is new or known

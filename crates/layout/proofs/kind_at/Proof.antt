@@ -11,7 +11,8 @@ shared-slice-read-result : tie.Need-shared-slice-read-result
 shared-slice-read-result c = search needs
 
 returns : tie.Need-returns
-returns c = getD-below (c .before .before .args .kinds .now) (c .before .before .args .at) 0 noKind (c .before .if1 .taken)
+returns c =
+    getD-below (c .before .before .args .kinds .now) (c .before .before .args .at) 0 noKind (c .before .if1 .taken)
 
 returns-2 : tie.Need-returns-2
 returns-2 c = sym (List·getD-eq-default (c .before .args .kinds .now) noKind (c .if1 .left))

@@ -87,12 +87,14 @@ kind-at-requires : tie.Need-kind-at-requires Inv-loop μ-loop
 kind-at-requires c κs = tt
 
 -- in a turn `method` stands there
-begins : (q : tie.Then4 Inv-loop μ-loop) → getD (q .before .before .before .before .before .before .before .before .before .before .before .before .args .kinds .now) (q .before .before .loop .i) noKind ≡ kindOf (key k-method)
+begins : (q : tie.Then4 Inv-loop μ-loop)
+    → getD (q .before .before .before .before .before .before .before .before .before .before .before .before .args .kinds .now) (q .before .before .loop .i) noKind ≡ kindOf (key k-method)
 unfolding kindOf keywordNumber
 begins q = sym (q .before .kind-at .ensures) ∙ q .if4 .taken
 
 inside : (q : tie.Then4 Inv-loop μ-loop) → q .before .before .loop .i < length (q .before .before .before .before .before .before .before .before .before .before .before .before .args .kinds .now)
-inside q = kind-within (q .before .before .before .before .before .before .before .before .before .before .before .before .args .kinds .now) (q .before .before .loop .i) (key k-method) (begins q)
+inside q =
+    kind-within (q .before .before .before .before .before .before .before .before .before .before .before .before .args .kinds .now) (q .before .before .loop .i) (key k-method) (begins q)
 
 add-add-method : tie.Need-add-add-method Inv-loop μ-loop
 add-add-method c = omega (arith, inside c)

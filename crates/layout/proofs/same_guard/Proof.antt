@@ -52,8 +52,10 @@ returns-3 c =
 same-tokens-requires : tie.Need-same-tokens-requires
 same-tokens-requires c κs =
     let a = c .before .before .before .before .before .before .before .before .before .args in
-    let p = close-within openBracket shutBracket (a .a) (a .kinds .now) (length (a .kinds .now)) (c .before .before .before .before .if1 .left) (omega arith) in
-    let q = close-within openBracket shutBracket (a .b) (a .kinds .now) (length (a .kinds .now)) (c .before .before .before .if2 .left) (omega arith) in
+    let p = close-within openBracket shutBracket (a .a) (a .kinds .now) (length (a .kinds .now))
+    (c .before .before .before .before .if1 .left) (omega arith) in
+    let q = close-within openBracket shutBracket (a .b) (a .kinds .now) (length (a .kinds .now))
+    (c .before .before .before .if2 .left) (omega arith) in
     let e = lengths (c .before) in
     (c .before .before .before .before .before .before .before .before .before .pre, omega (arith, c .if3 .left, e .0, e .1), omega (arith, e .1))
 

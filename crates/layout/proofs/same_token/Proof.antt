@@ -98,9 +98,12 @@ names q ts w =
     let value = q .before .before .before .before .before .before .before .before .if2 .left in
     let named = q .before .before .before .before .before .before .if3 .left in
     rw (q .before .before .before .before .wide .ensures .0, q .before .before .wide2 .ensures .0, q .wide3 .ensures .0) (
-      first-fits (a .file .now) ts (a .kinds .now) (a .values .now) (a .places .now) w (a .a) (a .b) (s .pre .1) (s .pre .2) kind value named,
-      second-fits (a .file .now) ts (a .kinds .now) (a .values .now) (a .places .now) w (a .a) (a .b) (s .pre .1) (s .pre .2) kind value named,
-      names-agree (a .file .now) ts (a .kinds .now) (a .values .now) (a .places .now) w (a .a) (a .b) (s .pre .1) (s .pre .2) kind value named,
+      first-fits (a .file .now) ts (a .kinds .now) (a .values .now) (a .places .now) w (a .a) (a .b) (s .pre .1)
+          (s .pre .2) kind value named,
+      second-fits (a .file .now) ts (a .kinds .now) (a .values .now) (a .places .now) w (a .a) (a .b) (s .pre .1)
+          (s .pre .2) kind value named,
+      names-agree (a .file .now) ts (a .kinds .now) (a .values .now) (a .places .now) w (a .a) (a .b) (s .pre .1)
+          (s .pre .2) kind value named,
     )
 
 add-if4 : tie.Need-add-if4

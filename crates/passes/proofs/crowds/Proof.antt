@@ -19,11 +19,13 @@ add-result c = search needs
 
 returns-2 : tie.Need-returns-2
 unfolding kindOf markNumber
-returns-2 c l e = rw (lt-leb mostTokens _ (c .before .before .if1 .left), kind-opens l, ← e, ← c .before .either .ensures, c .if2 .taken)
+returns-2 c l e =
+    rw (lt-leb mostTokens _ (c .before .before .if1 .left), kind-opens l, ← e, ← c .before .either .ensures, c .if2 .taken)
 
 returns-3 : tie.Need-returns-3
 unfolding kindOf markNumber
-returns-3 c l e = rw (lt-leb mostTokens _ (c .before .before .if1 .left), kind-opens l, ← e, ← c .before .either .ensures, c .if2 .left)
+returns-3 c l e =
+    rw (lt-leb mostTokens _ (c .before .before .if1 .left), kind-opens l, ← e, ← c .before .either .ensures, c .if2 .left)
 
 pub crowds-spec : {M : Type 1} → statement M
 crowds-spec = tie.close (tie.spec returns either-requires add-result returns-2 returns-3)
