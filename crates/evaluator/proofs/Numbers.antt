@@ -62,8 +62,8 @@ shifted p q m = go (ltb p q) refl
 less-worth : (p q : ℕ) → less (worth p) (worth q) ≡ ltb p q
 less-worth p q = less-parts p 1073741824 q 1073741824 ∙ shifted p q 1073741824
 
-pub compares-worth : (o : Comparison) (p q : ℕ) → testOf (kindOf (mark (comparisonMark o))) p q
-    ≡ compares o (worth p) (worth q)
+pub compares-worth : (o : Comparison) (p q : ℕ)
+    → testOf (kindOf (mark (comparisonMark o))) p q ≡ compares o (worth p) (worth q)
 unfolding testOf compares comparisonMark kindOf markNumber
 compares-worth eq p q = sym (rw (less-worth p q, less-worth q p))
 compares-worth ne p q = sym (rw (less-worth p q, less-worth q p))

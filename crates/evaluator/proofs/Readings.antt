@@ -237,8 +237,8 @@ module _ {ks values vars : List ℕ} (minus : Bool) (lanes : List ℕ) {at n : �
       go : (j : ℕ) → j < 16 → (vs : List Var) (as′ : List ℤ) (ls us : List Lexeme) (ts : List Term)
           → Codes vs ls ks values
           → Biased vs as′ (lane vars j) → (z : ℤ) → z ≡ worth (getD sums j 0)
-          → drop n ls ≡ each spellTerm ts ++ us → EndsExpr us → frontKind (each spellTerm ts ++ us)
-          ≡ kindOf (mark (signMark (signOf minus′)))
+          → drop n ls ≡ each spellTerm ts ++ us → EndsExpr us
+          → frontKind (each spellTerm ts ++ us) ≡ kindOf (mark (signMark (signOf minus′)))
           → (termsValue vs as′ z ts ≡ worth (getD sums′ j 0)) × (drop n′ ls ≡ us)
       go j l vs as′ ls us [] codes biased z h e ends f = sign-ends (signOf minus′) (frontKind us) (ends .0) (ends .1) f
       go j l vs as′ ls us (t ∷ ts) codes biased z h e ends f =
@@ -331,8 +331,8 @@ semicolon-ends us = (eqb-false _ _ refl, eqb-false _ _ refl)
 -- a kind that continues a condition
 abbrev continues : ℕ → Bool
 continues k =
-    eqb k (kindOf (mark plus)) || eqb k (kindOf (mark token.minus)) || eqb k (kindOf (mark and-and)) || eqb k
-    (kindOf (mark or-or))
+    eqb k (kindOf (mark plus)) || eqb k (kindOf (mark token.minus)) || eqb k (kindOf (mark and-and))
+    || eqb k (kindOf (mark or-or))
 
 -- any other ends it
 whole-ends : (us : List Lexeme) (k : ℕ) → frontKind us ≡ k → continues k ≡ false → EndsWhole us
@@ -404,8 +404,8 @@ not-atom (literal (plain n)) k d e f h = apart numberKind k d refl h
 not-atom (literal (negated n)) k d e f h = apart (kindOf (mark token.minus)) k e refl h
 not-atom (variable x) k d e f h = apart nameKind k f refl h
 
-not-constant : {A : Type 0} (b : Bool) (k : ℕ) → eqb (kindOf (key k-true)) k ≡ false → eqb (kindOf (key k-false)) k
-    ≡ false → constantKind b ≡ k → A
+not-constant : {A : Type 0} (b : Bool) (k : ℕ) → eqb (kindOf (key k-true)) k ≡ false
+    → eqb (kindOf (key k-false)) k ≡ false → constantKind b ≡ k → A
 unfolding constantKind
 not-constant true k d e h = apart (kindOf (key k-true)) k d refl h
 not-constant false k d e h = apart (kindOf (key k-false)) k e refl h
@@ -417,8 +417,8 @@ constant-same true false e = apart (kindOf (key k-true)) (kindOf (key k-false)) 
 constant-same false true e = apart (kindOf (key k-false)) (kindOf (key k-true)) refl refl e
 constant-same false false e = refl
 
-constant-apart : {A : Type 0} (b : Bool) (k : ℕ) → eqb k (kindOf (key k-true)) ≡ false → eqb k (kindOf (key k-false))
-    ≡ false → k ≡ constantKind b → A
+constant-apart : {A : Type 0} (b : Bool) (k : ℕ) → eqb k (kindOf (key k-true)) ≡ false
+    → eqb k (kindOf (key k-false)) ≡ false → k ≡ constantKind b → A
 unfolding constantKind
 constant-apart true k d e h = apart k (kindOf (key k-true)) d refl h
 constant-apart false k d e h = apart k (kindOf (key k-false)) e refl h
@@ -469,8 +469,7 @@ module _ {ks values vars : List ℕ} where
         (sym (simple-front x us) ∙ front-is codes at kind e);
   }
     where
-      go : (j : ℕ) → j < 16 → (vs : List Var) (as′ : List ℤ) (ls us : List Lexeme) (x : Simple) → Codes vs ls ks values
-          → Biased vs as′ (lane vars j)
+      go : (j : ℕ) → j < 16 → (vs : List Var) (as′ : List ℤ) (ls us : List Lexeme) (x : Simple) → Codes vs ls ks values → Biased vs as′ (lane vars j)
           → drop at ls ≡ spellSimple x ++ us → simpleKind x ≡ kindOf (mark lparen)
           → (getD holds j false ≡ simpleTruth x vs as′) × (drop n ls ≡ us)
       go j l vs as′ ls us (negation s) codes biased e f = apart (kindOf (mark bang)) (kindOf (mark lparen)) refl refl f
@@ -615,8 +614,7 @@ module _ {ks values vars : List ℕ} where
 
   pub conj-more : {at n r n′ : ℕ} {holds holds′ both : List Bool} → SimpleRead ks values vars at holds n
       → getD ks n noKind ≡ kindOf (mark and-and) → Next ks n r
-      → ConjRead ks values vars r holds′ n′
-      → ((j : ℕ) → j < 16 → getD both j false ≡ getD holds j false && getD holds′ j false)
+      → ConjRead ks values vars r holds′ n′ → ((j : ℕ) → j < 16 → getD both j false ≡ getD holds j false && getD holds′ j false)
       → ConjRead ks values vars at both n′
   unfolding markNumber
   conj-more item kind next more joins = chain-more conj-chain item kind next more joins
@@ -628,8 +626,7 @@ module _ {ks values vars : List ℕ} where
 
   pub cond-more : {at n r n′ : ℕ} {holds holds′ both : List Bool} → ConjRead ks values vars at holds n
       → getD ks n noKind ≡ kindOf (mark or-or) → Next ks n r
-      → CondRead ks values vars r holds′ n′
-      → ((j : ℕ) → j < 16 → getD both j false ≡ getD holds j false || getD holds′ j false)
+      → CondRead ks values vars r holds′ n′ → ((j : ℕ) → j < 16 → getD both j false ≡ getD holds j false || getD holds′ j false)
       → CondRead ks values vars at both n′
   unfolding markNumber
   cond-more item kind next more joins = chain-more cond-chain item kind next more joins

@@ -155,10 +155,9 @@ if-else-runs c a b vs as′ true h = cc
 if-else-runs c a b vs as′ false h = cc
 
 module _ {ks values lows highs vars : List ℕ} {on ok : List Bool} {held : List ℕ} where
-  pub stmt-assign : {at a b k n slot : ℕ} {sums : List ℕ} → (getD ks at noKind ≡ kindOf (key k-if) → ⊥) → at < length ks
-      → Next ks at a → Next ks a b
-      → ExprRead ks values vars b sums k → Next ks k n → slot ≡ getD values at 0
-      → Stored lows highs vars on slot sums ok held
+  pub stmt-assign : {at a b k n slot : ℕ} {sums : List ℕ} → (getD ks at noKind ≡ kindOf (key k-if) → ⊥)
+      → at < length ks → Next ks at a → Next ks a b
+      → ExprRead ks values vars b sums k → Next ks k n → slot ≡ getD values at 0 → Stored lows highs vars on slot sums ok held
       → StmtRun ks values lows highs vars on at ok held n
   unfolding spellStmt runStmt frontKind kindOf keywordNumber
   stmt-assign {at} {a} {b} {k} {n} {slot} {sums} no-if within one two expr last value stored = record {
@@ -185,8 +184,7 @@ module _ {ks values lows highs vars : List ℕ} {on ok : List Bool} {held : List
 
   pub stmt-if : {at a b k open′ n : ℕ} {holds : List Bool} → getD ks at noKind ≡ kindOf (key k-if) → at < length ks
       → Next ks at a → Next ks a b
-      → CondRead ks values vars b holds k → Next ks k open′
-      → BranchRun ks values lows highs vars on open′ holds ok held n
+      → CondRead ks values vars b holds k → Next ks k open′ → BranchRun ks values lows highs vars on open′ holds ok held n
       → StmtRun ks values lows highs vars on at ok held n
   unfolding spellStmt runStmt frontKind kindOf keywordNumber oneBlock
   stmt-if {at} {a} {b} {k} {open′} {n} {holds} kind within one two test last branch = record {
@@ -266,8 +264,8 @@ module _ {ks values lows highs vars : List ℕ} (on holds : List Bool) {on₁ : 
   }
 
   -- two blocks
-  pub branch-two : {other last final second : ℕ} {on₂ ok₂ both : List Bool} {held₂ : List ℕ} → getD ks next noKind
-      ≡ kindOf (key k-else) → Next ks next other
+  pub branch-two : {other last final second : ℕ} {on₂ ok₂ both : List Bool} {held₂ : List ℕ}
+      → getD ks next noKind ≡ kindOf (key k-else) → Next ks next other
       → Closes ks values other last → Next ks last final → Next ks other second
       → ((j : ℕ) → j < 16 → getD on₂ j false ≡ getD on j false && not (getD holds j false))
       → BlockRun ks values lows highs held₁ on₂ second ok₂ held₂

@@ -52,6 +52,6 @@ module _ {file : List ℕ} {ts : List Token} {kinds values places : List ℕ}
     guards-agree e =
         let p : take (bracketEnd (drop b kinds)) (drop a (lexemes ts)) ≡ spellCond c =
         rw (sym e ∙ guard-long a c g) (guard-run a c g) in
-        let q : take (bracketEnd (drop b kinds)) (drop b (lexemes ts)) ≡ spellCond d =
-        rw (guard-long b d h) (guard-run b d h) in
+        let q : take (bracketEnd (drop b kinds)) (drop b (lexemes ts)) ≡ spellCond d = rw (guard-long b d h)
+        (guard-run b d h) in
         rw (p, q)

@@ -64,18 +64,16 @@ module _ {file : List ℕ} {ts : List Token} {kinds values places : List ℕ}
     (words : Words file ts kinds values places) where
   module _ (before : List Flagged) (all-qs : List Region) (us : List Lexeme) where
     -- at `waituntil` there is a region ahead
-    no-region : {C : Type 0} (i : ℕ) → drop i (lexemes ts) ≡ regionsAhead [] us → getD kinds i noKind
-        ≡ kindOf (key k-waituntil) → C
+    no-region : {C : Type 0} (i : ℕ) → drop i (lexemes ts) ≡ regionsAhead [] us
+        → getD kinds i noKind ≡ kindOf (key k-waituntil) → C
     unfolding kindOf markNumber keywordNumber
     no-region i stands kind =
         let e = kind-behind words i _ stands in
         let f = kind-of-end us in
         absurd (omega arith)
 
-    turn : (l : Layout) (i b : ℕ) (s : Spot) (done : List Flagged) (qs : List Region) → Holds (lexemes ts) done l
-        → length done + length qs ≤ 16
-        → drop i (lexemes ts) ≡ regionsAhead qs us → done ++ flagRegions b qs ≡ before ++ flagRegions 1 all-qs
-        → length ts ≤ 1024
+    turn : (l : Layout) (i b : ℕ) (s : Spot) (done : List Flagged) (qs : List Region) → Holds (lexemes ts) done l → length done + length qs ≤ 16
+        → drop i (lexemes ts) ≡ regionsAhead qs us → done ++ flagRegions b qs ≡ before ++ flagRegions 1 all-qs → length ts ≤ 1024
         → getD kinds i noKind ≡ kindOf (key k-waituntil) → AddsRegion file kinds values places l i b s
         → Ahead (lexemes ts) before all-qs us (s .layout) (s .at) 0
     unfolding flagRegions
@@ -100,8 +98,7 @@ module _ {file : List ℕ} {ts : List Token} {kinds values places : List ℕ}
         → Ahead (lexemes ts) before all-qs us (s .layout) (s .at) 0
     ahead-turn l i b s a = turn l i b s (a .done) (a .qs) (a .holds) (a .few) (a .stands) (a .whole)
 
-    full : {C : Type 0} (l : Layout) (i : ℕ) (done : List Flagged) (qs : List Region) → Holds (lexemes ts) done l
-        → length done + length qs ≤ 16
+    full : {C : Type 0} (l : Layout) (i : ℕ) (done : List Flagged) (qs : List Region) → Holds (lexemes ts) done l → length done + length qs ≤ 16
         → drop i (lexemes ts) ≡ regionsAhead qs us → getD kinds i noKind ≡ kindOf (key k-waituntil) → 16 ≤ l .regions
         → C
     full l i done [] h f stands kind many = no-region i stands kind
@@ -149,8 +146,8 @@ method-first x ms ls i h =
     later toRegions i ls _ h ∙ append-assoc (qs ++ (mark rbrace ∷ [])) (each spellMethod ms) (mark rbrace ∷ [])
     ∙ append-assoc qs (mark rbrace ∷ []) (methodsAhead ms)
 
-kind-of-method : (x : Method) (ms : List Method) → getD (map kindOf (methodsAhead (x ∷ ms))) 0 noKind
-    ≡ kindOf (key k-method)
+kind-of-method : (x : Method) (ms : List Method)
+    → getD (map kindOf (methodsAhead (x ∷ ms))) 0 noKind ≡ kindOf (key k-method)
 unfolding each spellMethod kindOf keywordNumber
 kind-of-method x ms = refl
 

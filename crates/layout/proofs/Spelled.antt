@@ -71,8 +71,8 @@ module _ {file : List ℕ} {ts : List Token} {kinds values places : List ℕ}
   spelled at q us h = rw (kinds-are words) (spelled-kinds (lexemes ts) at q us h)
 
   -- the kind at a token is that of what stands there
-  pub kind-behind : (at : ℕ) (us : List Lexeme) → drop at (lexemes ts) ≡ us → getD kinds at noKind
-      ≡ getD (map kindOf us) 0 noKind
+  pub kind-behind : (at : ℕ) (us : List Lexeme) → drop at (lexemes ts) ≡ us
+      → getD kinds at noKind ≡ getD (map kindOf us) 0 noKind
   kind-behind at us h =
       rw (kinds-are words)
       (ap (λ (k : ℕ). getD (map kindOf (lexemes ts)) k noKind) (sym (add-zero at))

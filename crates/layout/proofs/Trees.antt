@@ -73,8 +73,8 @@ module _ (P : List Lexeme → Type 0) (nil : P []) (joins : (v w : List Lexeme) 
   of-terms : (ts : List Term) → P (each spellTerm ts)
   unfolding each spellTerm
   of-terms [] = nil
-  of-terms (t ∷ ts) = join (join (calmly (mark (signMark (t .sign))) (sign-kind (t .sign))) (of-atom (t .atom)))
-      (of-terms ts)
+  of-terms (t ∷ ts) =
+      join (join (calmly (mark (signMark (t .sign))) (sign-kind (t .sign))) (of-atom (t .atom))) (of-terms ts)
 
   of-expr : (e : Expr) → P (spellExpr e)
   unfolding spellExpr
@@ -175,8 +175,7 @@ unfolding kindOf markNumber keywordNumber
 semicolons-balanced =
     of-cond (Balanced noKind semicolonKind) (balanced-nil noKind semicolonKind)
     (λ v w p q. balanced-join noKind semicolonKind p q) calmly
-    (around noKind semicolonKind (mark lparen) (mark rparen)
-    (balanced-one noKind semicolonKind (mark lparen) (λ e. omega arith) (λ e. omega arith))
+    (around noKind semicolonKind (mark lparen) (mark rparen) (balanced-one noKind semicolonKind (mark lparen) (λ e. omega arith) (λ e. omega arith))
     (balanced-one noKind semicolonKind (mark rparen) (λ e. omega arith) (λ e. omega arith)))
   where
     calmly : (l : Lexeme) → calm (kindOf l) ≡ true → Balanced noKind semicolonKind (l ∷ [])
@@ -236,8 +235,7 @@ pub keep-once : (m : Monitor) (ls us : List Lexeme) (k : ℕ) → spell m ≡ ls
     → us ≡ each spellMethod (all (m .methods)) ++ (mark rbrace ∷ [])
 unfolding spell kindOf markNumber keywordNumber
 keep-once m ls us k e h =
-    let front =
-    next {l = key k-monitor} (λ e. omega arith)
+    let front = next {l = key k-monitor} (λ e. omega arith)
     (next {l = name (m .title)} (λ e. omega arith) (next {l = mark lbrace} (λ e. omega arith) free-vars)) in
     let same = keep-splits (key k-monitor ∷ name (m .title) ∷ mark lbrace ∷ each spellVar (all (m .vars)))
     (spellCond (m .keep) ++ (mark semicolon ∷ methods)) (take k ls) (spellCond (m .keep) ++ (mark semicolon ∷ us)) front
@@ -252,8 +250,8 @@ keep-once m ls us k e h =
     methods = each spellMethod (all (m .methods)) ++ (mark rbrace ∷ [])
 
     free-vars : Free (each spellVar (all (m .vars)))
-    free-vars = of-vars Free none free-join (free-one calm refl) free-brackets (free-one quiet refl) free-braces
-        (all (m .vars))
+    free-vars =
+        of-vars Free none free-join (free-one calm refl) free-brackets (free-one quiet refl) free-braces (all (m .vars))
 
     free-rest : Free (spellCond (m .keep) ++ (mark semicolon ∷ methods))
     free-rest =

@@ -59,6 +59,7 @@ traceBytes = 65536
 unfoldable pub runner : List ℕ → List ℕ → List ℕ
 runner file trace =
     elim (check file) [
-      | accepted m ↦ machineLine m plain-machine (take traceBytes trace) ++ machineLine m table-machine (take traceBytes trace)
+      | accepted m ↦
+          machineLine m plain-machine (take traceBytes trace) ++ machineLine m table-machine (take traceBytes trace)
       | refused a ↦ refusalLine a
     ]

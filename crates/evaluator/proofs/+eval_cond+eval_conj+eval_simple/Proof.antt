@@ -114,8 +114,8 @@ unfolding kindOf markNumber keywordNumber
 eval-cond-eval-cond-requires t c κs =
     let conj = c .before .before .before in
     let start = conj .before .before .before in
-    let step = kind-within (kindOf (mark or-or)) (c .after .ensures) (sym (c .before .before .kind-at .ensures)
-    ∙ c .before .if1 .taken) refl in
+    let step = kind-within (kindOf (mark or-or)) (c .after .ensures)
+    (sym (c .before .before .kind-at .ensures) ∙ c .before .if1 .taken) refl in
     omega (arith, step, conj .eval-conj .ensures, c .after .ensures, start .pre)
 
 eval-cond-returns : (t : ℕ) → eval-cond-lts.Need-returns (eval-cond-calls t) (eval-cond-at t) eval-cond.Post
@@ -137,8 +137,8 @@ unfolding kindOf markNumber keywordNumber
 eval-conj-eval-conj-requires t c κs =
     let simple = c .before .before .before in
     let start = simple .before .before .before in
-    let step = kind-within (kindOf (mark and-and)) (c .after .ensures) (sym (c .before .before .kind-at .ensures)
-    ∙ c .before .if1 .taken) refl in
+    let step = kind-within (kindOf (mark and-and)) (c .after .ensures)
+    (sym (c .before .before .kind-at .ensures) ∙ c .before .if1 .taken) refl in
     omega (arith, step, simple .eval-simple .ensures, c .after .ensures, start .pre)
 
 eval-conj-returns : (t : ℕ) → eval-conj-lts.Need-returns (eval-conj-calls t) (eval-conj-at t) eval-conj.Post
@@ -159,8 +159,8 @@ eval-simple-eval-simple-requires : (t : ℕ) → eval-simple-lts.Need-eval-simpl
 unfolding kindOf markNumber keywordNumber
 eval-simple-eval-simple-requires t c κs =
     let start = c .before .before .before .before .before in
-    let step = kind-within (kindOf (mark bang)) (c .before .after .ensures) (sym (c .before .before .kind-at .ensures)
-    ∙ c .if1 .taken) refl in
+    let step = kind-within (kindOf (mark bang)) (c .before .after .ensures)
+    (sym (c .before .before .kind-at .ensures) ∙ c .if1 .taken) refl in
     omega (arith, step, c .before .after .ensures, start .pre)
 
 eval-simple-returns : (t : ℕ) → eval-simple-lts.Need-returns (eval-simple-calls t) (eval-simple-at t) eval-simple.Post
@@ -178,8 +178,8 @@ unfolding kindOf markNumber keywordNumber
 eval-simple-eval-cond-requires t c κs =
     let after = c .before .before in
     let start = after .before .before .before .before in
-    let step = kind-within (kindOf (mark lparen)) (after .after .ensures) (sym (after .before .kind-at .ensures)
-    ∙ c .if2 .taken) refl in
+    let step = kind-within (kindOf (mark lparen)) (after .after .ensures)
+    (sym (after .before .kind-at .ensures) ∙ c .if2 .taken) refl in
     omega (arith, step, after .after .ensures, start .pre)
 
 eval-simple-returns-2 : (t : ℕ)

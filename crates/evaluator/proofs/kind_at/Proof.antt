@@ -9,8 +9,8 @@ use Rattle.evaluator.proofs.kind_at.Statement.{statement}
 use Rattle.evaluator.proofs.kind_at.Tie as tie
 
 returns : tie.Need-returns
-returns c = within-getD (c .before .before .args .kinds .now) (c .before .before .args .at) 0 noKind
-    (c .before .if1 .taken)
+returns c =
+    within-getD (c .before .before .args .kinds .now) (c .before .before .args .at) 0 noKind (c .before .if1 .taken)
 
 returns-2 : tie.Need-returns-2
 returns-2 c = sym (List·getD-eq-default (c .before .args .kinds .now) noKind (c .if1 .left))
