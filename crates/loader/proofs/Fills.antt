@@ -15,7 +15,7 @@ use Rattle.meaning.specs.Value.{truth}
 use Rattle.meaning.specs.State.{starts, stateAt}
 use Rattle.meaning.specs.Kept.{keptAt}
 use Rattle.meaning.specs.Decide.Check.{broken}
-use Rattle.meaning.specs.Model.{vars, regions, guards}
+use Rattle.meaning.specs.Model.{vars, guards}
 use Rattle.variables.specs.declared.Bounds.{Bounds}
 use Rattle.layout.specs.declared.Layout.{Layout}
 use Rattle.states.specs.Rows.{TruthRow, GuardsAt, BodiesAt, GuardNumbers, KeptAll, HoldsAll, Outcomes, BrokenAs}

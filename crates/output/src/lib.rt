@@ -1,7 +1,6 @@
 // What the programs print, from byte 0 of a lent buffer; the bytes behind are kept. Each call states every byte, for
 // every input.
 use run::Running;
-ghost use mathlib.Core.Path.{_≡_};
 ghost use Prim.Native.Nat.{_+_, _≤_};
 ghost use lib.ListN.{length};
 ghost use Rattle.meaning.specs.Calls as calls;

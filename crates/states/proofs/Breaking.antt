@@ -14,7 +14,7 @@ use Rattle.sets.specs.Set.{member}
 use Rattle.syntax.specs.Tree.{Var, Region, Monitor}
 use Rattle.syntax.proofs.Grammar.{one-cond}
 use Rattle.logic.specs.Tests.{bit}
-use Rattle.logic.proofs.Bools.{both, and, split, clash, not-true, true-not, tests-equal, no-some}
+use Rattle.logic.proofs.Bools.{both, and, split, clash, true-not, tests-equal, no-some}
 use Rattle.machine.specs.Decide.Table.{runs}
 use Rattle.meaning.specs.Value.{truth, outcome}
 use Rattle.meaning.specs.State.{count, stateAt, numberOf}

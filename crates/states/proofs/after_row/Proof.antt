@@ -1,6 +1,6 @@
 -- `states::after_row` meets its contract. The loop's invariant: the row has the outcomes from the states below s;
 -- between the first of sixteen states and the next first the outcomes from those are known.
-use Prim.Native.Nat.{_-_, _*_, _/_, _≤_, _<_}
+use Prim.Native.Nat.{_-_, _*_, _/_, _≤_}
 use native.Mathlib.Omega.{arith}
 use mathlib.Core.Path.{_≡_, refl, _∙_}
 use mathlib.Core.Bool.{Bool}

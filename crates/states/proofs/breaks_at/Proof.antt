@@ -1,5 +1,5 @@
 -- `states::breaks_at` meets its contract: an outcome that is kept breaks nothing.
-use mathlib.Core.Path.{_≡_, sym, _∙_}
+use mathlib.Core.Path.{sym, _∙_}
 use borrow.Author.Needs.{needs}
 use borrow.Author.Tests.{not-false}
 use Rattle.logic.proofs.Bools.{not-true}

@@ -1,5 +1,5 @@
 -- `states::may_run` meets its contract: the two look-ups, one behind the other.
-use mathlib.Core.Path.{_≡_, sym, ap, _∙_}
+use mathlib.Core.Path.{sym, ap, _∙_}
 use Prim.Native.Nat.{ℕ}
 use Rattle.sets.specs.Set.{member}
 use borrow.Author.Needs.{needs}
