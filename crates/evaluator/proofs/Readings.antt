@@ -469,7 +469,8 @@ module _ {ks values vars : List ℕ} where
         (sym (simple-front x us) ∙ front-is codes at kind e);
   }
     where
-      go : (j : ℕ) → j < 16 → (vs : List Var) (as′ : List ℤ) (ls us : List Lexeme) (x : Simple) → Codes vs ls ks values → Biased vs as′ (lane vars j)
+      go : (j : ℕ) → j < 16 → (vs : List Var) (as′ : List ℤ) (ls us : List Lexeme) (x : Simple) → Codes vs ls ks values
+          → Biased vs as′ (lane vars j)
           → drop at ls ≡ spellSimple x ++ us → simpleKind x ≡ kindOf (mark lparen)
           → (getD holds j false ≡ simpleTruth x vs as′) × (drop n ls ≡ us)
       go j l vs as′ ls us (negation s) codes biased e f = apart (kindOf (mark bang)) (kindOf (mark lparen)) refl refl f
@@ -614,7 +615,8 @@ module _ {ks values vars : List ℕ} where
 
   pub conj-more : {at n r n′ : ℕ} {holds holds′ both : List Bool} → SimpleRead ks values vars at holds n
       → getD ks n noKind ≡ kindOf (mark and-and) → Next ks n r
-      → ConjRead ks values vars r holds′ n′ → ((j : ℕ) → j < 16 → getD both j false ≡ getD holds j false && getD holds′ j false)
+      → ConjRead ks values vars r holds′ n′
+      → ((j : ℕ) → j < 16 → getD both j false ≡ getD holds j false && getD holds′ j false)
       → ConjRead ks values vars at both n′
   unfolding markNumber
   conj-more item kind next more joins = chain-more conj-chain item kind next more joins
@@ -626,7 +628,8 @@ module _ {ks values vars : List ℕ} where
 
   pub cond-more : {at n r n′ : ℕ} {holds holds′ both : List Bool} → ConjRead ks values vars at holds n
       → getD ks n noKind ≡ kindOf (mark or-or) → Next ks n r
-      → CondRead ks values vars r holds′ n′ → ((j : ℕ) → j < 16 → getD both j false ≡ getD holds j false || getD holds′ j false)
+      → CondRead ks values vars r holds′ n′
+      → ((j : ℕ) → j < 16 → getD both j false ≡ getD holds j false || getD holds′ j false)
       → CondRead ks values vars at both n′
   unfolding markNumber
   cond-more item kind next more joins = chain-more cond-chain item kind next more joins

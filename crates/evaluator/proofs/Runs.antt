@@ -157,7 +157,8 @@ if-else-runs c a b vs as′ false h = cc
 module _ {ks values lows highs vars : List ℕ} {on ok : List Bool} {held : List ℕ} where
   pub stmt-assign : {at a b k n slot : ℕ} {sums : List ℕ} → (getD ks at noKind ≡ kindOf (key k-if) → ⊥)
       → at < length ks → Next ks at a → Next ks a b
-      → ExprRead ks values vars b sums k → Next ks k n → slot ≡ getD values at 0 → Stored lows highs vars on slot sums ok held
+      → ExprRead ks values vars b sums k → Next ks k n → slot ≡ getD values at 0
+      → Stored lows highs vars on slot sums ok held
       → StmtRun ks values lows highs vars on at ok held n
   unfolding spellStmt runStmt frontKind kindOf keywordNumber
   stmt-assign {at} {a} {b} {k} {n} {slot} {sums} no-if within one two expr last value stored = record {
@@ -184,7 +185,8 @@ module _ {ks values lows highs vars : List ℕ} {on ok : List Bool} {held : List
 
   pub stmt-if : {at a b k open′ n : ℕ} {holds : List Bool} → getD ks at noKind ≡ kindOf (key k-if) → at < length ks
       → Next ks at a → Next ks a b
-      → CondRead ks values vars b holds k → Next ks k open′ → BranchRun ks values lows highs vars on open′ holds ok held n
+      → CondRead ks values vars b holds k → Next ks k open′
+      → BranchRun ks values lows highs vars on open′ holds ok held n
       → StmtRun ks values lows highs vars on at ok held n
   unfolding spellStmt runStmt frontKind kindOf keywordNumber oneBlock
   stmt-if {at} {a} {b} {k} {open′} {n} {holds} kind within one two test last branch = record {
@@ -280,7 +282,8 @@ module _ {ks values lows highs vars : List ℕ} (on holds : List Bool) {on₁ : 
         runs-one = λ j l vs as′ ls us b codes biased ranges e f.
             absurd (f (front-is codes next kind (behind codes past (closed b us codes closes e))));
         runs-two = λ j l vs as′ ls us a b codes biased ranges e.
-            let second-at = behind codes step (behind codes past (closed a (key k-else ∷ oneBlock b us) codes closes e)) in
+            let second-at = behind codes step (behind codes past (closed a (key k-else ∷ oneBlock b us) codes closes e))
+            in
             let h = getD holds j false in (
               subst (RunAs vs (getD both j false) (lane held₂ j))
                   (sides (getD on j false) h (runBlock a vs as′) (λ bs. runBlock b vs bs) as′)
@@ -288,7 +291,8 @@ module _ {ks values lows highs vars : List ℕ} (on holds : List Bool) {on₁ : 
                   (cond (getD on j false && h) (runBlock a vs as′) (some as′))
                   (λ bs. cond (getD on j false && not h) (runBlock b vs bs) (some bs))
                   (one-side j l vs as′ ls (key k-else ∷ oneBlock b us) a codes biased ranges e)
-                  (λ bs held. subst (λ z. RunAs vs (getD ok₂ j false) (lane held₂ j) (cond z (runBlock b vs bs) (some bs)))
+                  (λ bs held. subst
+                  (λ z. RunAs vs (getD ok₂ j false) (lane held₂ j) (cond z (runBlock b vs bs) (some bs)))
                   (left j l)
                   (more .runs j l vs bs ls us b codes held ranges (behind codes enter′ second-at)))
                   (joins j l)),

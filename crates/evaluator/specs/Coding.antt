@@ -35,7 +35,8 @@ pub record Codes (vs : List Var) (ls : List Lexeme) (kinds values : List ℕ) : 
 -- what stands behind a condition in a file: a closing bracket or a semicolon
 unfoldable pub EndsCond : List Lexeme → Type 0
 EndsCond us =
-    (rest : List Lexeme) × (l : Lexeme) × (us ≡ l ∷ rest) × ((kindOf l ≡ kindOf (mark rparen)) ⊎ (kindOf l ≡ kindOf (mark semicolon)))
+    (rest : List Lexeme) × (l : Lexeme) × (us ≡ l ∷ rest)
+    × ((kindOf l ≡ kindOf (mark rparen)) ⊎ (kindOf l ≡ kindOf (mark semicolon)))
 
 -- the six values of a lane: that of variable v in lane j stands at v * 16 + j
 unfoldable pub lane : List ℕ → ℕ → List ℕ

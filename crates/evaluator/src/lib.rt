@@ -25,8 +25,8 @@ ghost use Rattle.evaluator.specs.Promises.{StmtRun, BranchRun};
 // What is added to an expression's value.
 const ZERO: u32 = 1073741824;
 
-// An operand: a variable's slot, or one past all slots and a number, as what is added less what is taken away; and the token
-// behind it.
+// An operand: a variable's slot, or one past all slots and a number, as what is added less what is taken away; and the
+// token behind it.
 struct Atom {
     slot: usize,
     plus: u32,

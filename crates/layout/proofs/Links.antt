@@ -101,7 +101,8 @@ module _ (ls : List Lexeme) (kinds before after : List ℕ) (are : Kinds ls kind
       let in-kinds : i < length kinds = omega arith in
       let closes : drop (i + 1 + braceEnd (drop (i + 1) kinds)) ls ≡ mark rbrace ∷ us =
       rw (sym are)
-      (close-stands openBrace shutBrace (i + 1) ls (spellBlock b) us (mark rbrace) (braces-balanced b) (λ e. omega arith) refl inside) in
+      (close-stands openBrace shutBrace (i + 1) ls (spellBlock b) us (mark rbrace) (braces-balanced b)
+      (λ e. omega arith) refl inside) in
       let end = stands-below (i + 1 + braceEnd (drop (i + 1) kinds)) ls [] us (mark rbrace) closes in
       let whole : linkOf kinds i ≡ i + 1 + braceEnd (drop (i + 1) kinds) = omega arith in
       rw (links .done i in-kinds (kind-at i in-kinds ∙ ap kindOf first), whole) closes

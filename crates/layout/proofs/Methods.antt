@@ -72,8 +72,10 @@ module _ {file : List ℕ} {ts : List Token} {kinds values places : List ℕ}
         let f = kind-of-end us in
         absurd (omega arith)
 
-    turn : (l : Layout) (i b : ℕ) (s : Spot) (done : List Flagged) (qs : List Region) → Holds (lexemes ts) done l → length done + length qs ≤ 16
-        → drop i (lexemes ts) ≡ regionsAhead qs us → done ++ flagRegions b qs ≡ before ++ flagRegions 1 all-qs → length ts ≤ 1024
+    turn : (l : Layout) (i b : ℕ) (s : Spot) (done : List Flagged) (qs : List Region) → Holds (lexemes ts) done l
+        → length done + length qs ≤ 16
+        → drop i (lexemes ts) ≡ regionsAhead qs us → done ++ flagRegions b qs ≡ before ++ flagRegions 1 all-qs
+        → length ts ≤ 1024
         → getD kinds i noKind ≡ kindOf (key k-waituntil) → AddsRegion file kinds values places l i b s
         → Ahead (lexemes ts) before all-qs us (s .layout) (s .at) 0
     unfolding flagRegions
@@ -98,7 +100,8 @@ module _ {file : List ℕ} {ts : List Token} {kinds values places : List ℕ}
         → Ahead (lexemes ts) before all-qs us (s .layout) (s .at) 0
     ahead-turn l i b s a = turn l i b s (a .done) (a .qs) (a .holds) (a .few) (a .stands) (a .whole)
 
-    full : {C : Type 0} (l : Layout) (i : ℕ) (done : List Flagged) (qs : List Region) → Holds (lexemes ts) done l → length done + length qs ≤ 16
+    full : {C : Type 0} (l : Layout) (i : ℕ) (done : List Flagged) (qs : List Region) → Holds (lexemes ts) done l
+        → length done + length qs ≤ 16
         → drop i (lexemes ts) ≡ regionsAhead qs us → getD kinds i noKind ≡ kindOf (key k-waituntil) → 16 ≤ l .regions
         → C
     full l i done [] h f stands kind many = no-region i stands kind

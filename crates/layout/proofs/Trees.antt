@@ -175,7 +175,8 @@ unfolding kindOf markNumber keywordNumber
 semicolons-balanced =
     of-cond (Balanced noKind semicolonKind) (balanced-nil noKind semicolonKind)
     (λ v w p q. balanced-join noKind semicolonKind p q) calmly
-    (around noKind semicolonKind (mark lparen) (mark rparen) (balanced-one noKind semicolonKind (mark lparen) (λ e. omega arith) (λ e. omega arith))
+    (around noKind semicolonKind (mark lparen) (mark rparen)
+    (balanced-one noKind semicolonKind (mark lparen) (λ e. omega arith) (λ e. omega arith))
     (balanced-one noKind semicolonKind (mark rparen) (λ e. omega arith) (λ e. omega arith)))
   where
     calmly : (l : Lexeme) → calm (kindOf l) ≡ true → Balanced noKind semicolonKind (l ∷ [])

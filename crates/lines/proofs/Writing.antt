@@ -71,7 +71,8 @@ module _ {rec : calls.Record} {vars : ℕ} {values : List ℕ} {threads : List T
     pub places-are : length threads ≡ 16 → placesAt threads 16 ≡ placeDigits (rec .places)
     unfolding placesAt placeDigits placeAt
     places-are l =
-        let n : length (rec .places) ≡ 16 = ap length (sym (fits .places)) ∙ length-map threads (λ t. placeOf (t .place))
+        let n : length (rec .places) ≡ 16 = ap length (sym (fits .places))
+        ∙ length-map threads (λ t. placeOf (t .place))
         ∙ l in
         rw (← n)
         (each (λ p. hex2 (placeByte p)) placeDigits refl (λ p ps. refl) machine.idle (rec .places) 0 (placeAt threads)

@@ -181,7 +181,8 @@ fn load_tokens(
     ensures { λ r. ⌜ ((ts : List Token)
         → Words (now (file .entry)) ts (now (kinds .entry)) (now (values .entry)) (now (places .entry))
         → length (now (operands .entry)) ≡ length ts
-        → mostStates ≤ length (now (kept .entry)) → mostStates ≤ length (now (holds .entry)) → mostAfter ≤ length (now (after .entry))
+        → mostStates ≤ length (now (kept .entry)) → mostStates ≤ length (now (holds .entry))
+        → mostAfter ≤ length (now (after .entry))
         → Loads (now (file .entry)) r (now (kept .exit)) (now (holds .exit)) (now (after .exit))) ⌝ }
 {
     let judged = judge(file, kinds, values, places);

@@ -100,7 +100,8 @@ module _ (m : Monitor) (ok : Checked m) (s : ℕ) (p : Threads) (f : Frame) wher
           g : ℕ
           g = m .guardOf r
 
-          acted : May m p f → f .flag ≡ m .holds g s → (w : Bool) → isWaiting (p .place t) ≡ w → (b : Bool) → f .flag ≡ b
+          acted : May m p f → f .flag ≡ m .holds g s → (w : Bool) → isWaiting (p .place t) ≡ w → (b : Bool)
+              → f .flag ≡ b
               → Match m bc p f (act m (plainTold m) (at s p nP) f w b) (act m (tableTold m e) (at s p nT) f w b)
           acted a k false w false fl = both-move (waited-agree m s p t r (sym k ∙ fl) w bc nP nT ag)
           acted a k false w true fl =
@@ -112,7 +113,8 @@ module _ (m : Monitor) (ok : Checked m) (s : ℕ) (p : Threads) (f : Frame) wher
                   (allowed m (tableTold m e) b (rechecked m (tableTold m e) (at s p nT) f))
               notice false x d y = lost w fl
               notice true x false y = clash (ag .within t x) y
-              notice true x true y = both-move (rechecked-agree m s p t r (sym k ∙ fl) (waits-here m p f a w) bc nP nT ag)
+              notice true x true y =
+                  both-move (rechecked-agree m s p t r (sym k ∙ fl) (waits-here m p f a w) bc nP nT ag)
           acted a k true w true fl =
               turn (nP t && firstNotified m p nP g t) (nT t && firstNotified m p nT g t)
               (resumes m p nP g t here (λ u x _. ag .plain .all g u x holds)

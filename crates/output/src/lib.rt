@@ -8,7 +8,12 @@ ghost use Rattle.meaning.specs.Lines.{runLine, placer, runner, traceBytes};
 ghost use Rattle.demands.specs.Widths.{RunFits};
 ghost use Rattle.run.specs.Results.{Runs};
 ghost use Rattle.digits.specs.Written.{Writes};
-ghost use Rattle.output.specs.Printed.{Prints};
+ghost use Rattle.output.specs.Printed.{Prints, outputBytes};
+
+// The bytes of a buffer that has room for all that the programs print, and those of a trace by which runner judges it.
+pub const OUTPUT_BYTES: usize = 4096;
+
+pub const TRACE_BYTES: usize = 65536;
 
 // What placer prints of a file: its table, or its refusal's line.
 pub fn placer_lines(file: &[u8], out: &mut [u8; OUTPUT_BYTES]) -> usize

@@ -49,7 +49,8 @@ titles-token last at (mark m) ts = refl
 
 -- What `declared` ensures, said of the lexeme: the names with what it adds
 
-grown : {file : List ℕ} {names after : Names} {titles : List (List ℕ)} {start len : ℕ} (adds b : Bool) (l : Lexeme) → Grows names adds start len after
+grown : {file : List ℕ} {names after : Names} {titles : List (List ℕ)} {start len : ℕ} (adds b : Bool) (l : Lexeme)
+    → Grows names adds start len after
     → Titles file titles names → adds ≡ (isName l && b) → (b ≡ true → length titles < mostMethods)
     → ((x : List ℕ) → l ≡ name x → Stands file x start len)
     → Titles file (titles ++ added b l) after
@@ -103,7 +104,8 @@ listing-next {ts = ts} h n {i = i} adds s l e d =
       so-far = s .so-far ∙ rw (here h i l, titles-token (s .last) (t .at) (t .lexeme) (drop (i + 1) ts), append-assoc);
       held = grown-at h i l k-var (s .last) adds (s .known) e d (s .held)
           (room b _ _ mostVars (s .few .vars) (s .few .few-vars) (omega arith));
-      few = few-next h n _ 0 (s .few) l (rw length-append (omega (arith, added-few b (t .lexeme) (length (s .titles))))) (omega arith);
+      few = few-next h n _ 0 (s .few) l (rw length-append (omega (arith, added-few b (t .lexeme) (length (s .titles)))))
+          (omega arith);
     }
 
 pub listing-last : {file : List ℕ} {ts : List Token} {kinds values places : List ℕ} → Words file ts kinds values places

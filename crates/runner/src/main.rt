@@ -1,4 +1,5 @@
-// Reads monitor.txt and trace.txt, and prints the plain machine's line and the table's, from the start values; or a file's refusal once.
+// Reads monitor.txt and trace.txt, and prints the plain machine's line and the table's, from the start values; or a
+// file's refusal once.
 ghost use Rattle.io.specs.Counts.{Counts};
 
 // The bytes of a small buffer, in which most traces fit.

@@ -238,7 +238,8 @@ module _ (m : Monitor) (kept hs as′ gs : List ℕ) (held : Held m kept hs as�
                 (held .guard-below w (left-below v w q))) u h
             told-on false all u h =
                 plain-same (truths hs gs) m left-read left-of left-alike (λ v w l q. guard-held w (left-below v w q)) to
-                (λ v w l q. holds-held (m .guardOf w) to (held .guard-below w (left-below v w q)) to-below) (f .region) u
+                (λ v w l q. holds-held (m .guardOf w) to (held .guard-below w (left-below v w q)) to-below) (f .region)
+                u
                 h
 
             ran-alike : Alike (ran moves (toldAt hs gs es table) (configOf run) f) (ran m (toldOn m table) c f)

@@ -35,7 +35,8 @@ returns c =
 
 -- the sign behind an operand
 sign : (c : tie.Joined1 Inv-loop μ-loop)
-    → getD (c .before .before .before .before .before .before .args .kinds .now) (c .before .before .eval-term .result .next) noKind ≡ kindOf (mark (signMark (signOf (c .if1 .taken))))
+    → getD (c .before .before .before .before .before .before .args .kinds .now)
+    (c .before .before .eval-term .result .next) noKind ≡ kindOf (mark (signMark (signOf (c .if1 .taken))))
 unfolding markNumber signMark signOf kindOf keywordNumber
 sign c =
     sym (c .before .kind-at .ensures)

@@ -10,7 +10,8 @@ add-t10 : tie.Need-add-t10
 add-t10 c =
     omega (
       arith,
-      seen-length _ _ _ (c .before .before .from .given .1) (sym (c .before .before .before .before .sees-among .ensures)
+      seen-length _ _ _ (c .before .before .from .given .1)
+          (sym (c .before .before .before .before .sees-among .ensures)
           ∙ c .if1 .taken),
     )
 

@@ -33,7 +33,8 @@ loop-holds c =
 
 -- in a turn `waituntil` stands there
 waits : (q : tie.Then1 Inv-loop μ-loop)
-    → getD (q .before .before .before .before .before .before .before .args .kinds .now) (q .before .before .loop .i) noKind ≡ kindOf (key k-waituntil)
+    → getD (q .before .before .before .before .before .before .before .args .kinds .now) (q .before .before .loop .i)
+    noKind ≡ kindOf (key k-waituntil)
 unfolding kindOf keywordNumber
 waits q = sym (q .before .kind-at .ensures) ∙ q .if1 .taken
 
