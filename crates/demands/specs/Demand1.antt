@@ -22,13 +22,14 @@ use Rattle.meaning.specs.Refusal.{Refusal, HasVerdict}
 
 -- Placing, for every file and buffer
 
+-- (R 7.13)
 pub data PlacesAs (file buffer : List ℕ) : Placing → Type 0 where
-  -- 1 to 9
+  -- 1 to 9 (R 7.14)
   file-refused : {a : Answer} → Refusal file a → PlacesAs file buffer (notPlaced a buffer)
-  -- 10: "table buffer shorter than the table"
+  -- 10: "table buffer shorter than the table" (R 7.15)
   too-short : {m : Monitor} → Accepted file m → length buffer < length (tableOf (model m))
       → PlacesAs file buffer (notPlaced (answer 10 0 0) buffer)
-  -- "success writes the table from byte 0 and keeps the bytes behind it"
+  -- "success writes the table from byte 0 and keeps the bytes behind it" (R 7.16)
   placed :
       {m : Monitor} → Accepted file m → length (tableOf (model m)) ≤ length buffer
       → PlacesAs file buffer
@@ -40,33 +41,34 @@ pub data PlacesAs (file buffer : List ℕ) : Placing → Type 0 where
 
 -- Running, for every file, trace, state number and machine
 
+-- (R 8.11)
 pub data RunsAs (file bytes : List ℕ) (s : ℕ) (w : Machine) : Running → Type 0 where
-  -- 1 to 9
+  -- 1 to 9 (R 8.13)
   no-monitor : {a : Answer} → Refusal file a → RunsAs file bytes s w (refused-file a)
-  -- 11
+  -- 11 (R 8.12)
   no-start : {m : Monitor} → Accepted file m → (Startable m s → ⊥) → RunsAs file bytes s w (not-run (answer 11 0 0))
-  -- 12: "first line that is no frame"
+  -- 12: "first line that is no frame" (R 8.9)
   bad-line :
       {m : Monitor} {k : ℕ} → Accepted file m → Startable m s → trace.Stops bytes k
       → RunsAs file bytes s w (not-run (answer 12 k 0))
-  -- 13 and 14, "frame by frame, 13 first"
+  -- 13 and 14, "frame by frame, 13 first" (R 9.8, 9.9)
   frame-refused :
       {m : Monitor} {fs : List Frame} {a k : ℕ} → Accepted file m → Startable m s → FrameRecords fs → bytes ≡ linesOf fs
       → Stops (model m) (noticesOf m w) 0 (allIdle s) fs a k → RunsAs file bytes s w (not-run (answer a k 0))
-  -- the rules allow every frame
+  -- the rules allow every frame (R 10.5)
   all-allowed :
       {m : Monitor} {fs : List Frame} {c : Config} → Accepted file m → Startable m s → FrameRecords fs
       → bytes ≡ linesOf fs
       → Rules (model m) (noticesOf m w) (allIdle s) fs c → RunsAs file bytes s w (ran (recordOf m c))
 
 pub record Demand1 : Type 0 where
-  -- a file of any bytes has a verdict, and no second one, and the check gives it
+  -- a file of any bytes has a verdict, and no second one, and the check gives it (R 12.1)
   pub one-verdict : (file : List ℕ) → (v : Verdict) × HasVerdict file v × ((w : Verdict) → HasVerdict file w → w ≡ v)
   pub checks : (file : List ℕ) (v : Verdict) → (check file ≡ v) ↔ HasVerdict file v
-  -- placing and running give what is said above, for every input, and nothing else
+  -- placing and running give what is said above, for every input, and nothing else (R 12.2)
   pub places : (file buffer : List ℕ) (p : Placing) → (place file buffer ≡ p) ↔ PlacesAs file buffer p
   pub runs : (file bytes : List ℕ) (s : ℕ) (w : Machine) (x : Running)
       → (running file bytes s w ≡ x) ↔ RunsAs file bytes s w x
-  -- "a refused hand-in writes to no buffer"
+  -- "a refused hand-in writes to no buffer" (R 12.3)
   pub writes-nothing :
       (file buffer : List ℕ) → (place file buffer .answer .number ≡ 0 → ⊥) → place file buffer .buffer ≡ buffer

@@ -26,27 +26,32 @@ use lib.IntN.{ℤ}
 
 -- The table
 
--- a line as Algorithm 1 has it, over the states that meet the kept condition
+-- a line as Algorithm 1 has it, over the states that meet the kept condition (R 7.7)
 pub record IsEntry (m : machine.Monitor) (w : Row) : Type 0 where
   pub region : w .region < m .regions
   pub guard : w .guard < m .guards
   -- "from some state with the region's guard true and the other guard false, the body makes the other guard true"
+  -- (R 7.3)
   pub stands : Stands m (w .region) (w .guard)
-  -- "unconditional when the body makes it true from every such state"
+  -- "unconditional when the body makes it true from every such state" (R 7.4)
   pub unconditional : (w .unconditional ≡ true) ↔ Triple m (w .region) (Fails m (w .guard)) (Holds m (w .guard))
-  -- "a signal when every region having that guard leaves it false from every state where it was true"
+  -- "a signal when every region having that guard leaves it false from every state where it was true" (R 7.5)
   pub signal : (w .broadcast ≡ false) ↔ Signals m (w .guard)
 
+-- (R 12.5)
 pub record IsTable (m : machine.Monitor) (rows : List Row) : Type 0 where
+  -- (R 7.12)
   pub lines : tableOf m ≡ rowLines rows
+  -- no more, no fewer (R 12.5)
   pub exactly : (w : Row) → List·Memᴰ w rows ↔ IsEntry m w
-  -- "For each region and each guard, in that order"
+  -- "For each region and each guard, in that order" (R 7.9)
   pub order : Increasing rows
-  -- the bytes tell the rows
+  -- the bytes tell the rows (R 12.5)
   pub only : (ws : List Row) → ((w : Row) → List·Memᴰ w ws → Small w) → tableOf m ≡ rowLines ws → ws ≡ rows
 
 -- The machines
 
+-- what the rules take (R 12.6), and what none takes (R 12.7)
 pub record FollowsRules (m : Monitor) (w : Machine) : Type 0 where
   pub accepts :
       (s : ℕ) (fs : List Frame) (c : Config) → (runList m w s fs ≡ machine.accepted c) ↔ Rules (model m) (noticesOf m w)
@@ -58,17 +63,17 @@ pub record FollowsRules (m : Monitor) (w : Machine) : Type 0 where
 -- The table in the file's own words: over each variable's values and over runs of bodies, freed from the numbers of
 -- states
 
--- the body of a region leads from values to values; the first are a state and meet kept condition and guard
+-- the body of a region leads from values to values; the first are a state and meet kept condition and guard (R 7.2)
 pub record Moves (m : Monitor) (r : Region) (as′ bs : List ℤ) : Type 0 where
   pub meets : Meets m r as′
   pub runs : BlockRuns (vars m) (r .body) as′ bs
 
 module _ (m : Monitor) where
-  -- the truth of the guard with a number
+  -- the truth of the guard with a number (R 4.9)
   unfoldable pub truthOf : ℕ → List ℤ → Bool
   truthOf g as′ = truth (getD (guards m) g noGuard) (vars m) as′
 
-  -- from every such state where guard g is p, the body of region r makes it q
+  -- from every such state where guard g is p, the body of region r makes it q (R 7.4, 7.5)
   unfoldable pub Makes : ℕ → ℕ → Bool → Bool → Type 0
   Makes r g p q = (as′ bs : List ℤ) → Moves m (region m r) as′ bs → truthOf g as′ ≡ p → truthOf g bs ≡ q
 
@@ -77,20 +82,24 @@ module _ (m : Monitor) where
     pub has-region : w .region < length (regions m)
     pub has-guard : w .guard < length (guards m)
     -- "from some state with the region's guard true and the other guard false, the body makes the other guard true"
+    -- (R 7.3)
     pub stands :
         (as′ bs : List ℤ) × Moves m (region m (w .region)) as′ bs × (truthOf (w .guard) as′ ≡ false)
         × (truthOf (w .guard) bs ≡ true)
-    -- "unconditional when the body makes it true from every such state"
+    -- "unconditional when the body makes it true from every such state" (R 7.4)
     pub unconditional : (w .unconditional ≡ true) ↔ Makes (w .region) (w .guard) false true
-    -- "a signal when every region having that guard leaves it false from every state where it was true"
+    -- "a signal when every region having that guard leaves it false from every state where it was true" (R 7.5)
     pub signal :
         (w .broadcast ≡ false) ↔ ((r : ℕ) → r < length (regions m) → guardOf m r ≡ w .guard
         → Makes r (w .guard) true false)
 
 pub record Demand2 : Type 0 where
+  -- (R 12.4)
   pub accepts : (file : List ℕ) (m : Monitor) → (check file ≡ accepted m) ↔ Accepted file m
   pub refuses : (file : List ℕ) (a : Answer) → (check file ≡ refused a) ↔ Refusal file a
+  -- (R 12.5)
   pub table : (file : List ℕ) (m : Monitor) → check file ≡ accepted m → (rows : List Row) × IsTable (model m) rows
+  -- the same over values (R 7.3, 7.4, 7.5)
   pub entries : (file : List ℕ) (m : Monitor) → check file ≡ accepted m → (w : Row) → IsEntry (model m) w ↔ ByValues m w
-  -- for every tree, also one that is not accepted
+  -- for every tree, also one that is not accepted (R 12.6, 12.7)
   pub machines : (m : Monitor) (w : Machine) → FollowsRules m w

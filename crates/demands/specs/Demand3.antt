@@ -23,6 +23,7 @@ use Rattle.meaning.specs.Trace.{linesOf}
 use mathlib.Core.Option.{some}
 
 pub record Demand3 : Type 0 where
+  -- (R 12.8, 12.9, 12.10, 12.11, 12.12, 12.13)
   pub agree :
       (file : List ℕ) (m : Monitor) → check file ≡ accepted m → (s : ℕ) → kept m s ≡ true → (fs : List Frame)
       → AgreeOn (model m) (runList m plain-machine s) (runList m table-machine s) Recheck fs
@@ -30,23 +31,25 @@ pub record Demand3 : Type 0 where
 -- What it says of the calls' results, for every file, trace and state number. A point of a list is a trace itself, so
 -- what is said of a trace is said of each of its points.
 
--- "An answer is the number (0 for accepted) and two places"
+-- "An answer is the number (0 for accepted) and two places" (R 10.1, 10.2)
 unfoldable pub runAnswer : Running → Answer
 runAnswer (ran r) = answer 0 0 0
 runAnswer (refused-file a) = a
 runAnswer (not-run a) = a
 
 pub record SameRunning (file bytes : List ℕ) (s : ℕ) : Type 0 where
+  -- (R 12.8)
   pub same-answer :
       (runAnswer (running file bytes s plain-machine) ≡ runAnswer (running file bytes s table-machine))
       ⊎ ((fs : List Frame) × (k : ℕ) × (bytes ≡ linesOf fs)
       × (running file bytes s table-machine ≡ not-run (answer 14 k 0)) × Recheck fs k)
-  -- each variable's value and the place of each of the sixteen threads
+  -- each variable's value and the place of each of the sixteen threads (R 12.9)
   pub same-record :
       (b : Record) → running file bytes s table-machine ≡ ran b
       → (a : Record) × (running file bytes s plain-machine ≡ ran a) × (a .values ≡ b .values) × (a .places ≡ b .places)
 
 -- in the record, thread u waits at region r, none waiting on the guard of r stands ahead of it, and that guard holds
+-- (R 9.27, 11.9)
 pub record FirstWaiter (m : Monitor) (b : Record) (u r : ℕ) : Type 0 where
   pub waits : getElem? (b .places) u ≡ some (waiting r)
   pub guard : truth (region m r .guard) (vars m) (b .values) ≡ true
@@ -54,7 +57,7 @@ pub record FirstWaiter (m : Monitor) (b : Record) (u r : ℕ) : Type 0 where
       (v q : ℕ) → ahead (threadsOf b) v u ≡ true → getElem? (b .places) v ≡ some (waiting q)
       → guardOf m q ≡ guardOf m r → ⊥
 
--- under the table, at the end of every trace that it accepts
+-- under the table, at the end of every trace that it accepts (R 12.11)
 unfoldable pub FirstNotified : List ℕ → List ℕ → ℕ → Type 0
 FirstNotified file bytes s =
     (m : Monitor) → check file ≡ accepted m → (b : Record) → running file bytes s table-machine ≡ ran b

@@ -2,11 +2,11 @@
 -- `syntax/specs/Limits`.
 use Prim.Native.Nat.{ℕ}
 
--- the regions of a file (5), and its guards, which are no more
+-- the regions of a file (5; R 6.18), and its guards, which are no more
 abbrev pub mostRegions : ℕ
 mostRegions = 16
 
--- the states of a file's variables (7)
+-- the states of a file's variables (7; R 6.30)
 abbrev pub mostStates : ℕ
 mostStates = 4096
 

@@ -5,38 +5,41 @@ use mathlib.Core.Path.{_≡_}
 use mathlib.Core.Bool.{Bool, false}
 use lib.Dec.{ltb}
 
--- where a thread is: idle, or waiting at a region, or due at a region
+-- where a thread is: idle, or waiting at a region, or due at a region (R 9.4)
 pub data Place : Type 0 where
   idle : Place
   waiting due : ℕ → Place
 
--- What the table and the machines ask of a monitor. A state is its number, regions and guards are numbered from 0.
+-- What the table and the machines ask of a monitor. A state is its number (R 3.17), regions and guards are numbered
+-- from 0 (R 3.2, 3.9).
 pub record Monitor : Type 0 where
-  -- how many states, regions and guards there are
+  -- how many states, regions and guards there are (R 3.2, 3.9, 3.14)
   pub states : ℕ
   pub regions : ℕ
   pub guards : ℕ
-  -- the guard of a region, and whether a guard holds in a state
+  -- the guard of a region, and whether a guard holds in a state (R 3.5, 4.9)
   pub guardOf : ℕ → ℕ
   pub holds : ℕ → ℕ → Bool
-  -- the state after a region's body
+  -- the state after a region's body (R 4.19)
   pub after : ℕ → ℕ → ℕ
-  -- the kept condition; false of a number that is no state's
+  -- the kept condition (R 5.1); false of a number that is no state's
   pub kept : ℕ → Bool
-  -- does a region begin a method, and where is a thread after a region's body: due at the next region, or idle
+  -- does a region begin a method (R 3.3), and where is a thread after a region's body: due at the next region, or idle
+  -- (R 9.22)
   pub begins : ℕ → Bool
   pub follows : ℕ → Place
 
--- one line of a trace; the flag is 01 where the guard held and the body ran
+-- one line of a trace; the flag is 01 where the guard held and the body ran (R 8.5, 8.7)
 pub record Frame : Type 0 where
   pub thread : ℕ
   pub region : ℕ
   pub flag : Bool
 
+-- how many threads there are (R 9.2)
 unfoldable pub threads : ℕ
 threads = 16
 
--- what is known of all threads: where each is
+-- what is known of all threads: where each is (R 9.3)
 pub record Threads : Type 0 where
   pub place : ℕ → Place
 
@@ -45,23 +48,25 @@ pub record SameThreads (p p′ : Threads) : Type 0 where
   pub same-place : (u : ℕ) → u < threads → p .place u ≡ p′ .place u
 
 -- The line of those who wait, read off what is known of all threads: u stands ahead of v. "the lowest-numbered"
+-- (R 9.19, 9.27)
 unfoldable pub ahead : Threads → ℕ → ℕ → Bool
 ahead p u v = ltb u v
 
--- a point of a run: the state, what is known of all threads, and who has a notice that is not used up
+-- a point of a run: the state, what is known of all threads, and who has a notice that is not used up (R 9.3)
 pub record Config : Type 0 where
   pub state : ℕ
   pub threads : Threads
   pub notified : ℕ → Bool
 
+-- every place is idle (R 9.6)
 abbrev pub idleThreads : Threads
 idleThreads = record { place = λ _. idle }
 
--- "At the start all are idle and none notified"
+-- "At the start all are idle and none notified" (R 9.6)
 unfoldable pub allIdle : ℕ → Config
 allIdle s = record { state = s; threads = idleThreads; notified = λ _. false }
 
--- the end of a run of a list: its last point, or a refusal's number and the frame
+-- the end of a run of a list: its last point, or a refusal's number and the frame (R 9.8, 10.5)
 pub data Run : Type 0 where
   accepted : Config → Run
   stopped : ℕ → ℕ → Run

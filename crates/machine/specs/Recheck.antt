@@ -12,7 +12,7 @@ unfoldable pub Absent : ℕ → List Frame → Type 0
 Absent t [] = Unit {0}
 Absent t (f ∷ fs) = (f .thread ≡ t → ⊥) × Absent t fs
 
--- e is the last frame that thread t sent
+-- e is the last frame that thread t sent (R 11.7)
 pub record LastOf (fs : List Frame) (t : ℕ) (e : Frame) : Type 0 where
   pub earlier : List Frame
   pub later : List Frame
@@ -20,7 +20,7 @@ pub record LastOf (fs : List Frame) (t : ℕ) (e : Frame) : Type 0 where
   pub sent : e .thread ≡ t
   pub none-later : Absent t later
 
--- the last frame that thread t sent has the flag 00
+-- the last frame that thread t sent has the flag 00 (R 11.7)
 unfoldable pub SentLast00 : List Frame → ℕ → Type 0
 SentLast00 fs t = (e : Frame) × LastOf fs t e × (e .flag ≡ false)
 
@@ -28,7 +28,7 @@ SentLast00 fs t = (e : Frame) × LastOf fs t e × (e .flag ≡ false)
 unfoldable pub Paused : (ℕ → Bool) → List Frame → ℕ → Type 0
 Paused began fs t = SentLast00 fs t ⊎ (Absent t fs × (began t ≡ true))
 
--- frame k has the flag 00, and `before` tells its thread by the frames before it
+-- frame k has the flag 00, and `before` tells its thread by the frames before it (R 11.7)
 pub record RecheckBy (before : List Frame → ℕ → Type 0) (fs : List Frame) (k : ℕ) : Type 0 where
   pub front : List Frame
   pub frame : Frame
@@ -38,7 +38,7 @@ pub record RecheckBy (before : List Frame → ℕ → Type 0) (fs : List Frame) 
   pub flag : frame .flag ≡ false
   pub so-before : before front (frame .thread)
 
--- "its flag is 00, and so was that of the last frame its thread sent before it"
+-- "its flag is 00, and so was that of the last frame its thread sent before it" (R 11.7)
 abbrev pub Recheck : List Frame → ℕ → Type 0
 Recheck = RecheckBy SentLast00
 

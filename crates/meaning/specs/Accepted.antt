@@ -25,7 +25,7 @@ use Rattle.syntax.specs.Spelling.{Cover}
 unfoldable pub NoneOffends : (List Token → Token → Type 0) → List Token → Type 0
 NoneOffends Offends ts = (before after : List Token) (t : Token) → ts ≡ before ++ (t ∷ after) → Offends before t → ⊥
 
--- the first token that offends stands at byte k
+-- the first token that offends stands at byte k (R 6.7, 6.13, 6.18, 6.19)
 unfoldable pub FirstOffends : (List Token → Token → Type 0) → List Token → ℕ → Type 0
 FirstOffends Offends ts k =
     (before after : List Token) × (t : Token) × (ts ≡ before ++ (t ∷ after)) × Offends before t × (t .at ≡ k)
@@ -36,34 +36,39 @@ unfoldable pub howMany : (Lexeme → Bool) → List Token → ℕ
 howMany p [] = 0
 howMany p (t ∷ ts) = elim (p (t .lexeme)) [ true ↦ suc (howMany p ts) | false ↦ howMany p ts ]
 
--- 3: "past the 1,024th, or is a ( or { that makes opened less closed (both kinds together) exceed 12"
+-- a ( or {: both kinds together (R 6.9, 6.10)
 unfoldable pub opens : Lexeme → Bool
 opens l = isMark lbrace l || isMark lparen l
 
+-- a ) or } (R 6.9, 6.10)
 unfoldable pub closes : Lexeme → Bool
 closes l = isMark rbrace l || isMark rparen l
 
+-- 3: "past the 1,024th, or is a ( or { that makes opened less closed (both kinds together) exceed 12"
+-- (R 6.8, 6.9, 6.10)
 unfoldable pub Crowded : List Token → Token → Type 0
 Crowded before t =
     (mostTokens ≤ length before)
     ⊎ ((opens (t .lexeme) ≡ true) × (howMany closes before + mostOpen < howMany opens before + 1))
 
--- 5
+-- 5 (R 6.18)
 unfoldable pub PastLimit : List Token → Token → Type 0
 PastLimit before t =
     ((t .lexeme ≡ key k-var) × (mostVars ≤ howMany (isKey k-var) before))
     ⊎ ((t .lexeme ≡ key k-method) × (mostMethods ≤ howMany (isKey k-method) before))
     ⊎ ((t .lexeme ≡ key k-waituntil) × (mostRegions ≤ howMany (isKey k-waituntil) before))
 
--- 6: a keyword stands last, and a keyword with a name behind it stands among some tokens
+-- 6: a keyword stands last (R 6.20, 6.21, 6.22)
 unfoldable pub Behind : Keyword → List Token → Type 0
 Behind k before = (front : List Token) × (t : Token) × (before ≡ front ++ (t ∷ [])) × (t .lexeme ≡ key k)
 
+-- a keyword with a name behind it stands among some tokens (R 6.20, 6.21)
 unfoldable pub Declared : Keyword → List ℕ → List Token → Type 0
 Declared k x ts =
     (front back : List Token) × (t u : Token) × (ts ≡ front ++ (t ∷ u ∷ back)) × (t .lexeme ≡ key k)
     × (u .lexeme ≡ name x)
 
+-- 6: a name that is wrong (R 6.20, 6.21, 6.22, 6.23)
 unfoldable pub Misnamed : List Token → Token → Type 0
 Misnamed before t =
     (x : List ℕ) × (t .lexeme ≡ name x)
@@ -76,6 +81,7 @@ Misnamed before t =
 unfoldable pub AtMost : ℤ → ℤ → Type 0
 AtMost a b = less b a ≡ false
 
+-- (R 6.27, 6.28, 6.29)
 pub record GoodRange (v : Var) : Type 0 where
   pub ordered : AtMost (intOf (v .low)) (intOf (v .high))
   pub low-bound : AtMost (negℤ (pos 128)) (intOf (v .low))
@@ -83,17 +89,19 @@ pub record GoodRange (v : Var) : Type 0 where
   pub start-above : AtMost (intOf (v .low)) (intOf (v .start))
   pub start-below : AtMost (intOf (v .start)) (intOf (v .high))
 
+-- of each variable (R 6.26)
 pub data GoodRanges : List Var → Type 0 where
   no-vars : GoodRanges []
   one-var : {v : Var} {vs : List Var} → GoodRange v → GoodRanges vs → GoodRanges (v ∷ vs)
 
--- States: one value in its range for each variable
+-- States: one value in its range for each variable (R 3.13)
 pub data State : List Var → List ℤ → Type 0 where
   no-values : State [] []
   one-value : {v : Var} {vs : List Var} {a : ℤ} {as′ : List ℤ} → inRange v a ≡ true → State vs as′
       → State (v ∷ vs) (a ∷ as′)
 
 -- the values after an assignment to the variable named x: the first of that name takes the value, within its range
+-- (R 4.13)
 pub data Assigns : List Var → List ℤ → List ℕ → ℤ → List ℤ → Type 0 where
   here :
       {v : Var} {vs : List Var} {a b : ℤ} {as′ : List ℤ} {x : List ℕ} → v .title ≡ x → inRange v b ≡ true
@@ -104,12 +112,14 @@ pub data Assigns : List Var → List ℤ → List ℕ → ℤ → List ℤ → T
 
 -- a body's run, in which each assignment stays in range as it is made
 mutual
+  -- (R 4.11, 4.18)
   pub data BlockRuns (vs : List Var) : Block → List ℤ → List ℤ → Type 0 where
     ends : {as′ : List ℤ} → BlockRuns vs end as′ as′
     goes-on :
         {s : Stmt} {b : Block} {as′ bs cs : List ℤ} → StmtRuns vs s as′ bs → BlockRuns vs b bs cs
         → BlockRuns vs (then s b) as′ cs
 
+  -- (R 4.12, 4.13, 4.16, 4.17)
   pub data StmtRuns (vs : List Var) : Stmt → List ℤ → List ℤ → Type 0 where
     assigns : {x : List ℕ} {e : Expr} {as′ bs : List ℤ} → Assigns vs as′ x (exprValue vs as′ e) bs
         → StmtRuns vs (assign x e) as′ bs
@@ -123,26 +133,26 @@ mutual
         {c : Cond} {a b : Block} {as′ bs : List ℤ} → truth c vs as′ ≡ false → BlockRuns vs b as′ bs
         → StmtRuns vs (if-else c a b) as′ bs
 
--- 9: the body keeps the kept condition and every range from these values
+-- 9: the body keeps the kept condition and every range from these values (R 5.4)
 unfoldable pub Keeps : Monitor → Region → List ℤ → Type 0
 Keeps m r as′ = (bs : List ℤ) × BlockRuns (all (m .vars)) (r .body) as′ bs × (keptAt m bs ≡ true)
 
--- these values count: they are a state and meet kept condition and guard
+-- these values count: they are a state and meet kept condition and guard (R 5.2)
 pub record Meets (m : Monitor) (r : Region) (as′ : List ℤ) : Type 0 where
   pub state : State (all (m .vars)) as′
   pub kept : keptAt m as′ ≡ true
   pub guard : truth (r .guard) (all (m .vars)) as′ ≡ true
 
--- the regions of all methods, in file order
+-- the regions of all methods, in file order (R 3.2)
 unfoldable pub regionsOf : List Method → List Region
 regionsOf [] = []
 regionsOf (m ∷ ms) = all (m .regions) ++ regionsOf ms
 
--- the region with a number
+-- the region with a number (R 3.2)
 unfoldable pub IsRegion : Monitor → ℕ → Region → Type 0
 IsRegion m k r = getElem? (regionsOf (all (m .methods))) k ≡ some r
 
--- 7 to 9 do not arise
+-- 7 to 9 do not arise (R 5.4, 5.7)
 pub record Sound (m : Monitor) : Type 0 where
   pub ranges : GoodRanges (all (m .vars))
   pub few : count (all (m .vars)) ≤ mostStates
@@ -150,7 +160,7 @@ pub record Sound (m : Monitor) : Type 0 where
   pub keeps : (k : ℕ) (r : Region) (as′ : List ℤ) → IsRegion m k r → Meets m r as′ → Keeps m r as′
 
 -- Accepted: "within document 01's grammar and limits, its kept condition holds at the start, and every region keeps it
--- and every range"
+-- and every range" (R 5.6, 5.7)
 pub record Accepted (file : List ℕ) (m : Monitor) : Type 0 where
   pub ts : List Token
   -- not 1, 2, 3

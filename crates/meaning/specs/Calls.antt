@@ -17,17 +17,19 @@ use Rattle.meaning.specs.Model.{vars, model}
 
 -- Placing: the answer, the table's length, and every byte of the buffer afterwards
 
+-- (R 7.13)
 pub record Placing : Type 0 where
   pub answer : Answer
   pub length : ℕ
   pub buffer : List ℕ
 
--- "A refusal writes to no buffer"
+-- "A refusal writes to no buffer" (R 7.14, 7.15)
 abbrev pub notPlaced : Answer → List ℕ → Placing
 notPlaced a buffer = record { answer = a; length = 0; buffer = buffer }
 
 -- Running
 
+-- (R 9.1)
 pub data Machine : Type 0 where
   plain-machine table-machine : Machine
 
@@ -36,19 +38,20 @@ unfoldable pub eachThread : {A : Type 0} → ℕ → ℕ → (ℕ → A) → Lis
 eachThread zero t f = []
 eachThread (suc n) t f = f t ∷ eachThread n (t + 1) f
 
--- a set of threads as a number, the first thread the lowest bit; and how many it has
+-- a set of threads as a number, the first thread the lowest bit (R 10.8)
 unfoldable pub bits : List Bool → ℕ
 bits [] = 0
 bits (true ∷ bs) = 1 + 2 * bits bs
 bits (false ∷ bs) = 2 * bits bs
 
+-- how many threads a set has (R 10.9)
 unfoldable pub ones : List Bool → ℕ
 ones [] = 0
 ones (true ∷ bs) = suc (ones bs)
 ones (false ∷ bs) = ones bs
 
 -- the record of a run: each variable's value, the place of each of sixteen threads, the set of notified threads and how
--- many
+-- many (R 10.6, 10.7, 10.8, 10.9)
 pub record Record : Type 0 where
   pub values : List ℤ
   pub places : List Place
@@ -59,6 +62,7 @@ pub record Record : Type 0 where
 abbrev pub threadsOf : Record → Threads
 threadsOf r = record { place = λ u. getD (r .places) u idle }
 
+-- the record of a point (R 10.5, 10.6, 10.7, 10.8, 10.9)
 unfoldable pub recordOf : Monitor → Config → Record
 recordOf m c =
     record {
@@ -68,18 +72,19 @@ recordOf m c =
       howMany = ones (eachThread threads 0 (c .notified));
     }
 
--- what a run gives: its record, the file's refusal, or a refusal of the start or of the trace
+-- what a run gives: its record, the file's refusal, or a refusal of the start or of the trace (R 8.13, 10.5)
 pub data Running : Type 0 where
   ran : Record → Running
   refused-file : Answer → Running
   not-run : Answer → Running
 
 -- 11: "start state number not below the count of states, or kept condition false there"; a state that counts
+-- (R 8.12)
 pub record Startable (m : Monitor) (s : ℕ) : Type 0 where
   pub below : s < count (vars m)
   pub keeps : keptAt m (stateAt (vars m) s) ≡ true
 
--- whom a body notifies, by the source's Figures 4 and 6
+-- whom a body notifies, by the source's Figures 4 and 6 (R 9.24, 9.25)
 unfoldable pub noticesOf : Monitor → Machine → Notices
 noticesOf m plain-machine = PlainNotices (model m)
 noticesOf m table-machine = TableNotices (model m) (entryOf (model m))

@@ -5,5 +5,6 @@ use lib.IntN.{ℤ}
 use Rattle.syntax.specs.Tree.{Monitor, all}
 use Rattle.meaning.specs.Value.{truth}
 
+-- (R 5.1)
 unfoldable pub keptAt : Monitor → List ℤ → Bool
 keptAt m as′ = truth (m .keep) (all (m .vars)) as′

@@ -15,47 +15,56 @@ use Rattle.meaning.specs.Calls.{Machine, plain-machine, table-machine, R
 use Rattle.meaning.specs.Calls.{Running, ran, refused-file, not-run}
 use Rattle.meaning.specs.Decide.Calls.{runFrom}
 
+-- four digits, for a place (R 13.15)
 unfoldable pub hex4 : ℕ → List ℕ
 hex4 n = hex2 (n / 256) ++ hex2 (n % 256)
 
--- "A refusal line has two, four and four such digits"
+-- "A refusal line has two, four and four such digits" (R 13.15)
 unfoldable pub refusalLine : Answer → List ℕ
 refusalLine a = hex2 (a .number) ++ (hex4 (a .first) ++ (hex4 (a .second) ++ (10 ∷ [])))
 
--- "FF idle, 00 to 0F waiting at that region, 10 to 1F due at that region plus 16"
+-- "FF idle, 00 to 0F waiting at that region, 10 to 1F due at that region plus 16" (R 13.13)
 unfoldable pub placeByte : Place → ℕ
 placeByte idle = 255
 placeByte (waiting r) = r
 placeByte (due r) = r + 16
 
--- "each value plus 128"
+-- "each value plus 128" (R 13.12)
 unfoldable pub valueDigits : List ℤ → List ℕ
 valueDigits [] = []
 valueDigits (a ∷ as′) = hex2 (natAbs (a +ℤ pos 128)) ++ valueDigits as′
 
+-- (R 13.12)
 unfoldable pub placeDigits : List Place → List ℕ
 placeDigits [] = []
 placeDigits (p ∷ ps) = hex2 (placeByte p) ++ placeDigits ps
 
+-- (R 13.1, 13.12)
 unfoldable pub recordLine : Record → List ℕ
 recordLine r = hex2 0 ++ (valueDigits (r .values) ++ (placeDigits (r .places) ++ (10 ∷ [])))
 
+-- (R 13.12, 13.15)
 unfoldable pub runLine : Running → List ℕ
 runLine (ran r) = recordLine r
 runLine (refused-file a) = refusalLine a
 runLine (not-run a) = refusalLine a
 
--- a machine's line for a trace, from the start values
+-- a machine's line for a trace, from the start values (R 13.9)
 unfoldable pub machineLine : Monitor → Machine → List ℕ → List ℕ
 machineLine m w trace = runLine (runFrom m w (numberOf (vars m) (starts (vars m))) trace)
 
+-- the table's bytes, or the refusal's line (R 13.2, 13.3)
 unfoldable pub placer : List ℕ → List ℕ
 placer file = elim (check file) [ accepted m ↦ tableOf (model m) | refused a ↦ refusalLine a ]
 
+<<<<<<< HEAD
 -- "it judges a longer trace by its first 65,536 bytes"
 abbrev pub traceBytes : ℕ
 traceBytes = 65536
 
+=======
+-- "it judges a longer trace by its first 65,536 bytes" (R 13.7, 13.10, 13.11)
+>>>>>>> 39f83d420003927d86481564d28e2bf9a763f711
 unfoldable pub runner : List ℕ → List ℕ → List ℕ
 runner file trace =
     elim (check file) [

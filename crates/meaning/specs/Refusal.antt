@@ -17,13 +17,13 @@ use Rattle.meaning.specs.Accepted.{Accepted, GoodRange, GoodRanges, Keep
 use Rattle.meaning.specs.Accepted.{FirstOffends, Crowded, PastLimit, Misnamed}
 use Rattle.syntax.specs.Spelling.{Cover, Stops}
 
--- 4: "after which no file of the grammar can follow"
+-- 4: "after which no file of the grammar can follow" (R 6.13)
 unfoldable pub NoFile : List Token → Token → Type 0
 NoFile before t = Viable (lexemes (before ++ (t ∷ []))) → ⊥
 
 -- 7 and 8
 
--- the token behind some lexemes is a keyword, at a byte
+-- the token behind some lexemes is a keyword, at a byte (R 6.26, 6.31)
 pub record Stands (ts : List Token) (pre : List Lexeme) (k : Keyword) (byte : ℕ) : Type 0 where
   pub front : List Token
   pub back : List Token
@@ -37,7 +37,7 @@ pub record Stands (ts : List Token) (pre : List Lexeme) (k : Keyword) (byte : �
 unfoldable pub upTo : Monitor → List Var → List Lexeme
 upTo m before = key k-monitor ∷ name (m .title) ∷ mark lbrace ∷ each spellVar before
 
--- 7: variable i is the first with a bad range, "or which takes the product of range sizes above 4,096"
+-- 7: variable i is the first with a bad range, "or which takes the product of range sizes above 4,096" (R 6.26, 6.30)
 pub record FirstIllRanged (vs : List Var) (i : ℕ) : Type 0 where
   pub before : List Var
   pub after : List Var
@@ -49,6 +49,7 @@ pub record FirstIllRanged (vs : List Var) (i : ℕ) : Type 0 where
   pub bad : (GoodRange var → ⊥) ⊎ (mostStates < count before * size var)
 
 -- 9: "lowest region, then lowest state, meeting kept condition and guard", from which the body does not keep
+-- (R 6.32, 6.33, 6.34)
 pub record FirstBroken (m : Monitor) (k n : ℕ) : Type 0 where
   pub region : Region
   pub numbered : IsRegion m k region
@@ -58,67 +59,74 @@ pub record FirstBroken (m : Monitor) (k n : ℕ) : Type 0 where
   pub lower-state : (as′ : List ℤ) → numberOf (all (m .vars)) as′ < n → Meets m region as′ → Keeps m region as′
   pub lower-region : (j : ℕ) (r : Region) (as′ : List ℤ) → j < k → IsRegion m j r → Meets m r as′ → Keeps m r as′
 
--- "Checks run in number order over the whole input": the checks up to a number pass
+-- "Checks run in number order over the whole input": the checks up to a number pass (R 6.2)
 
+-- 1 and 2 pass (R 6.4, 6.5)
 pub record Past2 (file : List ℕ) (ts : List Token) : Type 0 where
   pub short : length file ≤ mostBytes
   pub cut : Cover 0 file ts
 
+-- 3 too (R 6.7)
 pub record Past3 (file : List ℕ) (ts : List Token) : Type 0 where
   pub past : Past2 file ts
   pub limits : NoneOffends Crowded ts
 
+-- 4 too (R 6.13, 6.14)
 pub record Past4 (file : List ℕ) (ts : List Token) (m : Monitor) : Type 0 where
   pub past : Past3 file ts
   pub grammar : spell m ≡ lexemes ts
 
+-- 5 too (R 6.18)
 pub record Past5 (file : List ℕ) (ts : List Token) (m : Monitor) : Type 0 where
   pub past : Past4 file ts m
   pub counts : NoneOffends PastLimit ts
 
+-- 6 too (R 6.19)
 pub record Past6 (file : List ℕ) (ts : List Token) (m : Monitor) : Type 0 where
   pub past : Past5 file ts m
   pub names : NoneOffends Misnamed ts
 
+-- 7 too (R 6.26)
 pub record Past7 (file : List ℕ) (ts : List Token) (m : Monitor) : Type 0 where
   pub past : Past6 file ts m
   pub ranges : GoodRanges (all (m .vars))
   pub few : count (all (m .vars)) ≤ mostStates
 
--- The refusals of a file, a constructor for each line of the table
+-- The refusals of a file, a constructor for each line of the table (R 6.1, 6.2)
 pub data Refusal (file : List ℕ) : Answer → Type 0 where
-  -- "file over 8,192 bytes"
+  -- "file over 8,192 bytes" (R 6.4)
   too-long : mostBytes < length file → Refusal file (answer 1 0 0)
-  -- "first byte that begins no token, or begins a word or number that is too long"
+  -- "first byte that begins no token, or begins a word or number that is too long" (R 6.5, 6.6)
   no-token : {k : ℕ} → length file ≤ mostBytes → Stops k 0 file → Refusal file (answer 2 k 0)
   -- "first token that is past the 1,024th, or is a ( or { that makes opened less closed (both kinds together) exceed
-  -- 12"
+  -- 12" (R 6.7)
   too-many : {ts : List Token} {k : ℕ} → Past2 file ts → FirstOffends Crowded ts k → Refusal file (answer 3 k 0)
-  -- "first token after which no file of the grammar can follow; the length if the file ends early"
+  -- "first token after which no file of the grammar can follow; the length if the file ends early" (R 6.13)
   no-file : {ts : List Token} {k : ℕ} → Past3 file ts → FirstOffends NoFile ts k → Refusal file (answer 4 k 0)
+  -- (R 6.14)
   ends-early :
       {ts : List Token} → Past3 file ts → Viable (lexemes ts) → (InGrammar (lexemes ts) → ⊥)
       → Refusal file (answer 4 (length file) 0)
-  -- "first `var` past 6, `method` past 8 or `waituntil` past 16"
+  -- "first `var` past 6, `method` past 8 or `waituntil` past 16" (R 6.18)
   past-limit : {ts : List Token} {m : Monitor} {k : ℕ} → Past4 file ts m → FirstOffends PastLimit ts k
       → Refusal file (answer 5 k 0)
-  -- "first word that declares a variable or method twice among its kind, or uses a variable not declared"
+  -- "first word that declares a variable or method twice among its kind, or uses a variable not declared" (R 6.19)
   wrong-name : {ts : List Token} {m : Monitor} {k : ℕ} → Past5 file ts m → FirstOffends Misnamed ts k
       → Refusal file (answer 6 k 0)
-  -- "byte of `var`": the token behind the variables before the first ill-ranged one
+  -- "byte of `var`": the token behind the variables before the first ill-ranged one (R 6.26)
   ill-ranged :
       {ts : List Token} {m : Monitor} {i k : ℕ} → Past6 file ts m → (t : FirstIllRanged (all (m .vars)) i)
       → Stands ts (upTo m (t .before)) k-var k → Refusal file (answer 7 k 0)
-  -- "byte of `keep`": "the kept condition is false at the start values"
+  -- "byte of `keep`": "the kept condition is false at the start values" (R 6.31)
   start-not-kept :
       {ts : List Token} {m : Monitor} {k : ℕ} → Past7 file ts m → keptAt m (starts (all (m .vars))) ≡ false
       → Stands ts (upTo m (all (m .vars))) k-keep k → Refusal file (answer 8 k 0)
-  -- "lowest region, then lowest state"
+  -- "lowest region, then lowest state" (R 6.33)
   broken :
       {ts : List Token} {m : Monitor} {k n : ℕ} → Past7 file ts m → keptAt m (starts (all (m .vars))) ≡ true
       → FirstBroken m k n → Refusal file (answer 9 k n)
 
--- the verdict of a file, in words
+-- the verdict of a file, in words (R 6.1)
 abbrev pub HasVerdict : List ℕ → Verdict → Type 0
 HasVerdict file (accepted m) = Accepted file m
 HasVerdict file (refused a) = Refusal file a

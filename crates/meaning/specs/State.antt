@@ -6,26 +6,27 @@ use lib.IntN.{ℤ, pos, _+ℤ_, _-ℤ_, natAbs}
 use Rattle.syntax.specs.Tree.{Var}
 use Rattle.meaning.specs.Value.{intOf}
 
--- how many values a range has, where its bounds are in order
+-- how many values a range has, where its bounds are in order (R 3.12)
 unfoldable pub size : Var → ℕ
 size v = natAbs (intOf (v .high) -ℤ intOf (v .low)) + 1
 
+-- the count of states (R 3.14), and the weight of the variable before these (R 3.15)
 unfoldable pub count : List Var → ℕ
 count [] = 1
 count (v ∷ vs) = size v * count vs
 
--- the values of the state with a number
+-- the values of the state with a number (R 3.18)
 unfoldable pub stateAt : List Var → ℕ → List ℤ
 stateAt [] n = []
 stateAt (v ∷ vs) n = (intOf (v .low) +ℤ pos (n / count vs)) ∷ stateAt vs (n % count vs)
 
--- the number of the state with some values
+-- the number of the state with some values (R 3.15, 3.16)
 unfoldable pub numberOf : List Var → List ℤ → ℕ
 numberOf [] as′ = 0
 numberOf (v ∷ vs) [] = 0
 numberOf (v ∷ vs) (a ∷ as′) = natAbs (a -ℤ intOf (v .low)) * count vs + numberOf vs as′
 
--- the start values
+-- the start values (R 3.19)
 unfoldable pub starts : List Var → List ℤ
 starts [] = []
 starts (v ∷ vs) = intOf (v .start) ∷ starts vs

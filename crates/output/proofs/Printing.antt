@@ -20,7 +20,7 @@ use Rattle.demands.specs.Demand1.{PlacesAs, file-refused, too-short, placed}
 use Rattle.demands.specs.Demand1.{RunsAs, no-monitor, no-start, bad-line, frame-refused, all-allowed}
 use Rattle.meaning.specs.Refusal.{Refusal}
 use Rattle.demands.proofs.Demand1.{place-iff, accepted-writes-table, running-iff}
-use Rattle.meaning.specs.Lines.{refusalLine, recordLine, runLine, machineLine, placer, runner}
+use Rattle.meaning.specs.Lines.{traceBytes, refusalLine, recordLine, runLine, machineLine, placer, runner}
 use Rattle.demands.specs.Widths.{AnswerFits, RunFits}
 use Rattle.demands.proofs.Widths.{refusal-fits, running-fits, line-short, table-short}
 use Rattle.answers.specs.Says.{Says}
@@ -32,7 +32,7 @@ use Rattle.monitor.specs.declared.Placing.{Placing}
 use Rattle.digits.specs.Written.{over, Writes}
 use Rattle.lines.specs.Written.{Fits}
 use Rattle.digits.proofs.Writing.{written-length, written-more}
-use Rattle.output.specs.Printed.{Prints}
+use Rattle.output.specs.Printed.{Prints, outputBytes}
 
 -- ---- lines at byte 0
 

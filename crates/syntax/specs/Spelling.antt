@@ -20,11 +20,11 @@ abbrev pub Run : (ℕ → Bool) → (ℕ → Bool) → List ℕ → Type 0
 Run f p [] = ⊥
 Run f p (b ∷ bs) = (f b ≡ true) × Every p bs
 
--- "a letter (A-Z, a-z), then letters, digits or _", of any length
+-- "a letter (A-Z, a-z), then letters, digits or _", of any length (R 1.7, 1.14)
 abbrev pub Word : List ℕ → Type 0
 Word w = Run letter wordByte w
 
--- "decimal digits", one or more
+-- "decimal digits", one or more (R 1.11, 1.14)
 abbrev pub Digits : List ℕ → Type 0
 Digits w = Run digit digit w
 
@@ -32,32 +32,33 @@ Digits w = Run digit digit w
 abbrev pub Listed : {A : Type 0} → List (String × A) → List ℕ → A → Type 0
 Listed l w a = (s : String) × List·Memᴰ (s, a) l × (bytes s ≡ w)
 
--- "Tokens are words, numbers and marks", here of any length
+-- "Tokens are words, numbers and marks", here of any length (R 1.6, 1.14)
 pub data TokenShape (w : List ℕ) : Type 0 where
   a-word : Word w → TokenShape w
   a-number : Digits w → TokenShape w
   a-mark : {m : Mark} → Listed marks w m → TokenShape w
 
 -- the lexeme of a word of "at most 16 bytes", of a number of "1 to 3 decimal digits", or of a mark
+-- (R 1.7, 1.9, 1.10, 1.11, 1.12)
 pub data Spells (w : List ℕ) : Lexeme → Type 0 where
   reserved : {k : Keyword} → Word w → length w ≤ mostWordBytes → Listed keywords w k → Spells w (key k)
   named : Word w → length w ≤ mostWordBytes → ((k : Keyword) → Listed keywords w k → ⊥) → Spells w (name w)
   valued : Digits w → length w ≤ mostDigits → Spells w (number (decimal 0 w))
   marked : {m : Mark} → Listed marks w m → Spells w (mark m)
 
--- "The longest token is taken": the first n bytes have a token's shape, and no more bytes have one
+-- "The longest token is taken": the first n bytes have a token's shape, and no more bytes have one (R 1.14, 1.15)
 pub record Longest (bs : List ℕ) (n : ℕ) : Type 0 where
   pub within : n ≤ length bs
   pub shape : TokenShape (take n bs)
   pub longest : (k : ℕ) → n < k → k ≤ length bs → TokenShape (take k bs) → ⊥
 
--- "begins no token, or begins a word or number that is too long"
+-- "begins no token, or begins a word or number that is too long" (R 6.5)
 pub data BeginsNone (bs : List ℕ) : Type 0 where
   no-token : ((k : ℕ) → k ≤ length bs → TokenShape (take k bs) → ⊥) → BeginsNone bs
   long-word : {n : ℕ} → Longest bs n → Word (take n bs) → mostWordBytes < n → BeginsNone bs
   long-number : {n : ℕ} → Longest bs n → Digits (take n bs) → mostDigits < n → BeginsNone bs
 
--- the bytes from a place on are blanks and these tokens
+-- the bytes from a place on are blanks and these tokens (R 1.4, 1.16, 1.18)
 pub data Cover : ℕ → List ℕ → List Token → Type 0 where
   done : {at : ℕ} → Cover at [] []
   skip : {at b : ℕ} {bs : List ℕ} {ts : List Token} → blank b ≡ true → Cover (at + 1) bs ts → Cover at (b ∷ bs) ts
@@ -65,6 +66,7 @@ pub data Cover : ℕ → List ℕ → List Token → Type 0 where
       → Cover (at + n) (drop n bs) ts → Cover at bs (record { at = at; lexeme = l } ∷ ts)
 
 -- the bytes from a place on are blanks and tokens up to the place k, and what stands there begins no token
+-- (R 6.5, 6.6)
 pub data Stops (k : ℕ) : ℕ → List ℕ → Type 0 where
   here : {b : ℕ} {bs : List ℕ} → blank b ≡ false → BeginsNone (b ∷ bs) → Stops k k (b ∷ bs)
   skip : {at b : ℕ} {bs : List ℕ} → blank b ≡ true → Stops k (at + 1) bs → Stops k at (b ∷ bs)
