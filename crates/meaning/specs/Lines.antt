@@ -57,14 +57,11 @@ machineLine m w trace = runLine (runFrom m w (numberOf (vars m) (starts (vars m)
 unfoldable pub placer : List ℕ → List ℕ
 placer file = elim (check file) [ accepted m ↦ tableOf (model m) | refused a ↦ refusalLine a ]
 
-<<<<<<< HEAD
--- "it judges a longer trace by its first 65,536 bytes"
+-- "it judges a longer trace by its first 65,536 bytes" (R 13.7)
 abbrev pub traceBytes : ℕ
 traceBytes = 65536
 
-=======
--- "it judges a longer trace by its first 65,536 bytes" (R 13.7, 13.10, 13.11)
->>>>>>> 39f83d420003927d86481564d28e2bf9a763f711
+-- (R 13.10, 13.11)
 unfoldable pub runner : List ℕ → List ℕ → List ℕ
 runner file trace =
     elim (check file) [
