@@ -9,7 +9,8 @@ use lib.Dec.{ltb}
 use lib.IntN.{ℤ, pos, negℤ, _+ℤ_, _-ℤ_, +ℤ-assoc, +ℤ-comm, +ℤ-idl, +ℤ-idr, +ℤ-invr, negℤ-+ℤ, negℤ-negℤ}
 use borrow.Author.Tests.{ltb-true, ltb-false, lt-ltb, le-ltb}
 use Rattle.syntax.specs.Held.Kind.{kindOf}
-use Rattle.syntax.specs.Token.{mark, markNumber}
+use Rattle.syntax.specs.Token.{mark}
+use Rattle.syntax.specs.Decide.Lexeme.{markNumber}
 use Rattle.syntax.specs.Tree.{Comparison, eq, ne, lt, le, gt, ge, comparisonMark}
 use Rattle.meaning.specs.Value.{negative, less, compares, joined}
 use Rattle.meaning.proofs.Integers.{negative-difference}

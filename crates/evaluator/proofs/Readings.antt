@@ -12,7 +12,8 @@ use lib.Dec.{eqb}
 use lib.ListN.{length, getD, drop, replicate, getD-replicate}
 use lib.IntN.{ℤ, pos, negℤ, _-ℤ_, +ℤ-idl}
 use borrow.Author.Tests.{eqb-false}
-use Rattle.syntax.specs.Token.{Lexeme, mark, key, Mark, markNumber, keywordNumber, lparen, rparen, semicolon, plus}
+use Rattle.syntax.specs.Token.{Lexeme, mark, key, Mark, lparen, rparen, semicolon, plus}
+use Rattle.syntax.specs.Decide.Lexeme.{markNumber, keywordNumber}
 use Rattle.syntax.specs.Token.{bang}
 use Rattle.syntax.specs.Token.{and-and, or-or, k-true, k-false}
 use Rattle.syntax.specs.Token as token

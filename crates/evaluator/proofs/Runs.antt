@@ -8,11 +8,13 @@ use mathlib.Core.List.{List, [], _∷_, _++_, append-assoc}
 use mathlib.Core.Option.{Option, none, some}
 use lib.ListN.{length, getD, drop, replicate, length-drop, length-append, getD-replicate}
 use lib.IntN.{ℤ}
-use Rattle.syntax.specs.Token.{Lexeme, key, mark, markNumber, keywordNumber, rbrace, rparen, semicolon, k-else, k-if}
+use Rattle.syntax.specs.Token.{Lexeme, key, mark, rbrace, rparen, semicolon, k-else, k-if}
+use Rattle.syntax.specs.Decide.Lexeme.{markNumber, keywordNumber}
 use Rattle.syntax.specs.Held.Kind.{kindOf, nameKind, noKind}
 use Rattle.syntax.specs.Tree.{Var, Cond, Block, end, then, Stmt, assign, if-then, if-else, spellExpr, spellBlock}
 use Rattle.syntax.specs.Tree.{spellStmt}
-use Rattle.meaning.specs.Value.{truth, assigned, andThen, runBlock, runStmt}
+use Rattle.meaning.specs.Value.{truth}
+use Rattle.meaning.specs.Decide.Bodies.{assigned, andThen, runBlock, runStmt}
 use Rattle.evaluator.specs.Coding.{Codes, RunAs, lane}
 use Rattle.meaning.specs.Held.{Biased, Ranges}
 use Rattle.evaluator.specs.Promises.{Next, Closes, frontKind, ExprRead, CondRead, Stored, BlockRun, StmtRun}

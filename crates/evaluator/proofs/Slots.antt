@@ -13,7 +13,8 @@ use lib.IntN.{ℤ, pos, _-ℤ_}
 use borrow.Author.Tests.{le-ltb, lt-ltb, ltb-true, ltb-false, eqb-true, eqb-false}
 use Rattle.syntax.specs.Bytes.{sameBytes}
 use Rattle.syntax.specs.Tree.{Var}
-use Rattle.meaning.specs.Value.{intOf, valueOf, inRange, assigned}
+use Rattle.meaning.specs.Value.{intOf, valueOf, inRange}
+use Rattle.meaning.specs.Decide.Bodies.{assigned}
 use Rattle.evaluator.specs.Coding.{slotOf, RunAs, lane}
 use Rattle.meaning.specs.Held.{Offset, Biased, Ranges}
 use Rattle.evaluator.specs.Promises.{operand, worth, Stored}

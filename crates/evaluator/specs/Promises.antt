@@ -15,8 +15,9 @@ use Rattle.syntax.specs.Token as token
 use Rattle.syntax.specs.Held.Kind.{kindOf, noKind}
 use Rattle.syntax.specs.Tree.{Var, Atom, Sign, added, taken, Expr, Comparison, Block, Stmt, spellAtom, spellExpr}
 use Rattle.syntax.specs.Tree.{comparisonMark, spellCond, spellConj, spellSimple, spellBlock, spellStmt}
-use Rattle.meaning.specs.Value.{atomValue, joined, exprValue, compares, truth, conjTruth, simpleTruth, runBlock}
-use Rattle.meaning.specs.Value.{runStmt, assigned}
+use Rattle.meaning.specs.Value.{atomValue, joined, exprValue, compares, truth, conjTruth, simpleTruth}
+use Rattle.meaning.specs.Decide.Bodies.{runBlock}
+use Rattle.meaning.specs.Decide.Bodies.{runStmt, assigned}
 use Rattle.meaning.specs.Held.{Biased, Ranges}
 use Rattle.evaluator.specs.Coding.{Codes, RunAs, slotOf, lane}
 

@@ -8,7 +8,8 @@ use lib.Dec.{leb, eqb, leb·zero, leb·suc-zero, leb·suc-suc, eqb·zero-suc, eq
 use borrow.Author.Tests.{le-leb, lt-leb, leb-true, leb-false}
 use Rattle.syntax.specs.Token.{Lexeme, name, key, number, mark, Mark, same, differs, below, at-most, above, at-least}
 use Rattle.syntax.specs.Token.{plus, minus}
-use Rattle.syntax.specs.Token.{Keyword, markNumber, isMark, isKey, isName}
+use Rattle.syntax.specs.Token.{Keyword}
+use Rattle.syntax.specs.Decide.Lexeme.{markNumber, isMark, isKey, isName}
 use Rattle.syntax.specs.Held.Kind.{kindOf, nameKind, numberKind}
 use Rattle.syntax.proofs.ByKind.{isNumber, kind-mark, kind-key, kind-name, kind-number}
 use Rattle.syntax.specs.Tree.{Sign, added, taken, Comparison, eq, ne, lt, le, gt, ge}

@@ -6,7 +6,8 @@ use mathlib.Core.Bool.{false}
 use mathlib.Core.List.{List, _∷_}
 use lib.ListN.{length, drop, take}
 use lib.Seq.{take-append-seam}
-use Rattle.syntax.specs.Token.{Token, lexemes, mark, rparen, markNumber}
+use Rattle.syntax.specs.Token.{Token, lexemes, mark, rparen}
+use Rattle.syntax.specs.Decide.Lexeme.{markNumber}
 use Rattle.syntax.specs.Held.Kind.{kindOf, Words}
 use Rattle.syntax.specs.Tree.{Cond, spellCond}
 use Rattle.meaning.specs.Model.{sameLexemes, sameGuard}

@@ -9,7 +9,8 @@ use lib.ListN.{length, drop, getD, set, getElem?, length-set, length-map}
 use lib.Seq.{drop-drop, getD-drop, getD-set-same, getD-set-other}
 use lib.Dec.{eqb}
 use borrow.Author.Tests.{eqb-true, eqb-false}
-use Rattle.syntax.specs.Token.{Lexeme, mark, lbrace, rbrace, markNumber}
+use Rattle.syntax.specs.Token.{Lexeme, mark, lbrace, rbrace}
+use Rattle.syntax.specs.Decide.Lexeme.{markNumber}
 use Rattle.syntax.specs.Held.Kind.{kindOf}
 use Rattle.syntax.specs.Tree.{Block, spellBlock}
 use Rattle.logic.proofs.Bools.{split}

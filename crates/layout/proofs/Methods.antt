@@ -5,8 +5,9 @@ use native.Mathlib.Omega.{arith}
 use mathlib.Core.Path.{_≡_, refl, sym, ap, _∙_}
 use mathlib.Core.List.{List, [], _∷_, _++_, map, append-assoc, append-nil}
 use lib.ListN.{length, drop, getD, length-append}
-use Rattle.syntax.specs.Token.{Token, lexemes, Lexeme, key, mark, rbrace, k-method, k-waituntil, markNumber}
-use Rattle.syntax.specs.Token.{keywordNumber}
+use Rattle.syntax.specs.Token.{Token, lexemes, Lexeme, key, mark, rbrace, k-method, k-waituntil}
+use Rattle.syntax.specs.Decide.Lexeme.{markNumber}
+use Rattle.syntax.specs.Decide.Lexeme.{keywordNumber}
 use Rattle.syntax.specs.Held.Kind.{kindOf, noKind, Words}
 use Rattle.syntax.specs.Tree.{Region, Method, all, each, spellRegion, spellMethod}
 use Rattle.syntax.proofs.ByKind.{kind-below}

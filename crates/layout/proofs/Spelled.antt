@@ -8,7 +8,8 @@ use mathlib.Core.List.{List, [], _∷_, _++_, map, append-assoc}
 use lib.ListN.{length, drop, getD}
 use lib.Seq.{drop-drop, getD-drop}
 use lib.Dec.{eqb}
-use Rattle.syntax.specs.Token.{Token, lexemes, Lexeme, key, mark, lbrace, rbrace, rparen, k-waituntil, markNumber}
+use Rattle.syntax.specs.Token.{Token, lexemes, Lexeme, key, mark, lbrace, rbrace, rparen, k-waituntil}
+use Rattle.syntax.specs.Decide.Lexeme.{markNumber}
 use Rattle.syntax.specs.Held.Kind.{kindOf, noKind, Words}
 use Rattle.syntax.specs.Tree.{Region, spellCond, spellBlock, spellRegion}
 use Rattle.logic.specs.Tests.{bit}

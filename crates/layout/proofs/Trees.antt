@@ -11,7 +11,8 @@ use lib.ListN.{length, drop, take, take-append-drop}
 use lib.Seq.{drop-append-seam}
 use Rattle.syntax.specs.Token.{Lexeme, name, key, number, mark, lbrace, rbrace, lparen, rparen, semicolon, equals, dots}
 use Rattle.syntax.specs.Token.{becomes, minus, bang, and-and, or-or, k-monitor, k-var, k-in, k-keep, k-method}
-use Rattle.syntax.specs.Token.{k-waituntil, k-if, k-else, k-true, k-false, markNumber, keywordNumber}
+use Rattle.syntax.specs.Token.{k-waituntil, k-if, k-else, k-true, k-false}
+use Rattle.syntax.specs.Decide.Lexeme.{markNumber, keywordNumber}
 use Rattle.syntax.specs.Held.Kind.{kindOf, noKind}
 use Rattle.syntax.proofs.ByKind.{kind-below}
 use Rattle.syntax.specs.Tree.{Int, plain, negated, Atom, literal, variable, Sign, added, taken, Term, Expr, Comparison}

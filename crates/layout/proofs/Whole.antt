@@ -9,7 +9,8 @@ use lib.ListN.{length, drop, getD, length-map, List·getD-append, List·getD-map
 use lib.Seq.{getD-append-add}
 use lib.Dec.{eqb, ltb}
 use borrow.Author.Tests.{ltb-true, ltb-false, lt-ltb, le-ltb, ne-eqb}
-use Rattle.syntax.specs.Token.{Token, lexemes, Lexeme, key, mark, semicolon, k-keep, markNumber}
+use Rattle.syntax.specs.Token.{Token, lexemes, Lexeme, key, mark, semicolon, k-keep}
+use Rattle.syntax.specs.Decide.Lexeme.{markNumber}
 use Rattle.syntax.specs.Held.Kind.{kindOf, noKind, valueOf, Words}
 use Rattle.syntax.specs.Tree.{Region, Method, Monitor, all, spell, spellCond}
 use Rattle.logic.specs.Tests.{bit}

@@ -6,7 +6,8 @@ use mathlib.Core.Logic.{inl, inr}
 use mathlib.Core.Option.{none}
 use mathlib.Core.List.{List, [], _∷_, _++_}
 use lib.ListN.{length}
-use Rattle.syntax.specs.Token.{Lexeme, mark, rparen, semicolon, markNumber, Token, lexemes}
+use Rattle.syntax.specs.Token.{Lexeme, mark, rparen, semicolon, Token, lexemes}
+use Rattle.syntax.specs.Decide.Lexeme.{markNumber}
 use Rattle.syntax.specs.Tree.{Monitor, spell}
 use Rattle.syntax.specs.Held.Kind.{kindOf}
 use Rattle.meaning.specs.Decide.Check.{crowded, pastLimit}

@@ -9,7 +9,8 @@ use mathlib.Core.List.{List, [], _∷_, _++_, map, append-assoc, append-nil}
 use lib.ListN.{length, getD, drop, getElem?, length-map}
 use Rattle.syntax.specs.Bytes.{sameBytes}
 use Rattle.syntax.specs.Token.{Lexeme, name, key, number, mark, lbrace, rbrace, semicolon, k-var, k-keep, Token}
-use Rattle.syntax.specs.Token.{lexemes, isKey, keywordNumber}
+use Rattle.syntax.specs.Token.{lexemes}
+use Rattle.syntax.specs.Decide.Lexeme.{isKey, keywordNumber}
 use Rattle.syntax.specs.Held.Kind.{kindOf, Words}
 use Rattle.syntax.specs.Tree.{Int, plain, negated, Atom, literal, variable, Term, Expr, Cond, only, or, Conj, just, and}
 use Rattle.syntax.specs.Tree.{Simple, negation, bracketed, constant, compare, Block, end, then, Stmt, assign, if-then}

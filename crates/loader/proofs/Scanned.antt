@@ -8,7 +8,7 @@ use lib.Dec.{ltb}
 use borrow.Author.Tests.{ltb-true, ltb-false, le-ltb}
 use Rattle.syntax.specs.Token.{Token}
 use Rattle.syntax.specs.Decide.Scan.{Tokens, tokens, none-at, tokenize}
-use Rattle.syntax.specs.Spelling.{Rising}
+use Rattle.syntax.proofs.Scanning.{Rising}
 use Rattle.syntax.proofs.Scanning.{token-stands, tokens-rise}
 use Rattle.syntax.specs.Held.Kind.{kindOf, valueOf, Words}
 use Rattle.meaning.specs.Answer.{answer, refused}

@@ -9,7 +9,8 @@ use mathlib.Core.Option.{none, Option·some-injective}
 use lib.IntN.{ℤ}
 use Rattle.syntax.specs.Bytes.{sameBytes}
 use Rattle.syntax.specs.Tree.{Expr, Cond, Block, end, then, Stmt, assign, if-then, if-else, Region, Var, Monitor, all}
-use Rattle.meaning.specs.Value.{inRange, assigned, exprValue, truth, andThen, runBlock, runStmt}
+use Rattle.meaning.specs.Value.{inRange, exprValue, truth}
+use Rattle.meaning.specs.Decide.Bodies.{assigned, andThen, runBlock, runStmt}
 use Rattle.meaning.specs.Kept.{keptAt}
 use Rattle.meaning.specs.Accepted.{State, no-values, one-value, Assigns, here, later, BlockRuns, ends, goes-on}
 use Rattle.meaning.specs.Accepted.{StmtRuns, assigns, if-true, if-false, else-true, else-false, Keeps}

@@ -9,7 +9,8 @@ use mathlib.Core.List.{List, [], _∷_, _++_, append-assoc, append-nil}
 use lib.ListN.{length, getD, drop}
 use lib.Seq.{getD-at}
 use Rattle.syntax.specs.Token.{Lexeme, name, key, mark, lbrace, rbrace, semicolon, Keyword, k-monitor, k-var, k-keep}
-use Rattle.syntax.specs.Token.{Token, lexemes, isKey, keywordNumber}
+use Rattle.syntax.specs.Token.{Token, lexemes}
+use Rattle.syntax.specs.Decide.Lexeme.{isKey, keywordNumber}
 use Rattle.syntax.specs.Tree.{Int, plain, negated, Var, Monitor, all, spellInt, each, spellVar, spellCond, spellMethod}
 use Rattle.syntax.specs.Tree.{spell}
 use Rattle.meaning.specs.Decide.Check.{placesOf}

@@ -12,7 +12,7 @@ use lib.Seq.{append-snoc}
 use lib.Dec.{leb}
 use Rattle.syntax.specs.Bytes.{sameBytes}
 use Rattle.syntax.specs.Token.{Lexeme, name, key, number, mark, Keyword, k-monitor, k-var, k-method, k-waituntil, Token}
-use Rattle.syntax.specs.Token.{isKey}
+use Rattle.syntax.specs.Decide.Lexeme.{isKey}
 use Rattle.meaning.specs.Accepted.{opens, closes}
 use Rattle.meaning.specs.Decide.Check.{tally, crowded, pastLimit, member, misnamed}
 use Rattle.meaning.specs.Accepted.{NoneOffends, FirstOffends, howMany, Crowded, PastLimit, Behind, Declared}

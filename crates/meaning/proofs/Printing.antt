@@ -25,15 +25,19 @@ use Rattle.meaning.specs.State.{size, count, stateAt, numberOf, starts}
 use Rattle.meaning.specs.Kept.{keptAt}
 use Rattle.meaning.specs.Decide.Frames.{linesFrom, isHex, hexValue, allHex, pairAt, isFrame, frameOf, prepend}
 use Rattle.meaning.specs.Decide.Frames.{framesFrom, framesOf}
-use Rattle.meaning.specs.Value.{intOf, negative, less, compares, valueOf, inRange, assigned, atomValue, joined}
-use Rattle.meaning.specs.Value.{termsValue, exprValue, truth, conjTruth, simpleTruth, andThen, runBlock, runStmt}
-use Rattle.meaning.specs.Value.{outcome}
-use Rattle.syntax.specs.Bytes.{bytes, between, blank, letter, digit, wordByte, leading, decimal, sameBytes, startsWith}
+use Rattle.meaning.specs.Value.{intOf, negative, less, compares, valueOf, inRange, atomValue, joined}
+use Rattle.meaning.specs.Decide.Bodies.{assigned}
+use Rattle.meaning.specs.Value.{termsValue, exprValue, truth, conjTruth, simpleTruth}
+use Rattle.meaning.specs.Decide.Bodies.{andThen, runBlock, runStmt}
+use Rattle.meaning.specs.Decide.Bodies.{outcome}
+use Rattle.syntax.specs.Bytes.{bytes, between, blank, letter, digit, wordByte, decimal, sameBytes}
+use Rattle.syntax.specs.Decide.Leading.{leading, startsWith}
 use Rattle.syntax.specs.Decide.Reading.{onwards, _>>=_, give, begins, rest, choose, expect, readName, readNumber}
 use Rattle.syntax.specs.Decide.Reading.{readMany, readSome, readInt, readAtom, readSign, readTerm, isSign, readExpr}
 use Rattle.syntax.specs.Decide.Reading.{readComparison, readCond, readConj, readSimple, readBlock, readStmt, readRegion}
 use Rattle.syntax.specs.Decide.Reading.{readMethod, readVar, atEnd, readMonitor, read}
-use Rattle.syntax.specs.Token.{keywords, marks, lexemes, markNumber, keywordNumber, isMark, isKey, isName}
+use Rattle.syntax.specs.Token.{keywords, marks, lexemes}
+use Rattle.syntax.specs.Decide.Lexeme.{markNumber, keywordNumber, isMark, isKey, isName}
 use Rattle.syntax.specs.Decide.Scan.{wordOf, atMost, markOf, scan, prepend as token-prepend, tokensFrom, tokenize}
 use Rattle.syntax.specs.Tree.{spellInt, spellAtom, signMark, spellTerm, each, spellExpr, comparisonMark, spellConstant}
 use Rattle.syntax.specs.Tree.{spellCond, spellConj, spellSimple, spellBlock, spellStmt, spellRegion, spellMethod}

@@ -8,7 +8,8 @@ use mathlib.Core.List.{List, [], _∷_, _++_, append-assoc}
 use lib.ListN.{length, drop, length-append}
 use lib.Dec.{ltb}
 use Rattle.syntax.specs.Token.{Lexeme, name, key, mark, lbrace, rbrace, semicolon, Keyword, k-monitor, k-var, k-keep}
-use Rattle.syntax.specs.Token.{k-method, k-waituntil, Token, lexemes, isKey, keywordNumber}
+use Rattle.syntax.specs.Token.{k-method, k-waituntil, Token, lexemes}
+use Rattle.syntax.specs.Decide.Lexeme.{isKey, keywordNumber}
 use Rattle.syntax.specs.Tree.{Cond, Region, Method, Var, Monitor, all, each, spellRegion, spellMethod, spellVar}
 use Rattle.syntax.specs.Tree.{spellCond, spell}
 use Rattle.meaning.specs.Accepted.{regionsOf}

@@ -14,7 +14,8 @@ use lib.IntN.{ℤ}
 use borrow.Author.Tests.{eqb-true, eqb-false}
 use Rattle.syntax.specs.Token.{k-var, k-keep, Token}
 use Rattle.syntax.specs.Tree.{Region, Var, Monitor, all}
-use Rattle.meaning.specs.Value.{truth, outcome}
+use Rattle.meaning.specs.Value.{truth}
+use Rattle.meaning.specs.Decide.Bodies.{outcome}
 use Rattle.meaning.specs.State.{count, stateAt, numberOf, starts}
 use Rattle.meaning.specs.Kept.{keptAt}
 use Rattle.meaning.specs.Answer.{answer, Verdict, accepted, refused}

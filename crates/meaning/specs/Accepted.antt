@@ -10,8 +10,10 @@ use lib.ListN.{length, getElem?}
 use lib.IntN.{ℤ, pos, negℤ}
 use Rattle.syntax.specs.Limits.{mostBytes, mostTokens, mostOpen, mostVars, mostMethods}
 use Rattle.machine.specs.Limits.{mostRegions, mostStates}
-use Rattle.syntax.specs.Token.{Lexeme, name, key, Keyword, k-monitor, k-var, k-method, k-waituntil, Token, isKey}
-use Rattle.syntax.specs.Token.{lbrace, rbrace, lparen, rparen, lexemes, isMark}
+use Rattle.syntax.specs.Token.{Lexeme, name, key, Keyword, k-monitor, k-var, k-method, k-waituntil, Token}
+use Rattle.syntax.specs.Decide.Lexeme.{isKey}
+use Rattle.syntax.specs.Token.{lbrace, rbrace, lparen, rparen, lexemes}
+use Rattle.syntax.specs.Decide.Lexeme.{isMark}
 use Rattle.syntax.specs.Tree.{Expr, Cond, Block, end, then, Stmt, assign, if-then, if-else, Region, Var, Monitor, all}
 use Rattle.syntax.specs.Tree.{Method, spell}
 use Rattle.meaning.specs.Value.{intOf, less, inRange, truth, exprValue}

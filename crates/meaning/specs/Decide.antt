@@ -1,4 +1,5 @@
 -- Readings that compute, each tied by a theorem of `proofs/` or of `demands` to the words beside this folder.
+pub mod Bodies
 pub mod Check
 pub mod Table
 pub mod Frames

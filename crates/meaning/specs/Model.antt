@@ -7,10 +7,12 @@ use lib.ListN.{length, getD}
 use lib.Dec.{eqb, ltb, leb}
 use lib.IntN.{ℤ}
 use Rattle.syntax.specs.Bytes.{sameBytes}
-use Rattle.syntax.specs.Token.{Lexeme, name, key, number, mark, isMark, isKey}
+use Rattle.syntax.specs.Token.{Lexeme, name, key, number, mark}
+use Rattle.syntax.specs.Decide.Lexeme.{isMark, isKey}
 use Rattle.syntax.specs.Tree.{Cond, only, just, constant, end, Region, Method, Var, Monitor, all, spellCond}
 use Rattle.machine.specs.Monitor as machine
-use Rattle.meaning.specs.Value.{truth, outcome}
+use Rattle.meaning.specs.Value.{truth}
+use Rattle.meaning.specs.Decide.Bodies.{outcome}
 use Rattle.meaning.specs.State.{count, stateAt, numberOf}
 use Rattle.meaning.specs.Kept.{keptAt}
 use Rattle.meaning.specs.Accepted.{regionsOf}

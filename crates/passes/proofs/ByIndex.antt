@@ -12,7 +12,8 @@ use lib.Seq.{take-suc, drop-cons}
 use lib.Dec.{leb, eqb}
 use borrow.Author.Tests.{leb-false}
 use Rattle.syntax.specs.Token.{Lexeme, name, number, mark, lbrace, rbrace, lparen, rparen, Token, k-var, k-method}
-use Rattle.syntax.specs.Token.{k-waituntil, isKey}
+use Rattle.syntax.specs.Token.{k-waituntil}
+use Rattle.syntax.specs.Decide.Lexeme.{isKey}
 use Rattle.syntax.specs.Limits.{mostTokens, mostOpen, mostVars, mostMethods}
 use Rattle.machine.specs.Limits.{mostRegions}
 use Rattle.syntax.specs.Held.Kind.{kindOf, valueOf, Words}

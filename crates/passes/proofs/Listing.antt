@@ -10,7 +10,8 @@ use lib.ListN.{length, take, drop, getD, set, length-append, length-map, drop-of
 use lib.Seq.{length-take-le, take-all, set-at, append-snoc}
 use lib.Dec.{eqb}
 use Rattle.syntax.specs.Limits.{mostVars, mostMethods}
-use Rattle.syntax.specs.Token.{Lexeme, name, key, number, mark, Token, k-var, Keyword, isKey, isName}
+use Rattle.syntax.specs.Token.{Lexeme, name, key, number, mark, Token, k-var, Keyword}
+use Rattle.syntax.specs.Decide.Lexeme.{isKey, isName}
 use Rattle.syntax.specs.Held.Kind.{kindOf, valueOf, nameKind, numberKind, Words}
 use Rattle.logic.proofs.Bools.{split}
 use Rattle.meaning.specs.Decide.Check.{tally, pastLimit}

@@ -10,7 +10,8 @@ use lib.ListN.{length, drop, getD, length-append, length-reverse}
 use lib.Dec.{eqb}
 use Rattle.syntax.specs.Limits.{mostVars, mostMethods}
 use Rattle.syntax.specs.Bytes.{sameBytes}
-use Rattle.syntax.specs.Token.{Lexeme, name, key, number, mark, Token, k-var, k-method, isKey}
+use Rattle.syntax.specs.Token.{Lexeme, name, key, number, mark, Token, k-var, k-method}
+use Rattle.syntax.specs.Decide.Lexeme.{isKey}
 use Rattle.syntax.specs.Held.Kind.{kindOf, nameKind, numberKind, Words}
 use Rattle.syntax.proofs.Lexemes.{decides-key}
 use Rattle.logic.proofs.Bools.{different}

@@ -7,7 +7,8 @@ use mathlib.Core.Option.{Option, none, some}
 use lib.ListN.{length, take, drop, getD}
 use Rattle.syntax.specs.Bytes.{sameBytes}
 use Rattle.syntax.specs.Limits.{mostMethods}
-use Rattle.syntax.specs.Token.{Lexeme, name, key, number, mark, k-monitor, k-var, k-method, Token, isKey}
+use Rattle.syntax.specs.Token.{Lexeme, name, key, number, mark, k-monitor, k-var, k-method, Token}
+use Rattle.syntax.specs.Decide.Lexeme.{isKey}
 use Rattle.syntax.specs.Held.Kind.{kindOf}
 use Rattle.meaning.specs.Decide.Check.{member}
 use Rattle.passes.specs.declared.Names.{Names}

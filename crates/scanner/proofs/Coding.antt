@@ -9,7 +9,8 @@ use native.Mathlib.Omega.{arith}
 use lib.ListN.{length, take, drop, getD, length-drop}
 use lib.Dec.{leb}
 use borrow.Author.Tests.{leb-true, leb-false}
-use Rattle.syntax.specs.Bytes.{letter, digit, wordByte, leading, decimal}
+use Rattle.syntax.specs.Bytes.{letter, digit, wordByte, decimal}
+use Rattle.syntax.specs.Decide.Leading.{leading}
 use Rattle.syntax.specs.Token.{Lexeme, number, mark, keywords}
 use Rattle.syntax.specs.Decide.Scan.{Scan, nothing, found, scan, wordOf}
 use Rattle.scanner.specs.Step.{keyCode, tokenOf, wordAt, numberAt}

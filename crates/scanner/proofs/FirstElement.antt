@@ -9,7 +9,8 @@ use lib.ListN.{length, take, drop, getD, drop-of-length-le}
 use lib.Seq.{drop-cons}
 use lib.Dec.{leb, eqb}
 use borrow.Author.Tests.{leb-true}
-use Rattle.syntax.specs.Bytes.{leading, digit, between, decimal, sameBytes}
+use Rattle.syntax.specs.Decide.Leading.{leading}
+use Rattle.syntax.specs.Bytes.{digit, between, decimal, sameBytes}
 
 -- a case distinction on a Boolean that keeps the equation
 pub by-cases : {A : Type 0} (b : Bool) → (b ≡ true → A) → (b ≡ false → A) → A

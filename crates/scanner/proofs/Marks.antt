@@ -12,8 +12,10 @@ use lib.ListN.{length, drop, getD}
 use lib.Seq.{drop-cons, getD-drop}
 use lib.Dec.{eqb}
 use borrow.Author.Tests.{ne-eqb, not-true}
-use Rattle.syntax.specs.Bytes.{bytes, startsWith}
-use Rattle.syntax.specs.Token.{Mark, marks, markNumber, mark, equals, bang, below, above}
+use Rattle.syntax.specs.Bytes.{bytes}
+use Rattle.syntax.specs.Decide.Leading.{startsWith}
+use Rattle.syntax.specs.Token.{Mark, marks, mark, equals, bang, below, above}
+use Rattle.syntax.specs.Decide.Lexeme.{markNumber}
 use Rattle.syntax.specs.Held.Kind.{kindOf}
 use Rattle.syntax.specs.Decide.Scan.{Scan, markOf, nothing, found}
 use Rattle.scanner.specs.Step.{marked, tokenOf, stepOf, stepTo}

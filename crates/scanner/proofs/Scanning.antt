@@ -10,8 +10,10 @@ use lib.ListN.{length, take, drop, getD, drop-of-length-le}
 use lib.Seq.{drop-cons, length-take-le}
 use lib.Dec.{eqb}
 use borrow.Author.Tests.{le-leb, lt-leb, eqb-true}
-use Rattle.syntax.specs.Bytes.{bytes, letter, digit, leading, sameBytes}
-use Rattle.syntax.specs.Token.{Lexeme, Keyword, name, key, keywords, keywordNumber, marks}
+use Rattle.syntax.specs.Bytes.{bytes, letter, digit, sameBytes}
+use Rattle.syntax.specs.Decide.Leading.{leading}
+use Rattle.syntax.specs.Token.{Lexeme, Keyword, name, key, keywords, marks}
+use Rattle.syntax.specs.Decide.Lexeme.{keywordNumber}
 use Rattle.syntax.specs.Decide.Scan.{nothing, found, scan, atMost, wordOf, markOf}
 use Rattle.scanner.specs.Step.{place, keyCode, tokenOf, stepOf, stepTo, wordAt, numberAt}
 use Rattle.scanner.specs.declared.Token.the-variants as token

@@ -8,7 +8,8 @@ use native.Mathlib.Omega.{arith}
 use lib.ListN.{length, take, drop, getD, set, length-append, length-drop, drop-of-length-le}
 use lib.Seq.{drop-drop, take-suc-set}
 use borrow.Author.Tests.{lt-ltb, le-ltb}
-use Rattle.syntax.specs.Bytes.{blank, leading}
+use Rattle.syntax.specs.Bytes.{blank}
+use Rattle.syntax.specs.Decide.Leading.{leading}
 use Rattle.syntax.specs.Token.{Lexeme, Token}
 use Rattle.syntax.specs.Decide.Scan.{Scan, nothing, found, scan, Tokens, tokens, none-at, prepend, tokensFrom, tokenize}
 use Rattle.scanner.specs.Step.{stepOf, stepAt}

@@ -4,9 +4,11 @@ use mathlib.Core.Bool.{Bool, true, false}
 use mathlib.Core.List.{List, [], _∷_}
 use lib.ListN.{take, drop}
 use lib.Dec.{eqb}
-use Rattle.syntax.specs.Bytes.{blank, digit, wordByte, leading, decimal, sameBytes}
+use Rattle.syntax.specs.Bytes.{blank, digit, wordByte, decimal, sameBytes}
+use Rattle.syntax.specs.Decide.Leading.{leading}
 use Rattle.syntax.specs.Limits.{mostWordBytes, mostDigits}
-use Rattle.syntax.specs.Token.{Lexeme, name, key, number, mark, keywordNumber, keywords}
+use Rattle.syntax.specs.Token.{Lexeme, name, key, number, mark, keywords}
+use Rattle.syntax.specs.Decide.Lexeme.{keywordNumber}
 use Rattle.syntax.specs.Held.Kind.{kindOf, keywordCount}
 use Rattle.syntax.specs.Decide.Scan.{nothing, found, scan, atMost, wordOf}
 use Rattle.syntax.specs.Decide.Scan as syntax

@@ -16,7 +16,8 @@ use Rattle.syntax.proofs.Grammar.{one-cond}
 use Rattle.logic.specs.Tests.{bit}
 use Rattle.logic.proofs.Bools.{both, and, split, clash, true-not, tests-equal, no-some}
 use Rattle.machine.specs.Decide.Table.{runs}
-use Rattle.meaning.specs.Value.{truth, outcome}
+use Rattle.meaning.specs.Value.{truth}
+use Rattle.meaning.specs.Decide.Bodies.{outcome}
 use Rattle.meaning.specs.State.{count, stateAt, numberOf}
 use Rattle.meaning.specs.Kept.{keptAt}
 use Rattle.meaning.specs.Decide.Check.{keptAfter, breaks, broken}

@@ -14,7 +14,7 @@ use borrow.Author.Tests.{eqb-true, eqb-false, eq-eqb, ne-eqb, lt-ltb}
 use Rattle.sets.specs.Set.{member}
 use Rattle.syntax.specs.Tree.{Var, Region}
 use Rattle.logic.specs.Tests.{bit}
-use Rattle.meaning.specs.Value.{outcome}
+use Rattle.meaning.specs.Decide.Bodies.{outcome}
 use Rattle.meaning.specs.State.{count, stateAt, numberOf}
 use Rattle.meaning.specs.Accepted.{State, GoodRanges}
 use Rattle.logic.proofs.Bools.{split, clash, is-false}

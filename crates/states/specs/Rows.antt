@@ -12,7 +12,8 @@ use Rattle.syntax.specs.Token.{Lexeme, mark, rbrace}
 use Rattle.syntax.specs.Tree.{Var, Region, Monitor, spellCond, spellBlock}
 use Rattle.logic.specs.Tests.{bit}
 use Rattle.machine.specs.Decide.Table.{runs}
-use Rattle.meaning.specs.Value.{truth, outcome}
+use Rattle.meaning.specs.Value.{truth}
+use Rattle.meaning.specs.Decide.Bodies.{outcome}
 use Rattle.meaning.specs.State.{count, stateAt, numberOf}
 use Rattle.meaning.specs.Model.{vars, regions, guards, region, guardOf, noGuard, kept, holds, after, model}
 use Rattle.evaluator.specs.Coding.{EndsCond}

@@ -7,8 +7,9 @@ use mathlib.Core.List.{List}
 use native.Mathlib.Omega.{arith}
 use lib.Dec.{eqb, lit<}
 use borrow.Author.Tests.{eqb-true, eqb-false, eq-eqb, ne-eqb}
-use Rattle.syntax.specs.Token.{Lexeme, name, key, number, mark, Mark, Keyword, markNumber, keywordNumber}
-use Rattle.syntax.specs.Token.{isMark, isKey, isName}
+use Rattle.syntax.specs.Token.{Lexeme, name, key, number, mark, Mark, Keyword}
+use Rattle.syntax.specs.Decide.Lexeme.{markNumber, keywordNumber}
+use Rattle.syntax.specs.Decide.Lexeme.{isMark, isKey, isName}
 use Rattle.syntax.specs.Token as token
 use Rattle.syntax.specs.Held.Kind.{kindOf, valueOf, nameKind, numberKind, firstMark, firstKeyword, keywordCount}
 use Rattle.syntax.specs.Held.Kind.{kindsEnd}

@@ -14,8 +14,9 @@ use borrow.Author.Tests.{eqb-true, eq-eqb}
 use Rattle.syntax.specs.Token.{Lexeme, name, key, number, mark, Mark, Keyword, lbrace, rbrace, lparen, rparen}
 use Rattle.syntax.specs.Token.{semicolon, equals, dots, becomes, same, differs, below, at-most, above, at-least}
 use Rattle.syntax.specs.Token.{plus, minus, bang, and-and, or-or, k-monitor, k-var, k-in, k-keep, k-method}
-use Rattle.syntax.specs.Token.{k-waituntil, k-if, k-else, k-true, k-false, isMark, isKey, isName, markNumber}
-use Rattle.syntax.specs.Token.{keywordNumber}
+use Rattle.syntax.specs.Token.{k-waituntil, k-if, k-else, k-true, k-false}
+use Rattle.syntax.specs.Decide.Lexeme.{isMark, isKey, isName, markNumber}
+use Rattle.syntax.specs.Decide.Lexeme.{keywordNumber}
 use Rattle.syntax.specs.Tree.{Int, plain, negated, Atom, literal, variable, Sign, added, taken, Term, Expr}
 use Rattle.syntax.specs.Tree.{Comparison, eq, ne, lt, le, gt, ge, Cond, only, or, Conj, just, and, Simple}
 use Rattle.syntax.specs.Tree.{negation, bracketed, constant, compare, Block, end, then, Stmt, assign, if-then}

@@ -11,8 +11,9 @@ use Rattle.syntax.specs.Bytes.{sameBytes}
 use Rattle.syntax.specs.Token.{Lexeme, name, key, number, mark, Mark, lbrace, rbrace, lparen, rparen, semicolon}
 use Rattle.syntax.specs.Token.{equals, dots, becomes, same, differs, below, at-most, above, at-least, plus, minus}
 use Rattle.syntax.specs.Token.{bang, and-and, or-or, Keyword, k-monitor, k-var, k-in, k-keep, k-method}
-use Rattle.syntax.specs.Token.{k-waituntil, k-if, k-else, k-true, k-false, markNumber, keywordNumber, isMark}
-use Rattle.syntax.specs.Token.{isKey}
+use Rattle.syntax.specs.Token.{k-waituntil, k-if, k-else, k-true, k-false}
+use Rattle.syntax.specs.Decide.Lexeme.{markNumber, keywordNumber, isMark}
+use Rattle.syntax.specs.Decide.Lexeme.{isKey}
 use Rattle.logic.proofs.Bools.{Decides, decides-and, decides-by}
 
 pub decides-same : (x y : List ℕ) → Decides (sameBytes x y) (x ≡ y)

@@ -12,13 +12,21 @@ use lib.ListN.{length, take, drop, getD, length-drop}
 use lib.Seq.{length-take-le, take-length, drop-drop, getD-drop}
 use lib.Dec.{leb, eqb}
 use borrow.Author.Tests.{leb-true, leb-false, le-leb, lt-leb, eqb-true, eq-eqb, ne-eqb, not-true}
-use Rattle.syntax.specs.Bytes.{bytes, between, blank, letter, digit, wordByte, leading, decimal, sameBytes}
-use Rattle.syntax.specs.Bytes.{startsWith}
+use Rattle.syntax.specs.Bytes.{bytes, between, blank, letter, digit, wordByte, decimal, sameBytes}
+use Rattle.syntax.specs.Decide.Leading.{leading}
+use Rattle.syntax.specs.Decide.Leading.{startsWith}
 use Rattle.syntax.specs.Token.{Mark, Keyword, Lexeme, name, key, number, mark, Token, keywords, marks}
 use Rattle.syntax.specs.Decide.Scan.{wordOf, Scan, nothing, found, atMost, markOf, scan, Tokens, tokens, none-at}
 use Rattle.syntax.specs.Decide.Scan.{prepend, tokensFrom, tokenize}
 use Rattle.syntax.specs.Spelling.{Every, Run, Word, Digits, Listed, TokenShape, Spells, Longest, BeginsNone}
-use Rattle.syntax.specs.Spelling.{no-token, long-word, long-number, Cover, Stops, Rising}
+use Rattle.syntax.specs.Spelling.{no-token, long-word, long-number, Cover, Stops}
+use Rattle.syntax.specs.Spelling.{a-mark, a-number, a-word, done, here, marked, named, reserved, skip, token}
+use Rattle.syntax.specs.Spelling.{valued}
+
+-- the places of tokens rise, from a first that they may have
+abbrev pub Rising : ℕ → List Token → Type 0
+Rising from [] = Unit {0}
+Rising from (t ∷ ts) = (from ≤ t .at) × Rising (suc (t .at)) ts
 
 -- Tests
 

@@ -1,5 +1,5 @@
--- Bytes: the classes that document 01 names, texts as bytes, and what stands at the front of a list of bytes.
-use Prim.Native.Nat.{ℕ, suc, _+_, _*_, _-_}
+-- Bytes: the classes that document 01 names, texts as bytes, and equal bytes.
+use Prim.Native.Nat.{ℕ, _+_, _*_, _-_}
 use Prim.Native.Char.{Char, code}
 use Prim.Native.String.{String}
 use Prim.Native.String as text
@@ -31,11 +31,6 @@ digit b = between "0" "9" b
 unfoldable pub wordByte : ℕ → Bool
 wordByte b = letter b || digit b || eqb b (code "_")
 
--- how many bytes at the front pass a test
-unfoldable pub leading : (ℕ → Bool) → List ℕ → ℕ
-leading p [] = 0
-leading p (b ∷ bs) = elim (p b) [ true ↦ suc (leading p bs) | false ↦ 0 ]
-
 -- the value of decimal digits, with what stands before them (R 1.11)
 unfoldable pub decimal : ℕ → List ℕ → ℕ
 decimal n [] = n
@@ -47,9 +42,3 @@ sameBytes [] [] = true
 sameBytes [] (b ∷ bs) = false
 sameBytes (a ∷ as′) [] = false
 sameBytes (a ∷ as′) (b ∷ bs) = eqb a b && sameBytes as′ bs
-
--- the first list begins the second
-unfoldable pub startsWith : List ℕ → List ℕ → Bool
-startsWith [] bs = true
-startsWith (a ∷ as′) [] = false
-startsWith (a ∷ as′) (b ∷ bs) = eqb a b && startsWith as′ bs

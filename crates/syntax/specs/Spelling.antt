@@ -1,6 +1,6 @@
 -- What bytes spell a token, in the words of document 01: the shapes of tokens, the lexeme that a shape spells, the
 -- longest token at a place, and a file that is made up of tokens and blanks.
-use Prim.Native.Nat.{ℕ, suc, _+_, _≤_, _<_}
+use Prim.Native.Nat.{ℕ, _+_, _≤_, _<_}
 use Prim.Native.String.{String}
 use mathlib.Core.Bool.{Bool, true, false}
 use mathlib.Core.List.{List, [], _∷_, List·Memᴰ}
@@ -72,8 +72,3 @@ pub data Stops (k : ℕ) : ℕ → List ℕ → Type 0 where
   skip : {at b : ℕ} {bs : List ℕ} → blank b ≡ true → Stops k (at + 1) bs → Stops k at (b ∷ bs)
   token : {at n : ℕ} {l : Lexeme} {bs : List ℕ} → Longest bs n → Spells (take n bs) l → Stops k (at + n) (drop n bs)
       → Stops k at bs
-
--- the places of tokens rise, from a first that they may have
-abbrev pub Rising : ℕ → List Token → Type 0
-Rising from [] = Unit {0}
-Rising from (t ∷ ts) = (from ≤ t .at) × Rising (suc (t .at)) ts

@@ -1,9 +1,7 @@
 -- Tokens: what they are, and the texts of the reserved words and marks ("Tokens are words, numbers and marks").
 use Prim.Native.Nat.{ℕ}
 use Prim.Native.String.{String}
-use mathlib.Core.Bool.{Bool, true, false}
 use mathlib.Core.List.{List, [], _∷_}
-use lib.Dec.{eqb}
 
 -- the nineteen marks (R 1.12)
 pub data Mark : Type 0 where
@@ -43,55 +41,3 @@ marks =
 unfoldable pub lexemes : List Token → List Lexeme
 lexemes [] = []
 lexemes (t ∷ ts) = t .lexeme ∷ lexemes ts
-
--- marks and keywords by number, to compare them
-unfoldable pub markNumber : Mark → ℕ
-markNumber lbrace = 0
-markNumber rbrace = 1
-markNumber lparen = 2
-markNumber rparen = 3
-markNumber semicolon = 4
-markNumber equals = 5
-markNumber dots = 6
-markNumber becomes = 7
-markNumber same = 8
-markNumber differs = 9
-markNumber below = 10
-markNumber at-most = 11
-markNumber above = 12
-markNumber at-least = 13
-markNumber plus = 14
-markNumber minus = 15
-markNumber bang = 16
-markNumber and-and = 17
-markNumber or-or = 18
-
-unfoldable pub keywordNumber : Keyword → ℕ
-keywordNumber k-monitor = 0
-keywordNumber k-var = 1
-keywordNumber k-in = 2
-keywordNumber k-keep = 3
-keywordNumber k-method = 4
-keywordNumber k-waituntil = 5
-keywordNumber k-if = 6
-keywordNumber k-else = 7
-keywordNumber k-true = 8
-keywordNumber k-false = 9
-
-unfoldable pub isMark : Mark → Lexeme → Bool
-isMark m (name x) = false
-isMark m (key k) = false
-isMark m (number n) = false
-isMark m (mark o) = eqb (markNumber m) (markNumber o)
-
-unfoldable pub isKey : Keyword → Lexeme → Bool
-isKey k (name x) = false
-isKey k (key j) = eqb (keywordNumber k) (keywordNumber j)
-isKey k (number n) = false
-isKey k (mark o) = false
-
-unfoldable pub isName : Lexeme → Bool
-isName (name x) = true
-isName (key k) = false
-isName (number n) = false
-isName (mark m) = false

@@ -4,7 +4,8 @@ use native.Mathlib.Omega.{arith}
 use mathlib.Core.Path.{_≡_, refl, sym, ap, _∙_}
 use mathlib.Core.List.{List, _∷_, _++_, append-assoc}
 use lib.ListN.{length, getD, drop, length-append}
-use Rattle.syntax.specs.Token.{Lexeme, name, key, number, mark, minus, equals, dots, semicolon, k-var, k-in, markNumber}
+use Rattle.syntax.specs.Token.{Lexeme, name, key, number, mark, minus, equals, dots, semicolon, k-var, k-in}
+use Rattle.syntax.specs.Decide.Lexeme.{markNumber}
 use Rattle.syntax.specs.Held.Kind.{kindOf}
 use Rattle.syntax.specs.Tree.{Int, plain, negated, Var, spellInt, spellVar}
 use Rattle.meaning.specs.Value.{intOf}

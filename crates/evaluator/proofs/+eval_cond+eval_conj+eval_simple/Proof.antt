@@ -7,7 +7,8 @@ use native.Mathlib.Omega.{arith}
 use mathlib.Core.Path.{sym, refl, _∙_}
 use mathlib.Core.Bool.{true, false}
 use lib.ListN.{length}
-use Rattle.syntax.specs.Token.{mark, lparen, bang, and-and, or-or, markNumber, keywordNumber}
+use Rattle.syntax.specs.Token.{mark, lparen, bang, and-and, or-or}
+use Rattle.syntax.specs.Decide.Lexeme.{markNumber, keywordNumber}
 use Rattle.syntax.specs.Held.Kind.{kindOf}
 use Rattle.evaluator.proofs.Places.{kind-within}
 use Rattle.evaluator.proofs.Readings.{simple-not, simple-bracketed, simple-constant, constantKind}

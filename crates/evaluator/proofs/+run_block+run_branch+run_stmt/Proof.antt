@@ -6,7 +6,8 @@ use Prim.Native.Nat.{ℕ, _+_, _-_, _*_, _<_}
 use native.Mathlib.Omega.{arith}
 use mathlib.Core.Path.{sym, refl, _∙_}
 use lib.ListN.{length}
-use Rattle.syntax.specs.Token.{key, mark, rbrace, k-if, markNumber, keywordNumber}
+use Rattle.syntax.specs.Token.{key, mark, rbrace, k-if}
+use Rattle.syntax.specs.Decide.Lexeme.{markNumber, keywordNumber}
 use Rattle.syntax.specs.Held.Kind.{kindOf, nameKind, noKind}
 use Rattle.evaluator.proofs.Places.{apart, kind-here}
 use Rattle.evaluator.proofs.Readings.{near-more}

@@ -1,7 +1,7 @@
 -- `evaluator::compare` meets its contract: at each return the tests that led there choose the case of `testOf`.
 use borrow.Author.Tests.{eq-eqb, ne-eqb}
 use Rattle.syntax.specs.Held.Kind.{kindOf}
-use Rattle.syntax.specs.Token.{markNumber, keywordNumber}
+use Rattle.syntax.specs.Decide.Lexeme.{markNumber, keywordNumber}
 use Rattle.evaluator.specs.Promises.{testOf}
 use Rattle.evaluator.proofs.compare.Statement.{statement}
 use Rattle.evaluator.proofs.compare.Tie as tie

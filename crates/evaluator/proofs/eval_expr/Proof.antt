@@ -7,7 +7,8 @@ use mathlib.Core.Logic.{⊎-elim}
 use lib.ListN.{length, getD}
 use borrow.Author.Needs.{needs}
 use Rattle.syntax.specs.Held.Kind.{kindOf, noKind}
-use Rattle.syntax.specs.Token.{markNumber, mark, keywordNumber}
+use Rattle.syntax.specs.Decide.Lexeme.{markNumber, keywordNumber}
+use Rattle.syntax.specs.Token.{mark}
 use Rattle.syntax.specs.Tree.{signMark}
 use Rattle.evaluator.specs.Promises.{signOf}
 use Rattle.evaluator.proofs.Readings.{past-sign, Open, open-first, open-last, open-more}

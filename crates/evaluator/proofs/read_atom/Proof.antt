@@ -3,7 +3,7 @@ use native.Mathlib.Omega.{arith}
 use mathlib.Core.Path.{sym, _∙_}
 use borrow.Author.Needs.{needs}
 use Rattle.syntax.specs.Held.Kind.{kindOf}
-use Rattle.syntax.specs.Token.{markNumber, keywordNumber}
+use Rattle.syntax.specs.Decide.Lexeme.{markNumber, keywordNumber}
 use Rattle.evaluator.proofs.Readings.{atom-name, atom-minus, atom-number}
 use Rattle.evaluator.proofs.read_atom.Statement.{statement}
 use Rattle.evaluator.proofs.read_atom.Tie as tie

@@ -5,8 +5,9 @@ use Rattle.grammar.proofs.Readers.{then, done, yes, no, passes, fuelled
 use Rattle.grammar.proofs.KindTests.{by-mark, by-key, took-mark, took-key, took-name}
 use Rattle.syntax.specs.Decide.Reading.{readBlock, readStmt}
 use Rattle.syntax.specs.Tree.{only, just, constant, end, if-then}
-use Rattle.syntax.specs.Token.{lbrace, rbrace, lparen, rparen, semicolon, becomes, k-if, k-else, markNumber}
-use Rattle.syntax.specs.Token.{keywordNumber}
+use Rattle.syntax.specs.Token.{lbrace, rbrace, lparen, rparen, semicolon, becomes, k-if, k-else}
+use Rattle.syntax.specs.Decide.Lexeme.{markNumber}
+use Rattle.syntax.specs.Decide.Lexeme.{keywordNumber}
 use Rattle.syntax.specs.Held.Kind.{kindOf}
 use borrow.Author.Needs.{needs}
 use native.Mathlib.Omega.{arith}

@@ -5,7 +5,8 @@ use Rattle.grammar.proofs.Readers.{then, done, yes, no, fuelled, spent}
 use Rattle.grammar.proofs.KindTests.{by-mark, by-key, took-mark, took-key, took-comparison}
 use Rattle.syntax.specs.Decide.Reading.{readCond, readConj, readSimple}
 use Rattle.syntax.specs.Tree.{only, just, constant}
-use Rattle.syntax.specs.Token.{lparen, rparen, bang, and-and, or-or, k-true, k-false, markNumber, keywordNumber}
+use Rattle.syntax.specs.Token.{lparen, rparen, bang, and-and, or-or, k-true, k-false}
+use Rattle.syntax.specs.Decide.Lexeme.{markNumber, keywordNumber}
 use Rattle.syntax.specs.Held.Kind.{kindOf}
 use native.Mathlib.Omega.{arith}
 use Prim.Native.Nat.{ℕ, _<_}

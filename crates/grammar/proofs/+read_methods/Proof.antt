@@ -4,7 +4,8 @@ use mathlib.Core.List.{[]}
 use Rattle.grammar.proofs.Readers.{then, done, yes, no, fuelled, spent}
 use Rattle.grammar.proofs.KindTests.{by-key}
 use Rattle.syntax.specs.Decide.Reading.{readMany, readMethod}
-use Rattle.syntax.specs.Token.{isKey, k-method, keywordNumber}
+use Rattle.syntax.specs.Decide.Lexeme.{isKey, keywordNumber}
+use Rattle.syntax.specs.Token.{k-method}
 use Rattle.syntax.specs.Held.Kind.{kindOf}
 use native.Mathlib.Omega.{arith}
 use Prim.Native.Nat.{ℕ, _<_}

@@ -4,7 +4,7 @@ use mathlib.Core.List.{[]}
 use Rattle.grammar.proofs.Readers.{then, done, yes, no, fuelled, spent}
 use Rattle.grammar.proofs.KindTests.{by-sign, took-sign}
 use Rattle.syntax.specs.Decide.Reading.{readMany, readTerm, isSign}
-use Rattle.syntax.specs.Token.{markNumber}
+use Rattle.syntax.specs.Decide.Lexeme.{markNumber}
 use Rattle.syntax.specs.Held.Kind.{kindOf}
 use native.Mathlib.Omega.{arith}
 use Prim.Native.Nat.{ℕ, _<_}

@@ -2,7 +2,8 @@
 use Rattle.grammar.proofs.Readers.{then, done, yes, no}
 use Rattle.grammar.proofs.KindTests.{by-mark, took-mark, took-number}
 use Rattle.syntax.specs.Decide.Reading.{readInt}
-use Rattle.syntax.specs.Token.{minus, markNumber}
+use Rattle.syntax.specs.Token.{minus}
+use Rattle.syntax.specs.Decide.Lexeme.{markNumber}
 use Rattle.syntax.specs.Held.Kind.{kindOf}
 use Rattle.grammar.proofs.read_int.Statement.{statement}
 use Rattle.grammar.proofs.read_int.Tie as tie

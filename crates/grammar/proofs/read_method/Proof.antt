@@ -2,7 +2,8 @@
 use Rattle.grammar.proofs.Readers.{then, done}
 use Rattle.grammar.proofs.KindTests.{took-mark, took-key, took-name}
 use Rattle.syntax.specs.Decide.Reading.{readSome, readMethod}
-use Rattle.syntax.specs.Token.{lbrace, rbrace, k-method, markNumber, keywordNumber}
+use Rattle.syntax.specs.Token.{lbrace, rbrace, k-method}
+use Rattle.syntax.specs.Decide.Lexeme.{markNumber, keywordNumber}
 use Rattle.syntax.specs.Held.Kind.{kindOf}
 use Rattle.grammar.proofs.read_method.Statement.{statement}
 use Rattle.grammar.proofs.read_method.Tie as tie

@@ -2,7 +2,8 @@
 use Rattle.grammar.proofs.Readers.{then, done}
 use Rattle.grammar.proofs.KindTests.{took-mark, took-key, took-name}
 use Rattle.syntax.specs.Decide.Reading.{readSome, readMonitor}
-use Rattle.syntax.specs.Token.{lbrace, rbrace, semicolon, k-monitor, k-keep, markNumber, keywordNumber}
+use Rattle.syntax.specs.Token.{lbrace, rbrace, semicolon, k-monitor, k-keep}
+use Rattle.syntax.specs.Decide.Lexeme.{markNumber, keywordNumber}
 use Rattle.syntax.specs.Held.Kind.{kindOf}
 use Rattle.grammar.proofs.read_monitor.Statement.{statement}
 use Rattle.grammar.proofs.read_monitor.Tie as tie

@@ -2,7 +2,8 @@
 use Rattle.grammar.proofs.Readers.{then, done}
 use Rattle.grammar.proofs.KindTests.{took-mark, took-key}
 use Rattle.syntax.specs.Decide.Reading.{readRegion}
-use Rattle.syntax.specs.Token.{lbrace, rbrace, lparen, rparen, k-waituntil, markNumber, keywordNumber}
+use Rattle.syntax.specs.Token.{lbrace, rbrace, lparen, rparen, k-waituntil}
+use Rattle.syntax.specs.Decide.Lexeme.{markNumber, keywordNumber}
 use Rattle.syntax.specs.Held.Kind.{kindOf}
 use Rattle.grammar.proofs.read_region.Statement.{statement}
 use Rattle.grammar.proofs.read_region.Tie as tie

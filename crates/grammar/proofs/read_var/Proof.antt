@@ -2,7 +2,8 @@
 use Rattle.grammar.proofs.Readers.{then, done}
 use Rattle.grammar.proofs.KindTests.{took-mark, took-key, took-name}
 use Rattle.syntax.specs.Decide.Reading.{readVar}
-use Rattle.syntax.specs.Token.{k-var, equals, k-in, dots, semicolon, markNumber, keywordNumber}
+use Rattle.syntax.specs.Token.{k-var, equals, k-in, dots, semicolon}
+use Rattle.syntax.specs.Decide.Lexeme.{markNumber, keywordNumber}
 use Rattle.syntax.specs.Held.Kind.{kindOf}
 use Rattle.grammar.proofs.read_var.Statement.{statement}
 use Rattle.grammar.proofs.read_var.Tie as tie

@@ -4,7 +4,8 @@ use native.Mathlib.Omega.{arith}
 use mathlib.Core.Path.{_≡_, refl, sym, _∙_}
 use mathlib.Core.List.{List}
 use lib.ListN.{length, drop, getD}
-use Rattle.syntax.specs.Token.{Token, lexemes, Lexeme, key, k-waituntil, keywordNumber}
+use Rattle.syntax.specs.Token.{Token, lexemes, Lexeme, key, k-waituntil}
+use Rattle.syntax.specs.Decide.Lexeme.{keywordNumber}
 use Rattle.syntax.specs.Tree.{Region}
 use Rattle.syntax.specs.Held.Kind.{kindOf, noKind, Words}
 use Rattle.layout.specs.Promises.{Flagged, Holds, Grown}

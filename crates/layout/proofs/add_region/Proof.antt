@@ -6,7 +6,8 @@ use mathlib.Core.Path.{_≡_, ap, _∙_}
 use mathlib.Core.Logic.{inl, inr, ⊎-elim}
 use mathlib.Core.List.{map}
 use lib.ListN.{length, drop}
-use Rattle.syntax.specs.Token.{lexemes, markNumber}
+use Rattle.syntax.specs.Token.{lexemes}
+use Rattle.syntax.specs.Decide.Lexeme.{markNumber}
 use Rattle.layout.specs.Places.{toGuard, toBody, past}
 use Rattle.layout.specs.Promises.{flagAt}
 use Rattle.syntax.specs.Held.Kind.{kindOf}

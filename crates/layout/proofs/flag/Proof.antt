@@ -2,7 +2,8 @@
 use borrow.Author.Needs.{needs}
 use borrow.Author.Tests.{eq-eqb, ne-eqb}
 use mathlib.Core.Path.{sym, _∙_}
-use Rattle.syntax.specs.Token.{key, k-waituntil, keywordNumber}
+use Rattle.syntax.specs.Token.{key, k-waituntil}
+use Rattle.syntax.specs.Decide.Lexeme.{keywordNumber}
 use Rattle.syntax.specs.Held.Kind.{kindOf}
 use Rattle.logic.specs.Tests.{bit}
 use Rattle.layout.specs.Promises.{flagAt}

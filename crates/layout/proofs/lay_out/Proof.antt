@@ -5,7 +5,8 @@ use native.Mathlib.Omega.{arith}
 use mathlib.Core.Path.{_≡_, sym, ap, _∙_}
 use mathlib.Core.List.{List}
 use lib.ListN.{length, getD}
-use Rattle.syntax.specs.Token.{Token, lexemes, key, k-method, markNumber, keywordNumber}
+use Rattle.syntax.specs.Token.{Token, lexemes, key, k-method}
+use Rattle.syntax.specs.Decide.Lexeme.{markNumber, keywordNumber}
 use Rattle.syntax.specs.Tree.{Monitor, all, spell}
 use Rattle.meaning.specs.Model.{regions}
 use Rattle.layout.specs.Places.{toKept, past}

@@ -5,7 +5,7 @@ use native.Mathlib.Omega.{arith}
 use mathlib.Core.Path.{_≡_, sym, ap, _∙_}
 use mathlib.Core.Logic.{⊎-elim}
 use lib.ListN.{length, length-map}
-use Rattle.syntax.specs.Token.{markNumber}
+use Rattle.syntax.specs.Decide.Lexeme.{markNumber}
 use Rattle.syntax.specs.Held.Kind.{kindOf}
 use Rattle.layout.specs.Laid.{Kinds}
 use Rattle.layout.proofs.Links.{linkOf, Links, links-none, links-pass, links-store, links-linked}

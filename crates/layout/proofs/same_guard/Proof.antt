@@ -3,7 +3,7 @@ use Prim.Native.Nat.{_-_}
 use native.Mathlib.Omega.{arith}
 use mathlib.Core.Path.{_≡_, sym, _∙_}
 use lib.ListN.{length, drop}
-use Rattle.syntax.specs.Token.{markNumber}
+use Rattle.syntax.specs.Decide.Lexeme.{markNumber}
 use Rattle.syntax.specs.Held.Kind.{kindOf}
 use Rattle.layout.proofs.Closes.{close-within}
 use Rattle.layout.proofs.Closes.{openBracket, shutBracket, bracketEnd}

@@ -11,11 +11,13 @@ use Rattle.syntax.specs.Limits.{mostBytes, mostTokens, mostOpen, mostVars, most
 use Rattle.machine.specs.Limits.{mostRegions, mostStates}
 use Rattle.syntax.specs.Bytes.{sameBytes}
 use Rattle.syntax.specs.Token.{Lexeme, name, key, number, mark, Keyword, k-monitor, k-var, k-keep, k-method}
-use Rattle.syntax.specs.Token.{k-waituntil, Token, lexemes, isKey}
+use Rattle.syntax.specs.Token.{k-waituntil, Token, lexemes}
+use Rattle.syntax.specs.Decide.Lexeme.{isKey}
 use Rattle.syntax.specs.Decide.Scan.{tokens, none-at, tokenize}
 use Rattle.syntax.specs.Tree.{Region, Var, Monitor, all}
 use Rattle.syntax.specs.Decide.Reading.{got, stuck, read}
-use Rattle.meaning.specs.Value.{intOf, less, inRange, truth, outcome}
+use Rattle.meaning.specs.Value.{intOf, less, inRange, truth}
+use Rattle.meaning.specs.Decide.Bodies.{outcome}
 use Rattle.meaning.specs.State.{size, count, stateAt, starts}
 use Rattle.meaning.specs.Kept.{keptAt}
 use Rattle.meaning.specs.Answer.{Verdict, accepted, answer, refused}

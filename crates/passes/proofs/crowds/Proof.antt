@@ -1,7 +1,7 @@
 -- `passes::crowds` is the test of `crowded` at a token.
 use borrow.Author.Needs.{needs}
 use borrow.Author.Tests.{le-leb, lt-leb}
-use Rattle.syntax.specs.Token.{markNumber}
+use Rattle.syntax.specs.Decide.Lexeme.{markNumber}
 use Rattle.syntax.specs.Limits.{mostTokens}
 use Rattle.syntax.specs.Held.Kind.{kindOf}
 use Rattle.passes.proofs.ByIndex.{kind-opens}

@@ -1,7 +1,8 @@
 -- `passes::exceeds` is the test of `pastLimit` at a token: a kind is at most one of the three keywords.
 use mathlib.Core.Bool.{or-false}
 use borrow.Author.Tests.{ne-eqb}
-use Rattle.syntax.specs.Token.{key, k-var, k-method, k-waituntil, keywordNumber}
+use Rattle.syntax.specs.Token.{key, k-var, k-method, k-waituntil}
+use Rattle.syntax.specs.Decide.Lexeme.{keywordNumber}
 use Rattle.syntax.specs.Held.Kind.{kindOf}
 use Rattle.syntax.proofs.ByKind.{kind-key}
 use Rattle.passes.proofs.exceeds.Statement.{statement}

@@ -6,7 +6,8 @@ use mathlib.Core.Path.{_≡_, sym, _∙_}
 use mathlib.Core.List.{List}
 use lib.ListN.{length, drop}
 use borrow.Author.Needs.{needs}
-use Rattle.syntax.specs.Token.{Token, markNumber}
+use Rattle.syntax.specs.Token.{Token}
+use Rattle.syntax.specs.Decide.Lexeme.{markNumber}
 use Rattle.meaning.specs.Decide.Check.{crowded}
 use Rattle.syntax.specs.Held.Kind.{kindOf, Words}
 use Rattle.passes.proofs.ByIndex.{tokenAt, kind-at, places-long, tally-up, offends, goes-on, ends, crowding}

@@ -7,7 +7,8 @@ use mathlib.Core.List.{List}
 use mathlib.Core.Option.{none}
 use lib.ListN.{length}
 use borrow.Author.Needs.{needs}
-use Rattle.syntax.specs.Token.{Token, keywordNumber}
+use Rattle.syntax.specs.Token.{Token}
+use Rattle.syntax.specs.Decide.Lexeme.{keywordNumber}
 use Rattle.meaning.specs.Decide.Check.{pastLimit}
 use Rattle.syntax.specs.Held.Kind.{kindOf, Words}
 use Rattle.passes.proofs.ByIndex.{values-long, places-long}

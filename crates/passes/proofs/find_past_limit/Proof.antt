@@ -6,7 +6,8 @@ use mathlib.Core.Path.{_≡_, sym, _∙_}
 use mathlib.Core.List.{List}
 use lib.ListN.{length, drop}
 use borrow.Author.Needs.{needs}
-use Rattle.syntax.specs.Token.{Token, k-var, k-method, k-waituntil, keywordNumber}
+use Rattle.syntax.specs.Token.{Token, k-var, k-method, k-waituntil}
+use Rattle.syntax.specs.Decide.Lexeme.{keywordNumber}
 use Rattle.meaning.specs.Decide.Check.{pastLimit}
 use Rattle.syntax.specs.Held.Kind.{kindOf, Words}
 use Rattle.syntax.proofs.ByKind.{kind-key}

@@ -3,7 +3,8 @@ use mathlib.Core.Path.{sym, ap, _∙_}
 use mathlib.Core.Bool.{not}
 use borrow.Author.Needs.{needs}
 use borrow.Author.Tests.{ne-eqb}
-use Rattle.syntax.specs.Token.{key, k-var, k-method, k-monitor, keywordNumber}
+use Rattle.syntax.specs.Token.{key, k-var, k-method, k-monitor}
+use Rattle.syntax.specs.Decide.Lexeme.{keywordNumber}
 use Rattle.syntax.specs.Held.Kind.{kindOf}
 use Rattle.syntax.proofs.ByKind.{is-name}
 use Rattle.passes.specs.Tokens.{wrongBy}

@@ -1,9 +1,11 @@
 -- `scanner::mark_of` meets its contract: in each arm the first byte is known, and the marks compute but for the test on
 -- the second.
 use mathlib.Core.Path.{sym}
-use Rattle.syntax.specs.Bytes.{bytes, startsWith}
+use Rattle.syntax.specs.Bytes.{bytes}
+use Rattle.syntax.specs.Decide.Leading.{startsWith}
 use Rattle.syntax.specs.Decide.Scan.{markOf}
-use Rattle.syntax.specs.Token.{marks, markNumber}
+use Rattle.syntax.specs.Token.{marks}
+use Rattle.syntax.specs.Decide.Lexeme.{markNumber}
 use Rattle.syntax.specs.Held.Kind.{kindOf}
 use Rattle.scanner.specs.Step.{marked}
 use Rattle.scanner.proofs.Marks.{not-61, not-46, not-38, not-124, none-two}

@@ -6,7 +6,8 @@ use mathlib.Core.Path.{_≡_, sym, ap, _∙_}
 use native.Mathlib.Omega.{arith}
 use denote.Ref.{now}
 use lib.ListN.{take, drop, length-take, length-drop}
-use Rattle.syntax.specs.Bytes.{leading, digit, decimal}
+use Rattle.syntax.specs.Decide.Leading.{leading}
+use Rattle.syntax.specs.Bytes.{digit, decimal}
 use Rattle.syntax.specs.Token.{number}
 use Rattle.scanner.specs.Step.{passes, stepOf, stepTo, tokenOf}
 use Rattle.scanner.specs.declared.Token.the-variants as token

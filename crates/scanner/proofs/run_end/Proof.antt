@@ -7,7 +7,7 @@ use borrow.Author.Needs.{needs}
 use borrow.Author.Tests.{not-true, not-false}
 use denote.Ref.{now}
 use lib.ListN.{length, drop}
-use Rattle.syntax.specs.Bytes.{leading}
+use Rattle.syntax.specs.Decide.Leading.{leading}
 use Rattle.scanner.specs.Step.{passes}
 use Rattle.scanner.proofs.FirstElement.{leading-stop-at, leading-more-at, leading-end}
 use Rattle.scanner.proofs.run_end.Statement.{statement}

@@ -7,7 +7,8 @@ use native.Mathlib.Omega.{arith}
 use borrow.Author.Needs.{needs}
 use denote.Ref.{now}
 use lib.ListN.{length, drop, getD}
-use Rattle.syntax.specs.Bytes.{decimal, digit, leading}
+use Rattle.syntax.specs.Bytes.{decimal, digit}
+use Rattle.syntax.specs.Decide.Leading.{leading}
 use Rattle.scanner.proofs.FirstElement.{leading-more-at, passes-at, digit-bounds, decimal-at, decimal-end}
 use Rattle.scanner.proofs.FirstElement.{power-at-most}
 use Rattle.scanner.proofs.value_of.Statement.{statement}

@@ -5,7 +5,8 @@ use mathlib.Core.Path.{sym, ap, _∙_}
 use native.Mathlib.Omega.{arith}
 use denote.Ref.{now}
 use lib.ListN.{take, drop}
-use Rattle.syntax.specs.Bytes.{leading, wordByte}
+use Rattle.syntax.specs.Decide.Leading.{leading}
+use Rattle.syntax.specs.Bytes.{wordByte}
 use Rattle.syntax.specs.Token.{keywords}
 use Rattle.scanner.specs.Step.{passes, stepOf, stepTo}
 use Rattle.scanner.specs.declared.Token.the-variants as token

@@ -7,7 +7,7 @@ use mathlib.Core.List.{List}
 use lib.ListN.{length, getD, length-set}
 use lib.IntN.{ℤ}
 use Rattle.syntax.specs.Tree.{Var, Region}
-use Rattle.meaning.specs.Value.{outcome}
+use Rattle.meaning.specs.Decide.Bodies.{outcome}
 use Rattle.meaning.specs.State.{count, stateAt}
 use Rattle.states.specs.Rows.{Moved}
 use Rattle.states.specs.Promises.{Body}

@@ -8,7 +8,7 @@ use borrow.Author.Needs.{needs}
 use borrow.Author.Tests.{not-false}
 use Rattle.sets.specs.Set.{member}
 use Rattle.syntax.specs.Tree.{Var, Region}
-use Rattle.meaning.specs.Value.{outcome}
+use Rattle.meaning.specs.Decide.Bodies.{outcome}
 use Rattle.meaning.specs.State.{count, stateAt}
 use Rattle.logic.proofs.Bools.{not-true}
 use Rattle.evaluator.specs.Coding.{RunAs, lane}

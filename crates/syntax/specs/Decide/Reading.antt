@@ -7,7 +7,8 @@ use lib.ListN.{length}
 use Rattle.syntax.specs.Token.{Lexeme, name, key, number, mark, lbrace, rbrace, lparen, rparen, semicolon, equals}
 use Rattle.syntax.specs.Token.{dots, becomes, same, differs, below, at-most, above, at-least, plus, minus, bang}
 use Rattle.syntax.specs.Token.{and-and, or-or, k-monitor, k-var, k-in, k-keep, k-method, k-waituntil, k-if}
-use Rattle.syntax.specs.Token.{k-else, k-true, k-false, isMark, isKey, isName}
+use Rattle.syntax.specs.Token.{k-else, k-true, k-false}
+use Rattle.syntax.specs.Decide.Lexeme.{isMark, isKey, isName}
 use Rattle.syntax.specs.Tree.{Int, plain, negated, Atom, literal, variable, Sign, added, taken, Term, Expr}
 use Rattle.syntax.specs.Tree.{Comparison, eq, ne, lt, le, gt, ge, Cond, only, or, Conj, just, and, Simple}
 use Rattle.syntax.specs.Tree.{negation, bracketed, constant, compare, Block, end, then, Stmt, assign, if-then}

@@ -5,7 +5,8 @@ use mathlib.Core.Bool.{true, false}
 use mathlib.Core.List.{List, [], _∷_}
 use lib.ListN.{length, take}
 use lib.Dec.{leb}
-use Rattle.syntax.specs.Bytes.{bytes, blank, letter, digit, wordByte, leading, decimal, sameBytes, startsWith}
+use Rattle.syntax.specs.Bytes.{bytes, blank, letter, digit, wordByte, decimal, sameBytes}
+use Rattle.syntax.specs.Decide.Leading.{leading, startsWith}
 use Rattle.syntax.specs.Limits.{mostWordBytes, mostDigits}
 use Rattle.syntax.specs.Token.{Keyword, Lexeme, Mark, Token, key, keywords, mark, marks, name, number}
 

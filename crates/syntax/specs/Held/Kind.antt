@@ -4,7 +4,8 @@ use mathlib.Core.Path.{_≡_}
 use mathlib.Core.List.{List, map}
 use lib.ListN.{length}
 use Rattle.syntax.specs.Limits.{mostBytes}
-use Rattle.syntax.specs.Token.{Lexeme, name, key, number, mark, markNumber, keywordNumber, Token}
+use Rattle.syntax.specs.Token.{Lexeme, name, key, number, mark, Token}
+use Rattle.syntax.specs.Decide.Lexeme.{markNumber, keywordNumber}
 use Rattle.syntax.specs.Decide.Scan.{tokens, tokenize}
 
 -- The kinds by number, with room for more marks and keywords: one more shifts none of the others.

@@ -3,7 +3,7 @@
 use native.Mathlib.Omega.{arith}
 use mathlib.Core.Path.{sym, _∙_}
 use borrow.Author.Needs.{needs}
-use Rattle.syntax.specs.Token.{markNumber}
+use Rattle.syntax.specs.Decide.Lexeme.{markNumber}
 use Rattle.syntax.specs.Held.Kind.{kindOf}
 use Rattle.variables.proofs.Spelled.{minus-int, plain-int}
 use Rattle.variables.proofs.int_at.Statement.{statement}

@@ -9,7 +9,8 @@ use denote.Ref.{now}
 use lib.ListN.{length, getD}
 use borrow.Author.Needs.{needs}
 use borrow.Author.Tests.{not-true, not-false}
-use Rattle.syntax.specs.Token.{key, k-var, keywordNumber}
+use Rattle.syntax.specs.Token.{key, k-var}
+use Rattle.syntax.specs.Decide.Lexeme.{keywordNumber}
 use Rattle.syntax.specs.Held.Kind.{kindOf}
 use Rattle.meaning.specs.State.{count}
 use Rattle.variables.proofs.Indices.{inside}
