@@ -1,22 +1,20 @@
 -- Refusal 9 in positive words: a body does not keep from a state exactly where it "assigns outside a range at any
 -- moment or ends with the kept condition false". A body runs or faults, by induction on trees, and not both.
 use Prim.Native.Nat.{ℕ}
-use mathlib.Core.Path.{_≡_, refl, sym, _∙_}
+use mathlib.Core.Path.{_≡_, refl}
 use mathlib.Core.Bool.{true, false}
-use mathlib.Core.Logic.{_⊎_, inl, inr, ⊎-elim, _↔_}
+use mathlib.Core.Logic.{_⊎_, inl, inr, ⊎-elim}
 use mathlib.Core.List.{List, [], _∷_}
-use mathlib.Core.Option.{none, Option·some-injective}
+use mathlib.Core.Option.{none}
 use lib.IntN.{ℤ}
 use Rattle.syntax.specs.Bytes.{sameBytes}
-use Rattle.syntax.specs.Tree.{Expr, Cond, Block, end, then, Stmt, assign, if-then, if-else, Region, Var, Monitor, all}
+use Rattle.syntax.specs.Tree.{Expr, Cond, Block, end, then, Stmt, assign, if-then, if-else, Var}
 use Rattle.meaning.specs.Value.{inRange, exprValue, truth}
 use Rattle.meaning.specs.Decide.Bodies.{assigned, andThen, runBlock, runStmt}
-use Rattle.meaning.specs.Kept.{keptAt}
-use Rattle.meaning.specs.Accepted.{State, no-values, one-value, Assigns, here, later, BlockRuns, ends, goes-on}
-use Rattle.meaning.specs.Accepted.{StmtRuns, assigns, if-true, if-false, else-true, else-false, Keeps}
-use Rattle.logic.proofs.Bools.{split, clash, is-false, no-some}
+use Rattle.meaning.specs.Accepted.{State, no-values, one-value, Assigns, here, later, BlockRuns, ends, goes-on, StmtRuns, assigns, if-true, if-false, else-true, else-false}
+use Rattle.logic.proofs.Bools.{split, clash, is-false}
 use Rattle.syntax.proofs.Lexemes.{decides-same}
-use Rattle.meaning.proofs.BodyLaws.{run-of-block-runs, run-of-stmt-runs, stmt-runs-state}
+use Rattle.meaning.proofs.BodyLaws.{run-of-stmt-runs, stmt-runs-state}
 
 -- a value is outside the range of the first variable named x; or there is none of that name, which 6 refuses
 pub data Outside : List Var → List ℕ → ℤ → Type 0 where
@@ -104,18 +102,3 @@ mutual
       split (truth c vs as′)
       (λ t. ⊎-elim (λ u. inl (u .0, else-true t (u .1))) (λ f. inr (then-faults t f)) (runs-or-faults a as′ s))
       (λ t. ⊎-elim (λ u. inl (u .0, else-false t (u .1))) (λ f. inr (else-faults t f)) (runs-or-faults b as′ s))
-
--- a body has one end
-one-end : {vs : List Var} {b : Block} {as′ bs cs : List ℤ} → BlockRuns vs b as′ bs → BlockRuns vs b as′ cs → bs ≡ cs
-one-end r t = Option·some-injective _ _ (sym (run-of-block-runs r) ∙ run-of-block-runs t)
-
-pub not-keeps-iff : (m : Monitor) (r : Region) (as′ : List ℤ) → State (all (m .vars)) as′
-    → (Keeps m r as′ → ⊥)
-    ↔ (BlockFaults (all (m .vars)) (r .body) as′
-    ⊎ ((bs : List ℤ) × BlockRuns (all (m .vars)) (r .body) as′ bs × (keptAt m bs ≡ false)))
-unfolding Keeps
-not-keeps-iff m r as′ s = (
-  λ n. ⊎-elim (λ t. inr (t .0, t .1, is-false (λ h. n (t .0, t .1, h)))) inl (runs-or-faults (r .body) as′ s),
-  ⊎-elim (λ f k. no-some (sym (block-none f) ∙ run-of-block-runs (k .1)))
-      (λ t k. clash (k .2) (rw (one-end (t .1) (k .1)) at (t .2))),
-)

@@ -4,8 +4,8 @@ use Prim.Native.Nat.{ℕ, _+_, _-_, _≤_, _<_}
 use native.Mathlib.Omega.{arith}
 use native.Mathlib.Nat.{zero-add}
 use mathlib.Core.Path.{_≡_, refl, ap, _∙_}
-use mathlib.Core.Bool.{Bool, true, false, or-false}
-use mathlib.Core.List.{List, [], _∷_, _++_, append-nil}
+use mathlib.Core.Bool.{Bool, true, or-false}
+use mathlib.Core.List.{List, [], _∷_, _++_}
 use lib.ListN.{length, length-append}
 use lib.Dec.{eqb, ltb}
 use borrow.Author.Tests.{ltb-true, ltb-false, lt-ltb, le-ltb, le-leb, lt-leb, ne-eqb}
@@ -111,12 +111,6 @@ module _ (test : List Method → ℕ → Bool)
   in-its-method : {ms : List Method} {r i : ℕ} (t : InMethod ms r i) → test ms r ≡ test (t .method ∷ t .after) i
   in-its-method {i = i} t = rw (t .parts, t .number) (at-method (t .before) (t .method ∷ t .after) i)
 
-  past-methods : (ms : List Method) (r : ℕ) → length (regionsOf ms) ≤ r
-      → test ms r ≡ test [] (r - length (regionsOf ms))
-  past-methods ms r h =
-      let back : length (regionsOf ms) + (r - length (regionsOf ms)) ≡ r = omega arith in
-      rw (append-nil, back) at (at-method ms [] (r - length (regionsOf ms)))
-
 -- a region begins a method where it is number 0, and goes on where its method has a next one
 pub begins-in-method : {ms : List Method} {r i : ℕ} (t : InMethod ms r i) → beginsIn ms r ≡ eqb i 0
 begins-in-method {i = i} t = in-its-method beginsIn begins-step t ∙ begins-first (t .method) (t .after) i (t .within)
@@ -124,15 +118,6 @@ begins-in-method {i = i} t = in-its-method beginsIn begins-step t ∙ begins-fir
 pub goes-on-in-method : {ms : List Method} {r i : ℕ} (t : InMethod ms r i)
     → goesOnIn ms r ≡ ltb (i + 1) (length (all (t .method .regions)))
 goes-on-in-method {i = i} t = in-its-method goesOnIn goes-on-step t ∙ goes-on-first (t .method) (t .after) i (t .within)
-
--- a number past the regions does neither
-pub begins-past : (ms : List Method) (r : ℕ) → length (regionsOf ms) ≤ r → beginsIn ms r ≡ false
-unfolding beginsIn
-begins-past ms r h = past-methods beginsIn begins-step ms r h
-
-pub goes-on-past : (ms : List Method) (r : ℕ) → length (regionsOf ms) ≤ r → goesOnIn ms r ≡ false
-unfolding goesOnIn
-goes-on-past ms r h = past-methods goesOnIn goes-on-step ms r h
 
 -- a region that another follows in its method is not the last of the file
 pub goes-on-below : (ms : List Method) (r : ℕ) → goesOnIn ms r ≡ true → r + 1 < length (regionsOf ms)

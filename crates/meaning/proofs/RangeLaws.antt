@@ -3,11 +3,11 @@
 use Prim.Native.Nat.{ℕ, suc, _*_, _≤_, _<_}
 use native.Mathlib.Omega.{arith}
 use native.Mathlib.Nat.{mul-assoc, one-mul, mul-one, le-mul-of-pos-right}
-use mathlib.Core.Path.{_≡_, refl, sym, ap, _∙_}
+use mathlib.Core.Path.{_≡_, refl, ap, _∙_}
 use mathlib.Core.Bool.{Bool, true, false, not, _&&_}
-use mathlib.Core.Logic.{_⊎_, inl, inr, ⊎-elim, _↔_}
+use mathlib.Core.Logic.{_⊎_, inl, inr, ⊎-elim}
 use mathlib.Core.List.{List, [], _∷_, _++_}
-use mathlib.Core.Option.{Option, none, some, Option·some-injective}
+use mathlib.Core.Option.{Option, none, some}
 use lib.ListN.{length, getD, drop}
 use lib.Dec.{leb}
 use lib.IntN.{pos, negℤ}
@@ -17,7 +17,7 @@ use Rattle.meaning.specs.Value.{intOf, less, inRange}
 use Rattle.meaning.specs.State.{size, count}
 use Rattle.meaning.specs.Decide.Check.{inByte, goodRange, illRanged}
 use Rattle.meaning.specs.Accepted.{AtMost, GoodRange, GoodRanges, no-vars, one-var}
-use Rattle.logic.proofs.Bools.{both, and, split, clash, not-true, true-not, is-false, no-some}
+use Rattle.logic.proofs.Bools.{both, and, split, clash, not-true, true-not, is-false}
 use Rattle.meaning.proofs.Integers.{not-less-trans}
 use Rattle.meaning.proofs.StateLaws.{count-pos}
 use Rattle.meaning.specs.Refusal.{FirstIllRanged}
@@ -48,9 +48,6 @@ good-range-true v g =
     (and (true-not (g .low-bound)) (true-not (not-less-trans low high (pos 127) (g .ordered) (g .high-bound)))))
     (and (true-not (not-less-trans (negℤ (pos 128)) low high (g .low-bound) (g .ordered))) (true-not (g .high-bound))))
     (and (true-not (g .start-above)) (true-not (g .start-below)))
-
-pub good-range-iff : (v : Var) → (goodRange v ≡ true) ↔ GoodRange v
-good-range-iff v = (good-range-of v, good-range-true v)
 
 -- a variable passes with the product of sizes before it
 passes : ℕ → Var → Bool
@@ -208,18 +205,3 @@ pub good-or-ill : (vs : List Var) (ps : List ℕ)
 good-or-ill vs ps =
     ⊎-elim (λ t. inl (t .0, t .1, rw one-mul at (t .2))) (λ t. inr (t .0, t .1, first-ill (t .2)))
     (ill-ranged-cases 1 vs ps (omega arith))
-
-pub ill-ranged-none-iff : (vs : List Var) (ps : List ℕ)
-    → (illRanged 1 vs ps ≡ none) ↔ (GoodRanges vs × (count vs ≤ 4096))
-ill-ranged-none-iff vs ps = (
-  λ e. ⊎-elim (λ t. (t .1, t .2)) (λ t. no-some (sym e ∙ t .1)) (good-or-ill vs ps),
-  λ t. ill-ranged-good ps (t .0) (t .1),
-)
-
-pub ill-ranged-some-iff : (vs : List Var) (ps : List ℕ) (k : ℕ)
-    → (illRanged 1 vs ps ≡ some k) ↔ ((i : ℕ) × FirstIllRanged vs i × (k ≡ getD ps i 0))
-ill-ranged-some-iff vs ps k = (
-  λ e. ⊎-elim (λ t. no-some (sym (t .0) ∙ e)) (λ t. (t .0, t .2, Option·some-injective _ _ (sym e ∙ t .1)))
-      (good-or-ill vs ps),
-  λ t. ill-ranged-first ps (t .1) ∙ ap {B = Option ℕ} some (sym (t .2)),
-)

@@ -2,26 +2,21 @@
 -- that begin them; and no two variables of one name.
 use Prim.Native.Nat.{ℕ, zero, suc, _+_, _≤_}
 use native.Mathlib.Omega.{arith}
-use mathlib.Core.Path.{_≡_, refl, sym, subst, ap, _∙_}
+use mathlib.Core.Path.{_≡_, refl, ap, _∙_}
 use mathlib.Core.Logic.{inl, inr}
 use mathlib.Core.List.{List, [], _∷_, _++_, append-assoc}
 use lib.ListN.{length, drop, length-append}
 use lib.Dec.{ltb}
-use Rattle.syntax.specs.Token.{Lexeme, name, key, mark, lbrace, rbrace, semicolon, Keyword, k-monitor, k-var, k-keep}
-use Rattle.syntax.specs.Token.{k-method, k-waituntil, Token, lexemes}
+use Rattle.syntax.specs.Token.{Lexeme, name, key, mark, lbrace, rbrace, semicolon, Keyword, k-monitor, k-var, k-keep, k-method, k-waituntil, Token, lexemes}
 use Rattle.syntax.specs.Decide.Lexeme.{isKey, keywordNumber}
-use Rattle.syntax.specs.Tree.{Cond, Region, Method, Var, Monitor, all, each, spellRegion, spellMethod, spellVar}
-use Rattle.syntax.specs.Tree.{spellCond, spell}
-use Rattle.meaning.specs.Accepted.{regionsOf}
+use Rattle.syntax.specs.Tree.{Cond, Region, Method, Var, Monitor, all, each, spellRegion, spellMethod, spellVar, spellCond, spell}
+use Rattle.meaning.specs.Accepted.{regionsOf, NoneOffends, howMany, PastLimit, Declared, Accepted}
 use Rattle.meaning.specs.Model.{placeIn, guardsOf, regions, guards}
-use Rattle.meaning.specs.Accepted.{NoneOffends, howMany, PastLimit, Behind, Declared, Misnamed}
-use Rattle.logic.proofs.Bools.{split}
-use Rattle.logic.proofs.Bools.{different}
+use Rattle.logic.proofs.Bools.{split, different}
 use Rattle.syntax.proofs.Lexemes.{decides-key}
 use Rattle.meaning.proofs.GrammarPlace.{cut}
 use Rattle.meaning.specs.Refusal.{upTo}
-use Rattle.meaning.proofs.KeywordPlaces.{times, times-append, vars-times, each-append, behindKeep, spell-from}
-use Rattle.meaning.specs.Accepted.{Accepted}
+use Rattle.meaning.proofs.KeywordPlaces.{times, times-append, vars-times, each-append, behindKeep}
 
 pub record Sizes (m : Monitor) : Type 0 where
   pub vars : length (all (m .vars)) ≤ 6
@@ -173,11 +168,6 @@ token-at ts pre l ls e = let c = cut ts pre (l ∷ ls) e in go (c .front) (c .ba
           cc;
     }
 
-no-lexemes : (ts : List Token) → lexemes ts ≡ [] → ts ≡ []
-unfolding lexemes
-no-lexemes [] e = refl
-no-lexemes (t ∷ ts) e = different (cc)
-
 first-token : (ts : List Token) (l : Lexeme) (ls : List Lexeme) → lexemes ts ≡ l ∷ ls
     → (t : Token) × (back : List Token) × (ts ≡ t ∷ back) × (t .lexeme ≡ l)
 unfolding lexemes
@@ -206,31 +196,8 @@ two-tokens {ls = ls} {x = x} r =
     let s = first-token (r .back) (name x) ls (r .left) in
     (r .front, s .1, r .token, s .0, rw (s .2) at (r .whole), r .here, s .3)
 
-last-token : {ts : List Token} {pre : List Lexeme} {k : Keyword} → At ts pre (key k) [] → Behind k ts
-unfolding Behind
-last-token r = (r .front, r .token, rw (no-lexemes (r .back) (r .left)) at (r .whole), r .here)
-
 declares : (m : Monitor) (front : List Token) (a : List Var) (u : Var) (b : List Var)
     → lexemes front ≡ upTo m (a ++ (u ∷ b)) ++ (key k-var ∷ []) → Declared k-var (u .title) front
 declares m front a u b e =
     two-tokens (token-at front (upTo m a) (key k-var) (name (u .title) ∷ behindName u b (key k-var ∷ []))
     (e ∙ rw (up-to-more m a (u ∷ b), append-assoc, var-begins u b (key k-var ∷ []))))
-
-pub names-differ : {file : List ℕ} {m : Monitor} → Accepted file m → (a b c : List Var) (u v : Var)
-    → all (m .vars) ≡ a ++ (u ∷ (b ++ (v ∷ c))) → u .title ≡ v .title → ⊥
-unfolding NoneOffends Misnamed
-names-differ {m = m} h a b c u v e same =
-    twice (token-at (h .ts) (upTo m (a ++ (u ∷ b)) ++ (key k-var ∷ [])) (name (v .title))
-    (behindName v c (key k-keep ∷ behindKeep m))
-    (sym (h .grammar) ∙ spell-from m (a ++ (u ∷ b)) (v ∷ c) (e ∙ sym (append-assoc a (u ∷ b) (v ∷ c)))
-    ∙ rw (append-assoc, var-begins v c (key k-keep ∷ behindKeep m))))
-  where
-    twice : {ls : List Lexeme} → At (h .ts) (upTo m (a ++ (u ∷ b)) ++ (key k-var ∷ [])) (name (v .title)) ls → ⊥
-    twice p = h .names (p .front) (p .back) (p .token) (p .whole) (
-      v .title,
-      p .here,
-      inl (
-        last-token (token-at (p .front) (upTo m (a ++ (u ∷ b))) (key k-var) [] (p .passed)),
-        subst (λ (x : List ℕ). Declared k-var x (p .front)) same (declares m (p .front) a u b (p .passed)),
-      ),
-    )

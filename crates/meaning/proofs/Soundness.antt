@@ -19,13 +19,10 @@ use Rattle.meaning.specs.Decide.Bodies.{outcome}
 use Rattle.meaning.specs.State.{count, stateAt, numberOf, starts}
 use Rattle.meaning.specs.Kept.{keptAt}
 use Rattle.meaning.specs.Answer.{answer, Verdict, accepted, refused}
-use Rattle.meaning.specs.Decide.Check.{placesOf, illRanged, keptAfter, breaks, firstFrom, brokenFrom, broken}
-use Rattle.meaning.specs.Decide.Check.{checkMeaning}
-use Rattle.meaning.specs.Accepted.{regionsOf}
+use Rattle.meaning.specs.Decide.Check.{placesOf, illRanged, keptAfter, breaks, firstFrom, brokenFrom, broken, checkMeaning}
+use Rattle.meaning.specs.Accepted.{regionsOf, GoodRanges, State, BlockRuns, Keeps, Meets, IsRegion, Sound}
 use Rattle.meaning.specs.Model.{vars}
-use Rattle.meaning.specs.Accepted.{GoodRanges, State, BlockRuns, Keeps, Meets, IsRegion, Sound}
-use Rattle.logic.proofs.Bools.{both, and, split, clash, not-true, true-not, is-false, no-some}
-use Rattle.logic.proofs.Bools.{different}
+use Rattle.logic.proofs.Bools.{both, and, split, clash, not-true, true-not, is-false, no-some, different}
 use Rattle.meaning.proofs.StateLaws.{state-at, number-of-state-at, number-below, state-at-number}
 use Rattle.meaning.proofs.BodyLaws.{runs-of-outcome, outcome-of-runs, block-runs-state}
 use Rattle.meaning.proofs.RangeLaws.{ill-ranged-first, ill-ranged-good, good-or-ill}
@@ -88,19 +85,6 @@ none-or-first : (n : ℕ) (p : ℕ → Bool) → NoneBelow p n ⊎ ((j : ℕ) ×
 none-or-first n p =
     ⊎-elim (λ h. inl (λ i high. h i (omega arith) (omega arith)))
     (λ t. inr (t .0, (omega arith, t .3, λ i high. t .4 i (omega arith) high))) (first-cases n 0 p)
-
-pub first-none-iff : (n : ℕ) (p : ℕ → Bool) → (firstFrom n 0 p ≡ none) ↔ ((i : ℕ) → i < n → p i ≡ false)
-first-none-iff n p =
-    (λ e. ⊎-elim (λ h. h) (λ t. no-some (sym e ∙ some-first n p (t .0) (t .1))) (none-or-first n p), none-first n p)
-
-pub first-some-iff : (n : ℕ) (p : ℕ → Bool) (j : ℕ)
-    → (firstFrom n 0 p ≡ some j) ↔ ((j < n) × (p j ≡ true) × ((i : ℕ) → i < j → p i ≡ false))
-first-some-iff n p j = (
-  λ e. ⊎-elim (λ h. no-some (sym (none-first n p h) ∙ e))
-      (λ t. subst (FirstBelow p n) (Option·some-injective _ _ (sym (some-first n p (t .0) (t .1)) ∙ e)) (t .1))
-      (none-or-first n p),
-  some-first n p j,
-)
 
 -- 9, by the numbers of states
 

@@ -2,10 +2,8 @@
 use Prim.Native.Nat.{ℕ, zero, suc, _+_, _≤_, _<_}
 use native.Mathlib.Omega.{arith}
 use mathlib.Core.Path.{_≡_, refl, sym, ap₂, _∙_}
-use mathlib.Core.Logic.{_⊎_, inl, inr, ⊎-elim, _↔_}
-use mathlib.Core.List.{List, [], _∷_, _++_, append-nil, append-assoc, List·Memᴰ, List·Memᴰ·head, List·Memᴰ·tail}
-use mathlib.Core.List.{List·Memᴰ·append-cases, List·Memᴰ·not-nil, List·Memᴰ·eq-of-singleton, Memᴰ·append-left}
-use mathlib.Core.List.{Memᴰ·append-right}
+use mathlib.Core.Logic.{inl, inr, ⊎-elim, _↔_}
+use mathlib.Core.List.{List, [], _∷_, _++_, append-nil, append-assoc, List·Memᴰ, List·Memᴰ·head, List·Memᴰ·tail, List·Memᴰ·append-cases, List·Memᴰ·not-nil, List·Memᴰ·eq-of-singleton, Memᴰ·append-left, Memᴰ·append-right}
 use lib.ListN.{drop}
 use lib.Dec.{eqb}
 use borrow.Author.Tests.{eqb-true, eqb-false}
@@ -18,8 +16,7 @@ use Rattle.meaning.specs.Decide.Table.{entryLine, forEach, tableOf}
 use Rattle.meaning.specs.Decide.Frames.{pairAt}
 use Rattle.meaning.proofs.Digits.{two-digits, bit-digits, bit-back}
 use Rattle.logic.specs.Tests.{bit}
-use Rattle.logic.proofs.Bools.{split}
-use Rattle.logic.proofs.Bools.{different}
+use Rattle.logic.proofs.Bools.{split, different}
 use Rattle.meaning.specs.Table.{Before, Increasing, Row, Small, no-row, one-row, rowLine, rowLines}
 
 -- the rows that stand, for each region and each guard in that order
@@ -203,8 +200,3 @@ rows-decoded (w ∷ ws) (v ∷ vs) h g e =
 rows-small : (m : Monitor) → m .regions ≤ 256 → m .guards ≤ 256 → (w : Row) → List·Memᴰ w (rowsOf m) → Small w
 unfolding Small
 rows-small m h g w i = let r = row-stands m w .0 i in (omega arith, omega arith)
-
-pub table-decoded : (m n : Monitor) → m .regions ≤ 256 → m .guards ≤ 256 → n .regions ≤ 256 → n .guards ≤ 256
-    → tableOf m ≡ tableOf n → rowsOf m ≡ rowsOf n
-table-decoded m n a b c d e =
-    rows-decoded (rowsOf m) (rowsOf n) (rows-small m a b) (rows-small n c d) (sym (table-lines m) ∙ e ∙ table-lines n)

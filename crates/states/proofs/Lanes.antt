@@ -17,7 +17,7 @@ use Rattle.logic.specs.Tests.{bit}
 use Rattle.meaning.specs.Decide.Bodies.{outcome}
 use Rattle.meaning.specs.State.{count, stateAt, numberOf}
 use Rattle.meaning.specs.Accepted.{State, GoodRanges}
-use Rattle.logic.proofs.Bools.{split, clash, is-false}
+use Rattle.logic.proofs.Bools.{split, clash}
 use Rattle.meaning.specs.Held.{Biased}
 use Rattle.meaning.proofs.StateLaws.{state-at, number-below}
 use Rattle.meaning.proofs.BodyLaws.{runs-of-outcome, block-runs-state}
@@ -39,9 +39,6 @@ pub bit-one : (b : Bool) → bit b ≡ 1 → b ≡ true
 unfolding bit
 bit-one true e = refl
 bit-one false e = absurd (omega arith)
-
-pub bit-other : (b : Bool) → (bit b ≡ 1 → ⊥) → b ≡ false
-bit-other b n = is-false (λ t. n (bit-true t))
 
 -- what holds of each place below n, and of what is stored at n, holds of each place below n + 1
 pub stored : (P : ℕ → ℕ → Type 0) (xs : List ℕ) (n a : ℕ) → n < length xs → ((k : ℕ) → k < n → P k (getD xs k 0))

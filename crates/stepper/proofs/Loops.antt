@@ -2,7 +2,7 @@
 -- the stepper.
 use Prim.Native.Nat.{ℕ, zero, suc, _+_, _/_, _%_, _≤_, _<_}
 use mathlib.Core.Path.{_≡_, refl, sym, ap, ap₂, _∙_}
-use mathlib.Core.Bool.{Bool, true, false, _&&_, _||_, and-true, and-false, or-true, false≢true}
+use mathlib.Core.Bool.{Bool, true, false, _&&_, _||_, and-true, and-false, or-true}
 use mathlib.Core.Logic.{_⊎_, ⊎-elim}
 use mathlib.Core.List.{List}
 use native.Mathlib.Decide.{decLt}
@@ -48,13 +48,6 @@ pub any-false : (n : ℕ) (f : ℕ → Bool) → ((k : ℕ) → k < n → f k �
 unfolding any
 any-false zero f e = refl
 any-false (suc n) f e = or-none (f n) (any n f) (e n (omega arith)) (any-false n f (λ k h. e k (omega arith)))
-
-pub any-none : (n k : ℕ) (f : ℕ → Bool) → any n f ≡ false → k < n → f k ≡ false
-any-none n k f e h = go (f k) refl
-  where
-    go : (b : Bool) → f k ≡ b → f k ≡ false
-    go true q = absurd (false≢true (sym e ∙ any-true n k f h q))
-    go false q = q
 
 pub any-same : (n : ℕ) (f g : ℕ → Bool) → ((k : ℕ) → k < n → f k ≡ g k) → any n f ≡ any n g
 unfolding any

@@ -1,6 +1,6 @@
 -- Kinds tell lexemes apart: a lexeme's kind decides its class, its mark and its keyword, so each test of a kind is a
 -- test of the lexeme; with its value it decides the lexeme, but for names.
-use Prim.Native.Nat.{ℕ, _+_, _≤_, _<_}
+use Prim.Native.Nat.{ℕ, _+_, _<_}
 use mathlib.Core.Bool.{Bool, true, false}
 use mathlib.Core.Path.{_≡_, refl, sym, _∙_, ap}
 use mathlib.Core.List.{List}
@@ -8,11 +8,9 @@ use native.Mathlib.Omega.{arith}
 use lib.Dec.{eqb, lit<}
 use borrow.Author.Tests.{eqb-true, eqb-false, eq-eqb, ne-eqb}
 use Rattle.syntax.specs.Token.{Lexeme, name, key, number, mark, Mark, Keyword}
-use Rattle.syntax.specs.Decide.Lexeme.{markNumber, keywordNumber}
-use Rattle.syntax.specs.Decide.Lexeme.{isMark, isKey, isName}
+use Rattle.syntax.specs.Decide.Lexeme.{markNumber, keywordNumber, isMark, isKey, isName}
 use Rattle.syntax.specs.Token as token
-use Rattle.syntax.specs.Held.Kind.{kindOf, valueOf, nameKind, numberKind, firstMark, firstKeyword, keywordCount}
-use Rattle.syntax.specs.Held.Kind.{kindsEnd}
+use Rattle.syntax.specs.Held.Kind.{kindOf, valueOf, nameKind, numberKind, firstMark, firstKeyword, keywordCount, kindsEnd}
 use Rattle.syntax.proofs.Lexemes.{decides-key, decides-mark}
 use Rattle.logic.proofs.Bools.{split}
 
@@ -52,14 +50,6 @@ keyword-few token.k-if = lit< tt
 keyword-few token.k-else = lit< tt
 keyword-few token.k-true = lit< tt
 keyword-few token.k-false = lit< tt
-
-pub mark-kind : (m : Mark) → (firstMark ≤ kindOf (mark m)) × (kindOf (mark m) < firstKeyword)
-unfolding kindOf
-mark-kind m = (omega arith, omega (arith, mark-few m))
-
-pub key-kind : (k : Keyword) → (firstKeyword ≤ kindOf (key k)) × (kindOf (key k) < kindsEnd)
-unfolding kindOf
-key-kind k = (omega arith, omega (arith, keyword-few k))
 
 pub kind-below : (l : Lexeme) → kindOf l < kindsEnd
 unfolding kindOf
