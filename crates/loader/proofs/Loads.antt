@@ -88,6 +88,9 @@ module _ {file : List ℕ} {ts : List Token} {kinds values places : List ℕ} (w
   pub few : length ts ≤ 1024
   few = few-tokens ts (p .uncrowded)
 
+  pub kinds-long : length kinds ≡ length ts
+  kinds-long = rw (w .by-kind, length-map)
+
   pub is-keep : IsKeep m ts (j .keep)
   unfolding IsKeep
   is-keep = keep-stands ts m (p .grammar) (j .keep) (p .keep-stands)

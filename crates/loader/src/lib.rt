@@ -14,7 +14,7 @@ ghost use Rattle.machine.specs.Limits.{mostRegions, mostStates, mostAfter};
 ghost use Rattle.syntax.specs.Held.Kind.{Words};
 ghost use Rattle.syntax.specs.Token.{Lexeme, Token};
 ghost use Rattle.syntax.specs.Tree.{Monitor};
-ghost use Rattle.loader.specs.Loading.{Judges, Loads};
+ghost use Rattle.loader.specs.Loading.{Judges, Past7, Loads};
 ghost use Rattle.loader.specs.Filling.{Filling, Filled};
 
 // 3 to 7: the answer so far, and where it is 0 the token of `keep` and the variables.
@@ -167,29 +167,25 @@ fn not_loaded(answer: Answer) -> Loaded
     }
 }
 
-// 3 to 9, over a file's tokens; into `operands` goes what the evaluator looks up at each.
-fn load_tokens(
+// 8 and 9, over the tokens of a file that passed 3 to 7; into `operands` goes what the evaluator looks up at each.
+fn load_judged(
     file: &[u8],
     kinds: &[u8],
     values: &[u16],
     places: &[u16],
+    judged: Judged,
     operands: &mut [u16],
     kept: &mut [u8],
     holds: &mut [u16],
     after: &mut [u16],
 ) -> Loaded
-    ensures { λ r. ⌜ ((ts : List Token)
+    ensures { λ r. ⌜ ((ts : List Token) (m : Monitor)
         → Words (now (file .entry)) ts (now (kinds .entry)) (now (values .entry)) (now (places .entry))
-        → length (now (operands .entry)) ≡ length ts
+        → Past7 ts m judged → length (now (operands .entry)) ≡ length ts
         → mostStates ≤ length (now (kept .entry)) → mostStates ≤ length (now (holds .entry))
         → mostAfter ≤ length (now (after .entry))
         → Loads (now (file .entry)) r (now (kept .exit)) (now (holds .exit)) (now (after .exit))) ⌝ }
 {
-    let judged = judge(file, kinds, values, places);
-    let so_far = judged.answer;
-    if so_far.number != 0 {
-        return not_loaded(so_far);
-    }
     let keep = judged.keep;
     let bounds = judged.bounds;
     let layout = layout::lay_out(file, kinds, values, places, keep);
@@ -212,6 +208,45 @@ fn load_tokens(
     }
 }
 
+// 3 to 9, over a file's tokens. A file that passed 3 has no more tokens than `operands` has room for.
+fn load_tokens(
+    file: &[u8],
+    kinds: &[u8],
+    values: &[u16],
+    places: &[u16],
+    kept: &mut [u8],
+    holds: &mut [u16],
+    after: &mut [u16],
+) -> Loaded
+    ensures { λ r. ⌜ ((ts : List Token)
+        → Words (now (file .entry)) ts (now (kinds .entry)) (now (values .entry)) (now (places .entry))
+        → mostStates ≤ length (now (kept .entry)) → mostStates ≤ length (now (holds .entry))
+        → mostAfter ≤ length (now (after .entry))
+        → Loads (now (file .entry)) r (now (kept .exit)) (now (holds .exit)) (now (after .exit))) ⌝ }
+{
+    let judged = judge(file, kinds, values, places);
+    let so_far = judged.answer;
+    if so_far.number != 0 {
+        return not_loaded(so_far);
+    }
+    let n = kinds.len();
+    if syntax::TOKENS < n {
+        return not_loaded(so_far);
+    }
+    let mut operands = [0u16; syntax::TOKENS];
+    load_judged(
+        file,
+        kinds,
+        values,
+        places,
+        judged,
+        &mut operands[..n],
+        kept,
+        holds,
+        after,
+    )
+}
+
 // 1 to 9: the verdict of a file, and of an accepted one all that the table and the machines look up.
 pub fn load(file: &[u8], kept: &mut [u8], holds: &mut [u16], after: &mut [u16]) -> Loaded
     ensures { λ r. ⌜ (mostStates ≤ length (now (kept .entry)) → mostStates ≤ length (now (holds .entry))
@@ -221,7 +256,6 @@ pub fn load(file: &[u8], kept: &mut [u8], holds: &mut [u16], after: &mut [u16]) 
     let mut kinds = [0u8; syntax::FILE_BYTES];
     let mut values = [0u16; syntax::FILE_BYTES];
     let mut places = [0u16; syntax::FILE_BYTES];
-    let mut operands = [0u16; syntax::FILE_BYTES];
     match scanner::scan(file, &mut kinds, &mut values, &mut places) {
         Scanned::TooLong => not_loaded(answers::say(1, 0, 0)),
         Scanned::Bad(k) => not_loaded(answers::say(2, k, 0)),
@@ -230,7 +264,6 @@ pub fn load(file: &[u8], kept: &mut [u8], holds: &mut [u16], after: &mut [u16]) 
             &kinds[..n],
             &values[..n],
             &places[..n],
-            &mut operands[..n],
             kept,
             holds,
             after,

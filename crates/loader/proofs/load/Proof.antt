@@ -1,8 +1,6 @@
 -- `loader::load` meets its contract: 1 and 2 are the scanner's; else the arrays hold the file's tokens as far as they
 -- were filled, and `load_tokens` goes on.
 use Prim.Native.Nat.{ℕ}
-use mathlib.Core.Path.{sym, _∙_}
-use lib.Seq.{length-take-le}
 use borrow.Author.Needs.{needs}
 use Rattle.loader.proofs.Scanned.{Counted, scanned-long, scanned-bad, scanned-tokens, scanned-counted}
 use Rattle.loader.proofs.Loads.{loads-said}
@@ -30,10 +28,10 @@ returns-2 c l₁ l₂ l₃ =
 
 returns-3 : tie.Need-returns-3
 returns-3 c l₁ l₂ l₃ =
-    let r = c .before .before .before .before .before .before .before in
-    let n = r .before .before .before .before .before .before .before .before .before in
+    let r = c .before .before .before .before .before .before in
+    let n = r .before .before .before .before .before .before .before .before in
     let t = scanned-tokens (n .before .before .scan .ensures) (N n) (n .n .given .1) in
-    r .load-tokens .ensures (t .0) (t .3) (length-take-le _ _ (t .2) ∙ t .1) l₁ l₂ l₃
+    r .load-tokens .ensures (t .0) (t .3) l₁ l₂ l₃
 
 pub load-spec : {M : Type 1} → statement M
 load-spec =
@@ -44,6 +42,5 @@ load-spec =
     (λ c. counted (c .before .before) .in-values .room) (λ c. counted (c .before .before .before) .in-values .long)
     (λ c. counted (c .before .before .before) .in-places .room)
     (λ c. counted (c .before .before .before .before) .in-places .long)
-    (λ c. counted (c .before .before .before .before) .few)
-    (λ c. sym (length-take-le _ _ (counted (c .before .before .before .before .before) .few))) (λ c κs. search needs)
+    (λ c κs. search needs)
     returns returns-2 (λ c. search needs) (λ c. search needs) (λ c. search needs) returns-3)
