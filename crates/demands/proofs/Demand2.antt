@@ -13,7 +13,7 @@ use borrow.Author.Tests.{ltb-true, ltb-false}
 use Rattle.syntax.specs.Tree.{Monitor}
 use Rattle.syntax.proofs.Grammar.{one-cond}
 use Rattle.machine.specs.Monitor.{Frame, Config, stopped, allIdle}
-use Rattle.machine.specs.Algorithm1.{entry, Holds, Fails, Triple, Stands, Signals, Runs}
+use Rattle.machine.specs.Algorithm1.{entry, Holds, Fails, Triple, Stands, Signals, MayRun}
 use Rattle.machine.specs.Decide.Table.{entryOf}
 use Rattle.machine.specs.Rules.{Notices, Stops}
 use Rattle.machine.proofs.RulesDecided.{refuses-number, Decides, plain-decides, table-decides}
@@ -154,7 +154,7 @@ runs-keep file m e s k fs w c h =
 module _ (m : Monitor) where
   module _ (ok : Sound m) where
     -- a body that may run from a state's number, by values
-    to-values : (r s : ℕ) → Runs (model m) r s
+    to-values : (r s : ℕ) → MayRun (model m) r s
         → (bs : List ℤ) × Moves m (region m r) (stateAt (vars m) s) bs × (stateAt (vars m) (after m r s) ≡ bs)
     unfolding model Holds Keeps after numberAfter
     to-values r s h =
@@ -177,7 +177,7 @@ module _ (m : Monitor) where
 
     -- and back
     from-values : (r : ℕ) (as′ bs : List ℤ) → Moves m (region m r) as′ bs
-        → (s : ℕ) × Runs (model m) r s × (stateAt (vars m) s ≡ as′) × (stateAt (vars m) (after m r s) ≡ bs)
+        → (s : ℕ) × MayRun (model m) r s × (stateAt (vars m) s ≡ as′) × (stateAt (vars m) (after m r s) ≡ bs)
     unfolding model Holds after numberAfter
     from-values r as′ bs h =
         let q = h .meets in

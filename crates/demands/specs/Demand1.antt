@@ -49,7 +49,7 @@ pub data RunsAs (file bytes : List ℕ) (s : ℕ) (w : Machine) : Running → Ty
   no-start : {m : Monitor} → Accepted file m → (Startable m s → ⊥) → RunsAs file bytes s w (not-run (answer 11 0 0))
   -- 12: "first line that is no frame" (R 8.9)
   bad-line :
-      {m : Monitor} {k : ℕ} → Accepted file m → Startable m s → trace.Stops bytes k
+      {m : Monitor} {k : ℕ} → Accepted file m → Startable m s → trace.NoFrameAt bytes k
       → RunsAs file bytes s w (not-run (answer 12 k 0))
   -- 13 and 14, "frame by frame, 13 first" (R 9.8, 9.9)
   frame-refused :

@@ -12,7 +12,8 @@ use lib.ListN.{length, getD, drop, getElem?, length-map, length-drop, length-app
 use Rattle.syntax.specs.Token.{Lexeme, name, number}
 use Rattle.syntax.specs.Held.Kind.{kindOf, noKind}
 use Rattle.syntax.specs.Tree.{Var}
-use Rattle.evaluator.specs.Coding.{Kinds, Codes, slotOf}
+use Rattle.evaluator.specs.Coding.{Codes, slotOf}
+use Rattle.syntax.specs.Held.Kind.{Kinds}
 use Rattle.evaluator.specs.Promises.{Next, frontKind}
 
 front-map : (ls : List Lexeme) (at : ℕ) → getD (map kindOf ls) at noKind ≡ frontKind (drop at ls)
@@ -61,11 +62,6 @@ module _ {vs : List Var} {ls : List Lexeme} {ks values : List ℕ} (codes : Code
 -- no number is two numerals
 pub apart : {A : Type 0} (m n : ℕ) {k : ℕ} → eqb m n ≡ false → k ≡ m → k ≡ n → A
 apart m n d h e = absurd (eqb-false m n d (sym h ∙ e))
-
-pub within-getD : (l : List ℕ) (i d e : ℕ) → i < length l → getD l i d ≡ getD l i e
-within-getD [] i d e h = absurd (omega arith)
-within-getD (x ∷ l) zero d e h = refl
-within-getD (x ∷ l) (suc i) d e h = within-getD l i d e (omega arith)
 
 -- a place with a kind is one of a token, and the next is one more
 pub kind-within : {ks : List ℕ} {at r : ℕ} (k : ℕ) → Next ks at r → getD ks at noKind ≡ k → eqb k noKind ≡ false

@@ -12,14 +12,12 @@ use Rattle.syntax.specs.Token.{Lexeme, name, number, mark, lbrace, rbrace, rpar
 use Rattle.syntax.specs.Held.Kind.{kindOf}
 use Rattle.syntax.specs.Tree.{Var, Block, spellBlock}
 use Rattle.meaning.specs.Held.{Biased}
+use Rattle.syntax.specs.Held.Kind.{Kinds}
 
 -- the place of the first variable of a name, and their count where there is none
 unfoldable pub slotOf : List Var → List ℕ → ℕ
 slotOf [] x = 0
 slotOf (v ∷ vs) x = elim (sameBytes (v .title) x) [ true ↦ 0 | false ↦ suc (slotOf vs x) ]
-
-unfoldable pub Kinds : List Lexeme → List ℕ → Type 0
-Kinds ls kinds = map kindOf ls ≡ kinds
 
 -- kinds, and the operands of a loaded file, which the evaluator has as `values`: at its place each number's value, each
 -- name's slot, and for each brace that opens a block the place of the one that closes it

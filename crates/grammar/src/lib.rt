@@ -255,7 +255,8 @@ fn read_region(kinds: &[u8], from: Pos, left: usize) -> Pos
 
 // As many regions as there are, each with `left` of its own.
 fn read_regions(kinds: &[u8], from: Pos, left: usize, rounds: usize) -> Pos
-    ensures { λ r. ⌜ Follows (List Region) (now (kinds .entry)) from (readMany (isKey k-waituntil) (readRegion left) rounds)
+    ensures { λ r. ⌜ Follows (List Region) (now (kinds .entry)) from (readMany (isKey k-waituntil)
+        (readRegion left) rounds)
         r ⌝ }
 {
     if rounds == 0 {
@@ -280,7 +281,8 @@ fn read_method(kinds: &[u8], from: Pos, left: usize) -> Pos
 }
 
 fn read_methods(kinds: &[u8], from: Pos, left: usize, rounds: usize) -> Pos
-    ensures { λ r. ⌜ Follows (List Method) (now (kinds .entry)) from (readMany (isKey k-method) (readMethod left) rounds) r
+    ensures { λ r. ⌜ Follows (List Method) (now (kinds .entry)) from (readMany (isKey k-method)
+        (readMethod left) rounds) r
         ⌝ }
 {
     if rounds == 0 {

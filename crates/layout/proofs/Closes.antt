@@ -158,9 +158,3 @@ pub stands-below : (at : ℕ) (ls w us : List Lexeme) (z : Lexeme) → drop at l
     → at + length w < length ls
 stands-below at ls w us z h =
     let e = sym (length-drop at ls) ∙ ap length h ∙ length-append w (z ∷ us) in omega arith
-
--- a place in a list needs no default
-pub getD-below : {A : Type 0} (l : List A) (i : ℕ) (d e : A) → i < length l → getD l i d ≡ getD l i e
-getD-below [] i d e h = absurd (omega arith)
-getD-below (a ∷ l) zero d e h = refl
-getD-below (a ∷ l) (suc i) d e h = getD-below l i d e (omega arith)

@@ -15,7 +15,8 @@ use Rattle.syntax.specs.Held.Kind.{kindOf}
 use Rattle.syntax.specs.Tree.{Block, spellBlock}
 use Rattle.logic.proofs.Bools.{split}
 use Rattle.layout.specs.Places.{past}
-use Rattle.layout.specs.Laid.{Kinds, Linked}
+use Rattle.layout.specs.Laid.{Linked}
+use Rattle.syntax.specs.Held.Kind.{Kinds}
 use Rattle.layout.proofs.Closes.{close-stands, stands-below}
 use Rattle.layout.proofs.Closes.{openBrace, shutBrace, braceEnd}
 use Rattle.syntax.proofs.ByKind.{is-mark}

@@ -11,9 +11,7 @@ use Rattle.logic.specs.Tests.{bit}
 use Rattle.machine.specs.Held.{followsBy}
 use Rattle.meaning.specs.Model.{regions, guards, region, guardOf, beginsIn, follows}
 use Rattle.layout.specs.declared.Layout.{Layout}
-
-unfoldable pub Kinds : List Lexeme → List ℕ → Type 0
-Kinds ls kinds = map kindOf ls ≡ kinds
+use Rattle.syntax.specs.Held.Kind.{Kinds}
 
 -- the token of `keep`, with the kept condition behind it
 unfoldable pub IsKeep : Monitor → List Token → ℕ → Type 0

@@ -117,7 +117,8 @@ pub fn put_record(
     values: [u16; syntax::VARIABLES],
     threads: [Thread; machine::THREADS],
 ) -> usize
-    ensures { λ r. ⌜ ((rec : calls.Record) → Fits rec vars values threads → at + 35 + 2 * vars ≤ length (now (out .entry))
+    ensures { λ r. ⌜ ((rec : calls.Record) → Fits rec vars values threads → at + 35 + 2 * vars ≤ length
+        (now (out .entry))
         → Writes (recordLine rec) (now (out .entry)) at r (now (out .exit))) ⌝ }
 {
     if vars > syntax::VARIABLES {

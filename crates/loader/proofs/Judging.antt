@@ -15,14 +15,14 @@ use Rattle.syntax.specs.Held.Kind.{Words}
 use Rattle.logic.proofs.Bools.{split}
 use Rattle.meaning.specs.Answer.{answer, refused}
 use Rattle.meaning.specs.Decide.Check.{crowded, pastLimit, misnamed, check}
-use Rattle.meaning.proofs.KeywordPlaces.{behindKeep}
+use Rattle.meaning.specs.Held.{behindKeep}
 use Rattle.grammar.specs.Reads.{Reads}
 use Rattle.grammar.specs.declared.Pos.the-variants.{Stuck}
 use Rattle.variables.specs.Bounded.{RangedBy}
 use Rattle.variables.specs.Places.{firstVar}
 use Rattle.variables.specs.declared.Declared.{Declared}
 use Rattle.answers.specs.Says.{Is, answerOf}
-use Rattle.layout.proofs.Closes.{getD-below}
+use Rattle.logic.proofs.Lists.{getD-below}
 use Rattle.layout.proofs.Same.{lexemes-length}
 use Rattle.loader.proofs.Counts.{few-tokens}
 use Rattle.loader.proofs.Refusals.{says-4, says-4-end, no-7}

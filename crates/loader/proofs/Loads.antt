@@ -19,7 +19,8 @@ use Rattle.meaning.specs.Model.{vars, regions}
 use Rattle.meaning.proofs.Sizes.{Sizes}
 use Rattle.meaning.proofs.Verdicts.{accepted-iff}
 use Rattle.passes.specs.Tokens.{Resolved}
-use Rattle.layout.specs.Laid.{Kinds, IsKeep, Laid, Linked}
+use Rattle.layout.specs.Laid.{IsKeep, Laid, Linked}
+use Rattle.syntax.specs.Held.Kind.{Kinds}
 use Rattle.layout.specs.declared.Layout.{Layout}
 use Rattle.states.proofs.Holding.{held}
 use Rattle.answers.specs.Says.{Says, Is, answerOf}

@@ -19,9 +19,11 @@ use Rattle.syntax.specs.Tree.{spellExpr, spellConstant, spellCond, spellConj, s
 use Rattle.syntax.specs.Tree.{spellRegion, spellMethod, spellVar, spell}
 use Rattle.logic.proofs.Bools.{split}
 use Rattle.logic.proofs.Bools.{different}
-use Rattle.meaning.proofs.KeywordPlaces.{times, times-append, behindKeep}
+use Rattle.meaning.proofs.KeywordPlaces.{times, times-append}
+use Rattle.meaning.specs.Held.{behindKeep}
 use Rattle.passes.specs.Tokens.{titlesFrom, titlesOf, slotIn, slotOrValue, Resolved}
-use Rattle.evaluator.specs.Coding.{slotOf, Kinds, Codes}
+use Rattle.evaluator.specs.Coding.{slotOf, Codes}
+use Rattle.syntax.specs.Held.Kind.{Kinds}
 use Rattle.loader.proofs.TokenSlices.{lexemes-map, at-lexeme}
 
 -- the names behind `var` among lexemes, the lexeme before coming first

@@ -17,7 +17,7 @@ use Rattle.meaning.specs.Kept.{keptAt}
 use Rattle.meaning.specs.Answer.{answer, refused, accepted}
 use Rattle.meaning.specs.Decide.Check.{crowded, pastLimit, misnamed, illRanged, placesOf, broken, check}
 use Rattle.meaning.proofs.RangeLaws.{ill-ranged-good}
-use Rattle.meaning.proofs.KeywordPlaces.{behindKeep}
+use Rattle.meaning.specs.Held.{behindKeep}
 use Rattle.logic.proofs.Bools.{different}
 use Rattle.meaning.proofs.Stages.{check-3, check-4, check-5, check-6, check-7, check-8, check-9, check-0}
 use Rattle.grammar.specs.Reads.{Reads}

@@ -14,8 +14,9 @@ use Rattle.meaning.specs.Decide.Check.{placesOf, placeOf, leftOf, illRanged}
 use Rattle.meaning.specs.Refusal.{FirstIllRanged}
 use Rattle.meaning.proofs.RangeLaws.{ill-ranged-first}
 use Rattle.logic.proofs.Bools.{different}
-use Rattle.meaning.specs.Refusal.{Stands, upTo}
-use Rattle.meaning.proofs.KeywordPlaces.{behindKeep, spell-from, var-place, keep-place}
+use Rattle.meaning.specs.Refusal.{KeywordAt, upTo}
+use Rattle.meaning.specs.Held.{behindKeep}
+use Rattle.meaning.proofs.KeywordPlaces.{spell-from, var-place, keep-place}
 use Rattle.variables.specs.Bounded.{EndsVars}
 use Rattle.variables.specs.Places.{firstVar}
 use Rattle.layout.proofs.Same.{lexemes-length}
@@ -26,7 +27,7 @@ place-at [] t back = refl
 place-at (u ∷ front) t back = place-at front t back
 
 -- the token behind some lexemes, by how many they are
-stands-at : {ts : List Token} {pre : List Lexeme} {k : Keyword} {byte : ℕ} → Stands ts pre k byte
+stands-at : {ts : List Token} {pre : List Lexeme} {k : Keyword} {byte : ℕ} → KeywordAt ts pre k byte
     → getD (map (λ t. t .at) ts) (length pre) 0 ≡ byte
 stands-at s =
     rw (s .whole, ← s .passed, lexemes-length) (place-at (s .front) (s .token) (s .back) ∙ s .place)

@@ -11,7 +11,7 @@ use Rattle.machine.specs.Held.{Held, HeldPlaces}
 use Rattle.meaning.specs.Answer.{accepted}
 use Rattle.meaning.specs.Decide.Check.{crowded, pastLimit, misnamed, illRanged, placesOf, check}
 use Rattle.meaning.specs.Model.{vars, regions, guards, model}
-use Rattle.meaning.proofs.KeywordPlaces.{behindKeep}
+use Rattle.meaning.specs.Held.{behindKeep}
 use Rattle.variables.specs.Bounded.{Bounded}
 use Rattle.answers.specs.Says.{Is}
 use Rattle.loader.specs.declared.Judged.{Judged}

@@ -3,10 +3,10 @@ use Prim.Native.Nat.{ℕ, zero, suc, _+_, _<_}
 use native.Mathlib.Numerals.{add-one}
 use native.Mathlib.Omega.{arith}
 use mathlib.Core.Path.{_≡_, refl, subst}
-use mathlib.Core.Bool.{Bool, true, not, _||_, false≢true}
+use mathlib.Core.Bool.{Bool, true, false, not, _||_, false≢true}
 use mathlib.Core.Logic.{inl, inr, _↔_, Iff·trans}
 use Rattle.logic.specs.Tests.{any}
-use Rattle.logic.proofs.Bools.{split-eq, either, or-left, or-right, decides-not}
+use Rattle.logic.proofs.Bools.{split-eq, either, or-left, or-right, or-none, decides-not}
 
 pub any-intro : (n : ℕ) (f : ℕ → Bool) (u : ℕ) → u < n → f u ≡ true → any n f ≡ true
 unfolding any
@@ -14,6 +14,11 @@ any-intro zero f u h e = absurd (omega arith)
 any-intro (suc n) f u h e =
     split-eq u n (λ q. or-left (f n) (any n f) (subst (λ (k : ℕ). f k ≡ true) q e))
     (λ q. or-right (f n) (any n f) (any-intro n f u (omega arith) e))
+
+pub any-false : (n : ℕ) (f : ℕ → Bool) → ((k : ℕ) → k < n → f k ≡ false) → any n f ≡ false
+unfolding any
+any-false zero f e = refl
+any-false (suc n) f e = or-none (f n) (any n f) (e n (omega arith)) (any-false n f (λ k h. e k (omega arith)))
 
 any-elim : (n : ℕ) (f : ℕ → Bool) → any n f ≡ true → (u : ℕ) × (u < n) × (f u ≡ true)
 unfolding any

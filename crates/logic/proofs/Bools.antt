@@ -48,6 +48,14 @@ pub or-right : (a b : Bool) → b ≡ true → a || b ≡ true
 or-right true b h = refl
 or-right false b h = h
 
+pub neither : (a b : Bool) → a || b ≡ false → (a ≡ false) × (b ≡ false)
+neither true b h = absurd (true≢false h)
+neither false b h = (refl, h)
+
+pub or-none : (a b : Bool) → a ≡ false → b ≡ false → a || b ≡ false
+or-none true b e d = absurd (true≢false e)
+or-none false b e d = d
+
 pub not-true : {b : Bool} → not b ≡ true → b ≡ false
 not-true {b = true} h = absurd (false≢true h)
 not-true {b = false} h = refl

@@ -1,2 +1,3 @@
 pub mod Bools
 pub mod Any
+pub mod Lists

@@ -12,11 +12,11 @@ use Rattle.machine.specs.Algorithm1.{none, entry}
 use Rattle.machine.specs.Decide.Table.{runs, someMove, everyMove, stands, unconditional, broadcast, entryOf}
 use Rattle.logic.proofs.Bools.{split, clash, is-false, either, or-left, or-right, decides-and, decides-not, decides-eqb}
 use Rattle.logic.proofs.Any.{any-iff}
-use Rattle.machine.specs.Algorithm1.{Fails, Holds, Runs, Signals, Stands, Triple}
+use Rattle.machine.specs.Algorithm1.{Fails, Holds, MayRun, Signals, Stands, Triple}
 
 module _ (m : Monitor) where
   module _ (below : (s : ℕ) → m .kept s ≡ true → s < m .states) where
-    runs-iff : (r s : ℕ) → (runs m r s ≡ true) ↔ Runs m r s
+    runs-iff : (r s : ℕ) → (runs m r s ≡ true) ↔ MayRun m r s
     unfolding runs Holds
     runs-iff r s =
         Iff·trans (and-eq-true-iff (m .kept s) (m .holds (m .guardOf r) s))
@@ -25,7 +25,7 @@ module _ (m : Monitor) where
     -- some move of region r, from s to s′, of those that a test tells
     module _ (r : ℕ) (test : ℕ → ℕ → Bool) {P : ℕ → Type 0} (tells : (s : ℕ) → (test s (m .after r s) ≡ true) ↔ P s)
       where
-        some-move-iff : (someMove m r test ≡ true) ↔ ((s : ℕ) × Runs m r s × P s)
+        some-move-iff : (someMove m r test ≡ true) ↔ ((s : ℕ) × MayRun m r s × P s)
         unfolding someMove
         some-move-iff =
             Iff·trans
@@ -34,7 +34,7 @@ module _ (m : Monitor) where
             (λ x. (x .0, x .2 .0, x .2 .1), λ x. (x .0, below (x .0) (x .1 .is-kept), (x .1, x .2)))
 
     every-move-iff : (r : ℕ) (test : ℕ → ℕ → Bool)
-        → (everyMove m r test ≡ true) ↔ ((s : ℕ) → Runs m r s → test s (m .after r s) ≡ true)
+        → (everyMove m r test ≡ true) ↔ ((s : ℕ) → MayRun m r s → test s (m .after r s) ≡ true)
     unfolding everyMove
     every-move-iff r test =
         Iff·trans (decides-not (someMove m r (λ s s′. not (test s s′)))
@@ -64,7 +64,7 @@ module _ (m : Monitor) where
 
     broadcast-iff : (g : ℕ)
         → (broadcast m g ≡ true)
-        ↔ ((w : ℕ) × (w < m .regions) × ((m .guardOf w ≡ g) × ((s : ℕ) × Runs m w s × Holds m g (m .after w s))))
+        ↔ ((w : ℕ) × (w < m .regions) × ((m .guardOf w ≡ g) × ((s : ℕ) × MayRun m w s × Holds m g (m .after w s))))
     unfolding broadcast Holds
     broadcast-iff g =
         any-iff (m .regions) (λ w. eqb (m .guardOf w) g && someMove m w (λ s s′. m .holds g s′))

@@ -20,19 +20,19 @@ module _ (m : Monitor) where
   Fails g s = m .holds g s ≡ false
 
   -- the body of region r may run from state s (R 5.2)
-  pub record Runs (r s : ℕ) : Type 0 where
+  pub record MayRun (r s : ℕ) : Type 0 where
     pub is-kept : m .kept s ≡ true
     pub guard : Holds (m .guardOf r) s
 
   -- {kept condition ∧ Guard(r) ∧ P} Body(r) {Q} (R 7.2, 7.7)
   unfoldable pub Triple : ℕ → (ℕ → Type 0) → (ℕ → Type 0) → Type 0
-  Triple r P Q = (s : ℕ) → Runs r s → P s → Q (m .after r s)
+  Triple r P Q = (s : ℕ) → MayRun r s → P s → Q (m .after r s)
 
   -- "from some state with the region's guard true and the other guard false, the body makes the other guard true"
   -- (R 7.3)
   pub record Stands (r g : ℕ) : Type 0 where
     pub from : ℕ
-    pub may-run : Runs r from
+    pub may-run : MayRun r from
     pub before : Fails g from
     pub after : Holds g (m .after r from)
 

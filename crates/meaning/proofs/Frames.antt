@@ -19,7 +19,8 @@ use Rattle.meaning.proofs.Digits.{two-digits, pair-digits, bit-digits, 
 use Rattle.logic.specs.Tests.{bit}
 use Rattle.logic.proofs.Bools.{split, clash, both, and}
 use Rattle.logic.proofs.Bools.{different}
-use Rattle.meaning.specs.Trace.{FrameRecords, IsFrameRecord, NoFrameFirst, Stops, frameLine, linesOf, no-frame}
+use Rattle.meaning.specs.Trace.{FrameRecords, IsFrameRecord, NoFrameFirst, NoFrameAt, frameLine, linesOf}
+use Rattle.meaning.specs.Trace.{no-frame}
 use Rattle.meaning.specs.Trace.{one-frame}
 
 -- a frame's line has seven bytes
@@ -222,7 +223,7 @@ none-first k bs n (first-end line more h e) = split (isFrame line)
 
 abbrev Reads : ℕ → Frames → List ℕ → Type 0
 Reads k (frames fs) bs = FrameRecords fs × (bs ≡ linesOf fs)
-Reads k (none-at j) bs = (i : ℕ) × (k + i ≡ j) × Stops bs i
+Reads k (none-at j) bs = (i : ℕ) × (k + i ≡ j) × NoFrameAt bs i
 
 reads-more : (k : ℕ) (f : Frame) (more : List ℕ) (o : Frames) → IsFrameRecord f → Reads (k + 1) o more
     → Reads k (prepend f o) (frameLine f ++ more)
@@ -280,7 +281,7 @@ frames-read trace fs =
     ((λ e. rw e at (reads (suc (length trace)) 0 trace (omega arith))), λ p. rw (p .1) (lines-read 0 (p .0)))
 
 -- 12: "first line that is no frame", the lines before it being frames
-pub frames-stop : (trace : List ℕ) (k : ℕ) → (framesOf trace ≡ none-at k) ↔ Stops trace k
+pub frames-stop : (trace : List ℕ) (k : ℕ) → (framesOf trace ≡ none-at k) ↔ NoFrameAt trace k
 unfolding framesOf
 frames-stop trace k = (
   λ e. let (i, c, s) = rw e at (reads (suc (length trace)) 0 trace (omega arith)) in let q : i ≡ k = omega arith in

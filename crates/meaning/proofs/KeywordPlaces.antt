@@ -8,17 +8,18 @@ use mathlib.Core.Bool.{true, false}
 use mathlib.Core.List.{List, [], _∷_, _++_, append-assoc, append-nil}
 use lib.ListN.{length, getD, drop}
 use lib.Seq.{getD-at}
-use Rattle.syntax.specs.Token.{Lexeme, name, key, mark, lbrace, rbrace, semicolon, Keyword, k-monitor, k-var, k-keep}
+use Rattle.syntax.specs.Token.{Lexeme, name, key, mark, lbrace, Keyword, k-monitor, k-var, k-keep}
 use Rattle.syntax.specs.Token.{Token, lexemes}
 use Rattle.syntax.specs.Decide.Lexeme.{isKey, keywordNumber}
-use Rattle.syntax.specs.Tree.{Int, plain, negated, Var, Monitor, all, spellInt, each, spellVar, spellCond, spellMethod}
+use Rattle.syntax.specs.Tree.{Int, plain, negated, Var, Monitor, all, spellInt, each, spellVar}
 use Rattle.syntax.specs.Tree.{spell}
 use Rattle.meaning.specs.Decide.Check.{placesOf}
 use Rattle.logic.proofs.Bools.{split}
 use Rattle.logic.proofs.Bools.{different}
 use Rattle.syntax.proofs.Lexemes.{decides-key}
 use Rattle.meaning.proofs.GrammarPlace.{cut}
-use Rattle.meaning.specs.Refusal.{Stands, upTo}
+use Rattle.meaning.specs.Refusal.{KeywordAt, upTo}
+use Rattle.meaning.specs.Held.{behindKeep}
 
 -- How often a keyword stands among some lexemes
 
@@ -46,14 +47,14 @@ places-append k (t ∷ as′) bs =
 
 -- the keyword behind some lexemes is the one that comes after as many as they have
 stands : (k : Keyword) (ts : List Token) (pre ls : List Lexeme) → lexemes ts ≡ pre ++ (key k ∷ ls)
-    → Stands ts pre k (getD (placesOf k ts) (times k pre) 0)
+    → KeywordAt ts pre k (getD (placesOf k ts) (times k pre) 0)
 unfolding lexemes placesOf
 stands k ts pre ls e =
     let c = cut ts pre (key k ∷ ls) e in
     go (c .front) (c .back) (c .whole) (c .passed) (c .left)
   where
     go : (front back : List Token) → ts ≡ front ++ back → lexemes front ≡ pre → lexemes back ≡ key k ∷ ls
-        → Stands ts pre k (getD (placesOf k ts) (times k pre) 0)
+        → KeywordAt ts pre k (getD (placesOf k ts) (times k pre) 0)
     go front [] w p q = different (cc)
     go front (t ∷ back) w p q =
         let is : t .lexeme ≡ key k = cc in
@@ -124,9 +125,6 @@ unfolding each spellVar
 begins v after rest = refl
 
 -- a file up to some variables, and what is behind
-unfoldable pub behindKeep : Monitor → List Lexeme
-behindKeep m = spellCond (m .keep) ++ (mark semicolon ∷ (each spellMethod (all (m .methods)) ++ (mark rbrace ∷ [])))
-
 pub spell-from : (m : Monitor) (before after : List Var) → all (m .vars) ≡ before ++ after
     → spell m ≡ upTo m before ++ (each spellVar after ++ (key k-keep ∷ behindKeep m))
 unfolding upTo spell behindKeep
@@ -139,7 +137,7 @@ spell-from m before after e =
 module _ (ts : List Token) (m : Monitor) (spelt : lexemes ts ≡ spell m) where
   -- 7: "byte of `var`"
   pub var-place : (before : List Var) (v : Var) (after : List Var) → all (m .vars) ≡ before ++ (v ∷ after)
-      → Stands ts (upTo m before) k-var (getD (placesOf k-var ts) (length before) 0)
+      → KeywordAt ts (upTo m before) k-var (getD (placesOf k-var ts) (length before) 0)
   var-place before v after e =
       rw (up-to-var m before) at
       (stands k-var ts (upTo m before) (drop 1 (each spellVar (v ∷ after) ++ (key k-keep ∷ behindKeep m)))
@@ -147,7 +145,7 @@ module _ (ts : List Token) (m : Monitor) (spelt : lexemes ts ≡ spell m) where
       (begins v after (key k-keep ∷ behindKeep m))))
 
   -- 8: "byte of `keep`"
-  pub keep-place : Stands ts (upTo m (all (m .vars))) k-keep (getD (placesOf k-keep ts) 0 0)
+  pub keep-place : KeywordAt ts (upTo m (all (m .vars))) k-keep (getD (placesOf k-keep ts) 0 0)
   unfolding each
   keep-place =
       rw (up-to-keep m (all (m .vars))) at (stands k-keep ts (upTo m (all (m .vars))) (behindKeep m)

@@ -7,16 +7,19 @@ use mathlib.Core.Logic.{inl, inr}
 use mathlib.Core.List.{List, [], _∷_, _++_, append-assoc}
 use lib.ListN.{length, drop, length-append}
 use lib.Dec.{ltb}
-use Rattle.syntax.specs.Token.{Lexeme, name, key, mark, lbrace, rbrace, semicolon, Keyword, k-monitor, k-var, k-keep, k-method, k-waituntil, Token, lexemes}
+use Rattle.syntax.specs.Token.{Lexeme, name, key, mark, lbrace, rbrace, semicolon, Keyword, k-monitor, k-var, k-keep}
+use Rattle.syntax.specs.Token.{k-method, k-waituntil, Token, lexemes}
 use Rattle.syntax.specs.Decide.Lexeme.{isKey, keywordNumber}
-use Rattle.syntax.specs.Tree.{Cond, Region, Method, Var, Monitor, all, each, spellRegion, spellMethod, spellVar, spellCond, spell}
+use Rattle.syntax.specs.Tree.{Cond, Region, Method, Var, Monitor, all, each, spellRegion, spellMethod, spellVar}
+use Rattle.syntax.specs.Tree.{spellCond, spell}
 use Rattle.meaning.specs.Accepted.{regionsOf, NoneOffends, howMany, PastLimit, Declared, Accepted}
 use Rattle.meaning.specs.Model.{placeIn, guardsOf, regions, guards}
 use Rattle.logic.proofs.Bools.{split, different}
 use Rattle.syntax.proofs.Lexemes.{decides-key}
 use Rattle.meaning.proofs.GrammarPlace.{cut}
 use Rattle.meaning.specs.Refusal.{upTo}
-use Rattle.meaning.proofs.KeywordPlaces.{times, times-append, vars-times, each-append, behindKeep}
+use Rattle.meaning.proofs.KeywordPlaces.{times, times-append, vars-times, each-append}
+use Rattle.meaning.specs.Held.{behindKeep}
 
 pub record Sizes (m : Monitor) : Type 0 where
   pub vars : length (all (m .vars)) ≤ 6

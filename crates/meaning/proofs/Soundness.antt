@@ -19,7 +19,8 @@ use Rattle.meaning.specs.Decide.Bodies.{outcome}
 use Rattle.meaning.specs.State.{count, stateAt, numberOf, starts}
 use Rattle.meaning.specs.Kept.{keptAt}
 use Rattle.meaning.specs.Answer.{answer, Verdict, accepted, refused}
-use Rattle.meaning.specs.Decide.Check.{placesOf, illRanged, keptAfter, breaks, firstFrom, brokenFrom, broken, checkMeaning}
+use Rattle.meaning.specs.Decide.Check.{placesOf, illRanged, keptAfter, breaks, firstFrom, brokenFrom, broken}
+use Rattle.meaning.specs.Decide.Check.{checkMeaning}
 use Rattle.meaning.specs.Accepted.{regionsOf, GoodRanges, State, BlockRuns, Keeps, Meets, IsRegion, Sound}
 use Rattle.meaning.specs.Model.{vars}
 use Rattle.logic.proofs.Bools.{both, and, split, clash, not-true, true-not, is-false, no-some, different}

@@ -11,7 +11,7 @@ use lib.Dec.{ltb}
 use borrow.Author.Tests.{ltb-true, ltb-false, lt-ltb, le-ltb}
 use Rattle.syntax.specs.Token.{Lexeme, number, Keyword, k-var, Token, lexemes}
 use Rattle.syntax.specs.Decide.Scan.{Tokens, tokens, none-at, tokenize}
-use Rattle.syntax.specs.Spelling.{Stops}
+use Rattle.syntax.specs.Spelling.{NoTokenAt}
 use Rattle.syntax.proofs.Scanning.{tokenize-tokens, tokenize-none}
 use Rattle.syntax.specs.Tree.{Monitor, all, spell, InGrammar, Viable}
 use Rattle.syntax.specs.Decide.Reading.{Got, got, stuck, read}
@@ -29,7 +29,7 @@ use Rattle.meaning.proofs.Limits.{first-unique, crowded-first, crowded-
 use Rattle.meaning.proofs.Limits.{misnamed-first, misnamed-none}
 use Rattle.meaning.specs.Refusal.{NoFile}
 use Rattle.meaning.proofs.GrammarPlace.{place-first, place-end}
-use Rattle.meaning.specs.Refusal.{Stands, upTo}
+use Rattle.meaning.specs.Refusal.{KeywordAt, upTo}
 use Rattle.meaning.proofs.KeywordPlaces.{var-place, keep-place}
 use Rattle.meaning.proofs.Soundness.{check-meaning-iff}
 use Rattle.meaning.specs.Accepted.{Accepted}
@@ -55,7 +55,7 @@ says-1 : (file : List ℕ) → 8192 < length file → check file ≡ refused (an
 unfolding check
 says-1 file h = cc (lt-ltb 8192 (length file) h)
 
-says-2 : (file : List ℕ) (k : ℕ) → length file ≤ 8192 → Stops k 0 file → check file ≡ refused (answer 2 k 0)
+says-2 : (file : List ℕ) (k : ℕ) → length file ≤ 8192 → NoTokenAt k 0 file → check file ≡ refused (answer 2 k 0)
 unfolding check
 says-2 file k h s = cc (le-ltb 8192 (length file) h, tokenize-none file k .1 s)
 
@@ -160,7 +160,7 @@ same-front [] (c ∷ b) t u x y e h = different (cc)
 same-front (c ∷ a) [] t u x y e h = different (cc)
 same-front (c ∷ a) (d ∷ b) t u x y e h = same-front a b t u x y (cc) (cc)
 
-one-place : {ts : List Token} {pre : List Lexeme} {k : Keyword} {i j : ℕ} → Stands ts pre k i → Stands ts pre k j
+one-place : {ts : List Token} {pre : List Lexeme} {k : Keyword} {i j : ℕ} → KeywordAt ts pre k i → KeywordAt ts pre k j
     → i ≡ j
 one-place s t =
     sym (s .place)
@@ -174,7 +174,7 @@ module _ {file : List ℕ} {ts : List Token} {m : Monitor} (p : Past6 file ts m)
   spelt = sym (p .past .past .grammar)
 
   var-at : {i : ℕ} (t : FirstIllRanged (all (m .vars)) i)
-      → Stands ts (upTo m (t .before)) k-var (getD (placesOf k-var ts) i 0)
+      → KeywordAt ts (upTo m (t .before)) k-var (getD (placesOf k-var ts) i 0)
   var-at t = rw (t .place) at (var-place ts m spelt (t .before) (t .var) (t .after) (t .parts))
 
   -- 7 to 9, from and to the verdicts of a tree

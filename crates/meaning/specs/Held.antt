@@ -1,12 +1,14 @@
--- How the values and ranges of at most six variables are held as numbers: each value with 128 added.
+-- How the values and ranges of at most six variables are held as numbers: each value with 128 added; and the lexemes
+-- behind `keep`, among which the code looks for parts of a file.
 use Prim.Native.Nat.{ℕ, _<_, _≤_}
 use mathlib.Core.Path.{_≡_}
-use mathlib.Core.List.{List}
+use mathlib.Core.List.{List, [], _∷_, _++_}
 use mathlib.Core.Option.{some}
 use lib.ListN.{length, getD, getElem?}
 use lib.IntN.{ℤ, pos, _-ℤ_}
 use Rattle.syntax.specs.Limits.{mostVars}
-use Rattle.syntax.specs.Tree.{Var}
+use Rattle.syntax.specs.Token.{Lexeme, mark, semicolon, rbrace}
+use Rattle.syntax.specs.Tree.{Var, Monitor, all, each, spellCond, spellMethod}
 use Rattle.meaning.specs.Value.{intOf}
 
 -- a value with 128 added
@@ -30,3 +32,7 @@ pub record Ranges (vs : List Var) (lows highs : List ℕ) : Type 0 where
   pub highs-held : (k : ℕ) (v : Var) → getElem? vs k ≡ some v → Offset (intOf (v .high)) (getD highs k 0)
   pub highs-small : (k : ℕ) → getD highs k 0 ≤ 255
   pub unused-range : (k : ℕ) → k < mostVars → length vs ≤ k → getD highs k 0 < getD lows k 0
+
+-- what stands behind `keep` in a file that a tree spells
+unfoldable pub behindKeep : Monitor → List Lexeme
+behindKeep m = spellCond (m .keep) ++ (mark semicolon ∷ (each spellMethod (all (m .methods)) ++ (mark rbrace ∷ [])))

@@ -15,7 +15,7 @@ use Rattle.meaning.specs.Kept.{keptAt}
 use Rattle.meaning.specs.Answer.{answer, Answer, Verdict, accepted, refused}
 use Rattle.meaning.specs.Accepted.{Accepted, GoodRange, GoodRanges, Keeps, Meets, IsRegion, NoneOffends}
 use Rattle.meaning.specs.Accepted.{FirstOffends, Crowded, PastLimit, Misnamed}
-use Rattle.syntax.specs.Spelling.{Cover, Stops}
+use Rattle.syntax.specs.Spelling.{Cover, NoTokenAt}
 
 -- 4: "after which no file of the grammar can follow" (R 6.13)
 unfoldable pub NoFile : List Token → Token → Type 0
@@ -24,7 +24,7 @@ NoFile before t = Viable (lexemes (before ++ (t ∷ []))) → ⊥
 -- 7 and 8
 
 -- the token behind some lexemes is a keyword, at a byte (R 6.26, 6.31)
-pub record Stands (ts : List Token) (pre : List Lexeme) (k : Keyword) (byte : ℕ) : Type 0 where
+pub record KeywordAt (ts : List Token) (pre : List Lexeme) (k : Keyword) (byte : ℕ) : Type 0 where
   pub front : List Token
   pub back : List Token
   pub token : Token
@@ -97,7 +97,7 @@ pub data Refusal (file : List ℕ) : Answer → Type 0 where
   -- "file over 8,192 bytes" (R 6.4)
   too-long : mostBytes < length file → Refusal file (answer 1 0 0)
   -- "first byte that begins no token, or begins a word or number that is too long" (R 6.5, 6.6)
-  no-token : {k : ℕ} → length file ≤ mostBytes → Stops k 0 file → Refusal file (answer 2 k 0)
+  no-token : {k : ℕ} → length file ≤ mostBytes → NoTokenAt k 0 file → Refusal file (answer 2 k 0)
   -- "first token that is past the 1,024th, or is a ( or { that makes opened less closed (both kinds together) exceed
   -- 12" (R 6.7)
   too-many : {ts : List Token} {k : ℕ} → Past2 file ts → FirstOffends Crowded ts k → Refusal file (answer 3 k 0)
@@ -116,11 +116,11 @@ pub data Refusal (file : List ℕ) : Answer → Type 0 where
   -- "byte of `var`": the token behind the variables before the first ill-ranged one (R 6.26)
   ill-ranged :
       {ts : List Token} {m : Monitor} {i k : ℕ} → Past6 file ts m → (t : FirstIllRanged (all (m .vars)) i)
-      → Stands ts (upTo m (t .before)) k-var k → Refusal file (answer 7 k 0)
+      → KeywordAt ts (upTo m (t .before)) k-var k → Refusal file (answer 7 k 0)
   -- "byte of `keep`": "the kept condition is false at the start values" (R 6.31)
   start-not-kept :
       {ts : List Token} {m : Monitor} {k : ℕ} → Past7 file ts m → keptAt m (starts (all (m .vars))) ≡ false
-      → Stands ts (upTo m (all (m .vars))) k-keep k → Refusal file (answer 8 k 0)
+      → KeywordAt ts (upTo m (all (m .vars))) k-keep k → Refusal file (answer 8 k 0)
   -- "lowest region, then lowest state" (R 6.33)
   broken :
       {ts : List Token} {m : Monitor} {k n : ℕ} → Past7 file ts m → keptAt m (starts (all (m .vars))) ≡ true

@@ -32,7 +32,7 @@ pub record NoFrameFirst (bs : List ℕ) : Type 0 where
   pub no-line : (f : Frame) (more : List ℕ) → IsFrameRecord f → bs ≡ frameLine f ++ more → ⊥
 
 -- a trace is the lines of k frames, and then bytes that begin with no frame's line (R 8.3, 8.9)
-pub record Stops (trace : List ℕ) (k : ℕ) : Type 0 where
+pub record NoFrameAt (trace : List ℕ) (k : ℕ) : Type 0 where
   pub before : List Frame
   pub rest : List ℕ
   pub count : length before ≡ k

@@ -16,7 +16,7 @@ use Rattle.syntax.specs.Held.Kind.{kindOf, valueOf, nameKind, numberKind, Words
 use Rattle.logic.proofs.Bools.{split}
 use Rattle.meaning.specs.Decide.Check.{tally, pastLimit}
 use Rattle.passes.specs.declared.Names.{Names}
-use Rattle.passes.specs.Tokens.{titlesOf, titlesFrom, slotOrValue, Stands, Titles, Resolved, Grows}
+use Rattle.passes.specs.Tokens.{titlesOf, titlesFrom, slotOrValue, NameAt, Titles, Resolved, Grows}
 use Rattle.syntax.proofs.ByKind.{kind-name, kind-key}
 use Rattle.passes.proofs.ByIndex.{rest-at, tokenAt, kinds-long, value-at, kind-at, here, front-more, at-end}
 use Rattle.passes.proofs.ByIndex.{tally-least, Few, few-first, few-next, room}
@@ -53,7 +53,7 @@ titles-token last at (mark m) ts = refl
 grown : {file : List ℕ} {names after : Names} {titles : List (List ℕ)} {start len : ℕ} (adds b : Bool) (l : Lexeme)
     → Grows names adds start len after
     → Titles file titles names → adds ≡ (isName l && b) → (b ≡ true → length titles < mostMethods)
-    → ((x : List ℕ) → l ≡ name x → Stands file x start len)
+    → ((x : List ℕ) → l ≡ name x → NameAt file x start len)
     → Titles file (titles ++ added b l) after
 unfolding added isName
 grown adds true (name x) d t e r s = d _ _ t .1 x e (r refl) (s x refl)
@@ -129,7 +129,7 @@ module _ {file : List ℕ} {ts : List Token} {kinds values places : List ℕ} (h
     pub resolved-next : {vars : Names} {r : ℕ} → Titles file (titlesOf ts) vars
         → ((titles : List (List ℕ)) (l : Lexeme) → Titles file titles vars → getD kinds i 0 ≡ kindOf l
         → getD values i 0 ≡ valueOf l
-        → ((x : List ℕ) → l ≡ name x → Stands file x (getD places i 0) (getD values i 0)) → r ≡ slotOrValue titles l)
+        → ((x : List ℕ) → l ≡ name x → NameAt file x (getD places i 0) (getD values i 0)) → r ≡ slotOrValue titles l)
         → set now i r ≡ map value (take (i + 1) ts) ++ drop (i + 1) first
     resolved-next {r = r} t d =
         let e : r ≡ value (tokenAt ts i) =

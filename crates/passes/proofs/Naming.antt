@@ -20,7 +20,7 @@ use Rattle.syntax.proofs.Lexemes.{decides-same}
 use Rattle.logic.proofs.Bools.{different}
 use Rattle.meaning.specs.Decide.Check.{member}
 use Rattle.passes.specs.declared.Names.{Names}
-use Rattle.passes.specs.Tokens.{slotIn, slotOrValue, Stands, Titles, wrongBy, wrongly}
+use Rattle.passes.specs.Tokens.{slotIn, slotOrValue, NameAt, Titles, wrongBy, wrongly}
 use Rattle.syntax.proofs.ByKind.{kind-key}
 use Rattle.passes.proofs.ByIndex.{rest-at, tokenAt, token-member, value-at, place-at, room}
 
@@ -35,7 +35,7 @@ pub same-sym : (x y : List ℕ) → sameBytes x y ≡ sameBytes y x
 same-sym x y = same-test (sameBytes x y) y x (λ h. sym (decides-same x y .0 h)) (λ e. decides-same x y .1 (sym e))
 
 -- the bytes between a name's start and its end
-pub stood : {file x : List ℕ} {start len : ℕ} → Stands file x start len → take (start + len - start) (drop start file)
+pub stood : {file x : List ℕ} {start len : ℕ} → NameAt file x start len → take (start + len - start) (drop start file)
     ≡ x
 stood {file} {x} {start} {len} s = ap (λ (n : ℕ). take n (drop start file)) (let e : start + len - start ≡ len =
     omega arith in e) ∙ s .bytes
@@ -71,7 +71,7 @@ slot-member (y ∷ ys) x = split (sameBytes y x)
 
 pub one-more : {file : List ℕ} {titles : List (List ℕ)} {names : Names} (x : List ℕ) (start len : ℕ)
     → Titles file titles names → length titles < mostMethods
-    → length (names .starts) ≡ mostMethods → length (names .lens) ≡ mostMethods → Stands file x start len
+    → length (names .starts) ≡ mostMethods → length (names .lens) ≡ mostMethods → NameAt file x start len
     → Titles file (titles ++ (x ∷ []))
     (record {
       starts = set (names .starts) (names .count) start;
@@ -90,7 +90,7 @@ one-more {file} {titles} {names} x start len t room a b s =
     fits : (k : ℕ) → k < length (titles ++ (x ∷ [])) → k ≤ length titles
     fits k l = omega (arith, simp length-append at l)
 
-    earlier : (k : ℕ) → k < length titles → Stands file (getD (titles ++ (x ∷ [])) k [])
+    earlier : (k : ℕ) → k < length titles → NameAt file (getD (titles ++ (x ∷ [])) k [])
         (getD (set (names .starts) (names .count) start) k 0) (getD (set (names .lens) (names .count) len) k 0)
     earlier k l =
         let d : k ≡ names .count → ⊥ = λ e. omega (arith, t .counted) in
@@ -100,7 +100,7 @@ one-more {file} {titles} {names} x start len t room a b s =
           getD-set-other (names .lens) (names .count) k len 0 d,
         ) (t .held k l)
 
-    last : (k : ℕ) → k ≤ length titles → length titles ≤ k → Stands file (getD (titles ++ (x ∷ [])) k [])
+    last : (k : ℕ) → k ≤ length titles → length titles ≤ k → NameAt file (getD (titles ++ (x ∷ [])) k [])
         (getD (set (names .starts) (names .count) start) k 0) (getD (set (names .lens) (names .count) len) k 0)
     last k l m =
         let e : names .count ≡ k = omega (arith, t .counted) in
@@ -121,7 +121,7 @@ spelled x (marked a) e = different (cc)
 
 pub name-stands : {file : List ℕ} {ts : List Token} {kinds values places : List ℕ} → Words file ts kinds values places
     → (i : ℕ) → i < length kinds
-    → (x : List ℕ) → tokenAt ts i .lexeme ≡ name x → Stands file x (getD places i 0) (getD values i 0)
+    → (x : List ℕ) → tokenAt ts i .lexeme ≡ name x → NameAt file x (getD places i 0) (getD values i 0)
 unfolding valueOf
 name-stands {file} {ts} {values = values} {places = places} h i l x e =
     let t = tokenAt ts i in

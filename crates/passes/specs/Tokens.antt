@@ -49,7 +49,7 @@ unfoldable pub Resolved : List Token → List ℕ → Type 0
 Resolved ts values = values ≡ map (λ t. slotOrValue (titlesOf ts) (t .lexeme)) ts
 
 -- a name stands in the file at a start, with a length
-pub record Stands (file x : List ℕ) (start len : ℕ) : Type 0 where
+pub record NameAt (file x : List ℕ) (start len : ℕ) : Type 0 where
   pub long : len ≡ length x
   pub inside : start + len ≤ length file
   pub bytes : take len (drop start file) ≡ x
@@ -59,14 +59,14 @@ pub record Titles (file : List ℕ) (titles : List (List ℕ)) (names : Names) :
   pub counted : names .count ≡ length titles
   pub room : length titles ≤ mostMethods
   pub held : (k : ℕ) → k < length titles
-      → Stands file (getD titles k []) (getD (names .starts) k 0) (getD (names .lens) k 0)
+      → NameAt file (getD titles k []) (getD (names .starts) k 0) (getD (names .lens) k 0)
 
 -- the names as they were, or with a name that stands at a start behind them
 abbrev pub Grows : Names → Bool → ℕ → ℕ → Names → Type 0
 Grows names adds start len after =
     (file : List ℕ) (titles : List (List ℕ)) → Titles file titles names
     → (adds ≡ false → Titles file titles after)
-    × ((x : List ℕ) → adds ≡ true → length titles < mostMethods → Stands file x start len
+    × ((x : List ℕ) → adds ≡ true → length titles < mostMethods → NameAt file x start len
     → Titles file (titles ++ (x ∷ [])) after)
 
 -- is a name wrong: does it follow `var`, `method` or `monitor`, and is it declared as a variable and as a method
@@ -88,4 +88,4 @@ abbrev pub Judges : List ℕ → Names → Names → ℕ → ℕ → ℕ → ℕ
 Judges file vars methods kind before start len r =
     (vs ms : List (List ℕ)) (l last : Lexeme) → Titles file vs vars → Titles file ms methods → kind ≡ kindOf l
     → before ≡ kindOf last
-    → ((x : List ℕ) → l ≡ name x → Stands file x start len) → r ≡ wrongly last vs ms l
+    → ((x : List ℕ) → l ≡ name x → NameAt file x start len) → r ≡ wrongly last vs ms l

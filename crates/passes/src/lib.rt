@@ -15,7 +15,7 @@ ghost use Rattle.syntax.specs.Decide.Lexeme.{isKey};
 ghost use Rattle.syntax.specs.Held.Kind.{kindOf, valueOf, nameKind, Words};
 ghost use Rattle.meaning.specs.Accepted.{opens};
 ghost use Rattle.meaning.specs.Decide.Check.{tally, crowded, pastLimit, member, misnamed};
-ghost use Rattle.passes.specs.Tokens.{foundOf, titlesOf, slotIn, slotOrValue, Resolved, Stands, Titles, Grows};
+ghost use Rattle.passes.specs.Tokens.{foundOf, titlesOf, slotIn, slotOrValue, Resolved, NameAt, Titles, Grows};
 ghost use Rattle.passes.specs.Tokens.{Judges};
 
 // The place of the first token that offends, or that there is none.
@@ -145,7 +145,7 @@ fn no_names() -> Names
 
 // Whether two parts of the file are the same bytes.
 fn same_part(file: &[u8], a: u16, a_len: u16, b: u16, b_len: u16) -> bool
-    ensures { λ r. ⌜ ((x y : List ℕ) → Stands (now (file .entry)) x a «a_len» → Stands (now (file .entry)) y b «b_len»
+    ensures { λ r. ⌜ ((x y : List ℕ) → NameAt (now (file .entry)) x a «a_len» → NameAt (now (file .entry)) y b «b_len»
         → r ≡ sameBytes x y) ⌝ }
 {
     let s = a as usize;
@@ -165,7 +165,7 @@ fn same_part(file: &[u8], a: u16, a_len: u16, b: u16, b_len: u16) -> bool
 fn slot_of(file: &[u8], names: Names, start: u16, len: u16) -> usize
     ensures within { λ r. ⌜ r ≤ mostMethods ⌝ }
     ensures slot { λ r. ⌜ ((titles : List (List ℕ)) (x : List ℕ) → Titles (now (file .entry)) titles names
-        → Stands (now (file .entry)) x start len → r ≡ slotIn titles x) ⌝ }
+        → NameAt (now (file .entry)) x start len → r ≡ slotIn titles x) ⌝ }
 {
     let mut i = 0;
     while i < names.count && i < syntax::METHODS {
@@ -180,7 +180,7 @@ fn slot_of(file: &[u8], names: Names, start: u16, len: u16) -> usize
 // Is a name among the declared ones?
 fn among(file: &[u8], names: Names, start: u16, len: u16) -> bool
     ensures { λ r. ⌜ ((titles : List (List ℕ)) (x : List ℕ) → Titles (now (file .entry)) titles names
-        → Stands (now (file .entry)) x start len → r ≡ member x titles) ⌝ }
+        → NameAt (now (file .entry)) x start len → r ≡ member x titles) ⌝ }
 {
     slot_of(file, names, start, len) < names.count
 }
@@ -310,7 +310,7 @@ pub fn variables(kinds: &[u8], values: &[u16], places: &[u16]) -> Names
 fn slot_or_value(file: &[u8], vars: Names, kind: u8, start: u16, value: u16) -> u16
     ensures { λ r. ⌜ ((titles : List (List ℕ)) (l : Lexeme) → Titles (now (file .entry)) titles vars → kind ≡ kindOf l
         → value ≡ valueOf l
-        → ((x : List ℕ) → l ≡ name x → Stands (now (file .entry)) x start value) → r ≡ slotOrValue titles l) ⌝ }
+        → ((x : List ℕ) → l ≡ name x → NameAt (now (file .entry)) x start value) → r ≡ slotOrValue titles l) ⌝ }
 {
     if kind == syntax::NAME {
         return slot_of(file, vars, start, value) as u16;

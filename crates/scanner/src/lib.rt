@@ -390,7 +390,8 @@ fn code_of(file: &[u8], token: Token) -> Code
 
 // The tokens of a file, into slices that are long enough.
 fn scan_into(file: &[u8], kinds: &mut [u8], values: &mut [u16], places: &mut [u16]) -> Scanned
-    requires { ⌜ (length (now kinds) ≡ mostBytes) × (length (now values) ≡ mostBytes) × (length (now places) ≡ mostBytes) ⌝ }
+    requires { ⌜ (length (now kinds) ≡ mostBytes) × (length (now values) ≡ mostBytes) × (length (now places)
+        ≡ mostBytes) ⌝ }
     ensures { λ r. ⌜ Scans (now (file .entry)) r (now (kinds .exit)) (now (values .exit)) (now (places .exit)) ⌝ }
 {
     if syntax::FILE_BYTES < file.len() {

@@ -10,7 +10,7 @@ use Rattle.machine.specs.Algorithm1.{Entry}
 use Rattle.machine.specs.Decide.Table.{acts, entryTold, tableTold}
 use Rattle.machine.proofs.Order.{ahead-same}
 use Rattle.stepper.specs.Slices.{entryAt, truths, toldAt}
-use Rattle.stepper.proofs.Loops.{any-same}
+use Rattle.logic.proofs.Any.{any-same}
 
 module _ (m′ m : Monitor) where
   on-same :

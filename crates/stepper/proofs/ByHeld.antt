@@ -27,7 +27,7 @@ use Rattle.stepper.proofs.Taken as taken-frame
 use Rattle.stepper.proofs.Taken.{taken-there, taken-runs, there-below}
 use Rattle.machine.proofs.Order.{same-trans, began-same, left-same}
 use Rattle.machine.proofs.Reached.{PlaceWithin, Reached}
-use Rattle.stepper.proofs.Loops.{any-same}
+use Rattle.logic.proofs.Any.{any-same}
 use Rattle.stepper.proofs.Judged.{same-verdict, absent}
 use Rattle.stepper.proofs.Agree.{first-same, plain-same, table-same}
 

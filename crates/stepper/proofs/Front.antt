@@ -15,7 +15,8 @@ use Rattle.machine.specs.Monitor.{Place, idle, waiting, due, Threads, Monitor, 
 use Rattle.machine.specs.Decide.Step.{onGuard, waitsOn, next, firstNotified}
 use Rattle.machine.specs.Decide.Table.{acts, entryTold, tableTold}
 use Rattle.stepper.specs.Slices.{guardAt, holdsAt, entryAt, guardsOnly, truths, toldBehind}
-use Rattle.stepper.proofs.Loops.{any-true, any-false, any-same, any-below, guards-alone}
+use Rattle.stepper.proofs.Loops.{any-below, guards-alone}
+use Rattle.logic.proofs.Any.{any-intro, any-false, any-same}
 
 lower-ahead : (p : Threads) (u v : ℕ) → ahead p u v ≡ ltb u v
 unfolding ahead
@@ -47,7 +48,7 @@ lowest-ahead {s} {low} lowest p f e t h = ap not (below-ahead p f t (omega arith
 
     go : Dec (low < t) → not (any t f) ≡ leb t low
     go (yes l) =
-        ap not (any-true t low f l (sym (e low (omega arith)) ∙ lowest .found (omega arith))) ∙ sym (lt-leb t low l)
+        ap not (any-intro t f low l (sym (e low (omega arith)) ∙ lowest .found (omega arith))) ∙ sym (lt-leb t low l)
     go (no l) =
         ap not (any-false t f (λ k q. sym (e k (omega arith)) ∙ none k (omega arith) (member s k) refl))
         ∙ sym (le-leb t low (omega arith))

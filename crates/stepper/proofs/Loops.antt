@@ -2,7 +2,7 @@
 -- the stepper.
 use Prim.Native.Nat.{ℕ, zero, suc, _+_, _/_, _%_, _≤_, _<_}
 use mathlib.Core.Path.{_≡_, refl, sym, ap, ap₂, _∙_}
-use mathlib.Core.Bool.{Bool, true, false, _&&_, _||_, and-true, and-false, or-true}
+use mathlib.Core.Bool.{Bool, true, false, _&&_, _||_, and-true, and-false}
 use mathlib.Core.Logic.{_⊎_, ⊎-elim}
 use mathlib.Core.List.{List}
 use native.Mathlib.Decide.{decLt}
@@ -23,37 +23,10 @@ use Rattle.stepper.specs.declared.Place.{Place}
 use Rattle.stepper.specs.declared.Thread.{Thread}
 use Rattle.stepper.specs.Shown.{placeOf, placesOf, idleThread}
 use Rattle.stepper.specs.Slices.{guardAt, entryBy, slices, guardsOnly}
+use Rattle.logic.proofs.Bools.{or-left, or-right, or-none}
+use Rattle.logic.proofs.Any.{any-same}
 
 -- ---- some number below n passes a test
-
-or-left : (a b : Bool) → a ≡ true → a || b ≡ true
-or-left a b e = ap (λ (x : Bool). x || b) e
-
-or-right : (a b : Bool) → b ≡ true → a || b ≡ true
-or-right a b e = ap (λ (x : Bool). a || x) e ∙ or-true a
-
-or-none : (a b : Bool) → a ≡ false → b ≡ false → a || b ≡ false
-or-none a b e d = ap₂ (λ (x y : Bool). x || y) e d
-
-pub any-true : (n k : ℕ) (f : ℕ → Bool) → k < n → f k ≡ true → any n f ≡ true
-unfolding any
-any-true zero k f h e = absurd (omega arith)
-any-true (suc n) k f h e = go (decLt k n) (λ l. any-true n k f l e)
-  where
-    go : Dec (k < n) → (k < n → any n f ≡ true) → f n || any n f ≡ true
-    go (yes l) rest = or-right (f n) (any n f) (rest l)
-    go (no l) rest = or-left (f n) (any n f) (ap f (omega arith) ∙ e)
-
-pub any-false : (n : ℕ) (f : ℕ → Bool) → ((k : ℕ) → k < n → f k ≡ false) → any n f ≡ false
-unfolding any
-any-false zero f e = refl
-any-false (suc n) f e = or-none (f n) (any n f) (e n (omega arith)) (any-false n f (λ k h. e k (omega arith)))
-
-pub any-same : (n : ℕ) (f g : ℕ → Bool) → ((k : ℕ) → k < n → f k ≡ g k) → any n f ≡ any n g
-unfolding any
-any-same zero f g e = refl
-any-same (suc n) f g e =
-    ap₂ (λ (x y : Bool). x || y) (e n (omega arith)) (any-same n f g (λ k h. e k (omega arith)))
 
 -- those below u, of those below n
 pub any-below : (n u : ℕ) (f : ℕ → Bool) → u ≤ n → any n (λ v. f v && ltb v u) ≡ any u f

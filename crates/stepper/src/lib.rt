@@ -234,7 +234,8 @@ fn entry_acts(
     region: u8,
     met: u16,
 ) -> bool
-    ensures { λ r. ⌜ r ≡ toldBehind (now (holds .entry)) (now («guard_of» .entry)) (now (entries .entry)) state region met
+    ensures { λ r. ⌜ r ≡ toldBehind (now (holds .entry)) (now («guard_of» .entry))
+        (now (entries .entry)) state region met
         (placeOf place) ⌝ }
 {
     match place {

@@ -10,7 +10,8 @@ use borrow.Author.Tests.{eqb-true, eqb-false, eq-eqb, ne-eqb}
 use Rattle.syntax.specs.Token.{Lexeme, name, key, number, mark, Mark, Keyword}
 use Rattle.syntax.specs.Decide.Lexeme.{markNumber, keywordNumber, isMark, isKey, isName}
 use Rattle.syntax.specs.Token as token
-use Rattle.syntax.specs.Held.Kind.{kindOf, valueOf, nameKind, numberKind, firstMark, firstKeyword, keywordCount, kindsEnd}
+use Rattle.syntax.specs.Held.Kind.{kindOf, valueOf, nameKind, numberKind, firstMark, firstKeyword, keywordCount}
+use Rattle.syntax.specs.Held.Kind.{kindsEnd}
 use Rattle.syntax.proofs.Lexemes.{decides-key, decides-mark}
 use Rattle.logic.proofs.Bools.{split}
 

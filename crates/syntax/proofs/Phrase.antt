@@ -12,6 +12,7 @@ use Rattle.syntax.specs.Token.{Lexeme}
 use Rattle.syntax.specs.Tree.{each, Some, all}
 use Rattle.syntax.specs.Decide.Reading.{Got, got, stuck, Reader, onwards, _>>=_, give, begins, rest, choose}
 use Rattle.syntax.specs.Decide.Reading.{expect, readMany, readSome}
+use Rattle.logic.proofs.Bools.{split}
 
 -- what the trees of a part spell: an index, and for each its tree and its word
 pub record Words (A : Type 0) : Type 1 where
@@ -288,10 +289,6 @@ module _ {A B : Type 0} {W : Words A} {U : A → Words B} {F G : Follow} {n m : 
     }
 
 -- Tests
-
-split {ℓ} : {C : Type ℓ} (b : Bool) → (b ≡ true → C) → (b ≡ false → C) → C
-split true f g = f refl
-split false f g = g refl
 
 seen : (t : Lexeme → Bool) (ls ls′ : List Lexeme) → front ls ≡ front ls′ → begins t ls ≡ begins t ls′
 unfolding begins

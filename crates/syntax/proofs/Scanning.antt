@@ -3,51 +3,29 @@
 use Prim.Native.Nat.{ℕ, zero, suc, _+_, _≤_, _<_}
 use Prim.Native.String.{String}
 use native.Mathlib.Omega.{arith}
-use mathlib.Core.Bool.{Bool, true, false, not, _&&_, _||_, true≢false, false≢true}
+use mathlib.Core.Bool.{Bool, true, false, not, _&&_, _||_, false≢true}
 use mathlib.Core.List.{List, [], _∷_, map, List·Memᴰ, List·Memᴰ·head, List·Memᴰ·tail, List·Memᴰ·not-nil}
 use mathlib.Core.List.{List·Memᴰ·cases-cons, head-eq-of-cons-eq, tail-eq-of-cons-eq}
-use mathlib.Core.Logic.{_⊎_, inl, inr, ⊎-elim, _↔_}
+use mathlib.Core.Logic.{⊎-elim, _↔_}
 use mathlib.Core.Path.{_≡_, refl, sym, ap, subst, _∙_}
 use lib.ListN.{length, take, drop, getD, length-drop}
 use lib.Seq.{length-take-le, take-length, drop-drop, getD-drop}
 use lib.Dec.{leb, eqb}
 use borrow.Author.Tests.{leb-true, leb-false, le-leb, lt-leb, eqb-true, eq-eqb, ne-eqb, not-true}
 use Rattle.syntax.specs.Bytes.{bytes, between, blank, letter, digit, wordByte, decimal, sameBytes}
-use Rattle.syntax.specs.Decide.Leading.{leading}
-use Rattle.syntax.specs.Decide.Leading.{startsWith}
+use Rattle.syntax.specs.Decide.Leading.{leading, startsWith}
 use Rattle.syntax.specs.Token.{Mark, Keyword, Lexeme, name, key, number, mark, Token, keywords, marks}
 use Rattle.syntax.specs.Decide.Scan.{wordOf, Scan, nothing, found, atMost, markOf, scan, Tokens, tokens, none-at}
 use Rattle.syntax.specs.Decide.Scan.{prepend, tokensFrom, tokenize}
 use Rattle.syntax.specs.Spelling.{Every, Run, Word, Digits, Listed, TokenShape, Spells, Longest, BeginsNone}
-use Rattle.syntax.specs.Spelling.{no-token, long-word, long-number, Cover, Stops}
-use Rattle.syntax.specs.Spelling.{a-mark, a-number, a-word, done, here, marked, named, reserved, skip, token}
-use Rattle.syntax.specs.Spelling.{valued}
+use Rattle.syntax.specs.Spelling.{no-token, long-word, long-number, Cover, NoTokenAt, a-mark, a-number, a-word}
+use Rattle.syntax.specs.Spelling.{done, here, marked, named, reserved, skip, token, valued}
+use Rattle.logic.proofs.Bools.{split, clash, both, either, neither}
 
 -- the places of tokens rise, from a first that they may have
 abbrev pub Rising : ℕ → List Token → Type 0
 Rising from [] = Unit {0}
 Rising from (t ∷ ts) = (from ≤ t .at) × Rising (suc (t .at)) ts
-
--- Tests
-
-split {ℓ} : {C : Type ℓ} (b : Bool) → (b ≡ true → C) → (b ≡ false → C) → C
-split true f g = f refl
-split false f g = g refl
-
-clash {ℓ} : {C : Type ℓ} {b : Bool} → b ≡ true → b ≡ false → C
-clash p q = absurd (true≢false (sym p ∙ q))
-
-both : (a b : Bool) → a && b ≡ true → (a ≡ true) × (b ≡ true)
-both true b h = (refl, h)
-both false b h = absurd (false≢true h)
-
-either : (a b : Bool) → a || b ≡ true → (a ≡ true) ⊎ (b ≡ true)
-either true b h = inl refl
-either false b h = inr h
-
-neither : (a b : Bool) → a || b ≡ false → (a ≡ false) × (b ≡ false)
-neither true b h = absurd (true≢false h)
-neither false b h = (refl, h)
 
 -- Bytes: blanks are below digits, and digits below letters
 
@@ -512,27 +490,27 @@ cover-tokens (Cover.skip {at = at} {b = b} {bs = bs} h c) = step-blank at b bs h
 cover-tokens (Cover.token {at = at} {n = n} {l = l} {bs = bs} p s c) =
     step-token at n bs l p s ∙ ap (prepend at l) (cover-tokens c)
 
-stops-none : {k at : ℕ} {bs : List ℕ} → Stops k at bs → tokensFrom at 0 bs ≡ none-at k
+stops-none : {k at : ℕ} {bs : List ℕ} → NoTokenAt k at bs → tokensFrom at 0 bs ≡ none-at k
 unfolding prepend
-stops-none (Stops.here {b = b} {bs = bs} h p) = step-none _ b bs h p
-stops-none (Stops.skip {at = at} {b = b} {bs = bs} h c) = step-blank at b bs h ∙ stops-none c
-stops-none (Stops.token {at = at} {n = n} {l = l} {bs = bs} p s c) =
+stops-none (NoTokenAt.here {b = b} {bs = bs} h p) = step-none _ b bs h p
+stops-none (NoTokenAt.skip {at = at} {b = b} {bs = bs} h c) = step-blank at b bs h ∙ stops-none c
+stops-none (NoTokenAt.token {at = at} {n = n} {l = l} {bs = bs} p s c) =
     step-token at n bs l p s ∙ ap (prepend at l) (stops-none c)
 
 -- The answer has its meaning: shown of all that a list ends in, as the bytes behind a token are
 abbrev Answers : ℕ → List ℕ → Tokens → Type 0
 Answers at bs (tokens ts) = Cover at bs ts
-Answers at bs (none-at k) = Stops k at bs
+Answers at bs (none-at k) = NoTokenAt k at bs
 
 answers-skip : (at b : ℕ) (bs : List ℕ) (t : Tokens) → blank b ≡ true → Answers (at + 1) bs t → Answers at (b ∷ bs) t
 answers-skip at b bs (tokens ts) h a = Cover.skip h a
-answers-skip at b bs (none-at k) h a = Stops.skip h a
+answers-skip at b bs (none-at k) h a = NoTokenAt.skip h a
 
 answers-token : (at n : ℕ) (bs : List ℕ) (l : Lexeme) (t : Tokens) → Longest bs n → Spells (take n bs) l
     → Answers (at + n) (drop n bs) t → Answers at bs (prepend at l t)
 unfolding prepend
 answers-token at n bs l (tokens ts) p s a = Cover.token p s a
-answers-token at n bs l (none-at k) p s a = Stops.token p s a
+answers-token at n bs l (none-at k) p s a = NoTokenAt.token p s a
 
 answered : (bs : List ℕ) (n at : ℕ) → Answers at (drop n bs) (tokensFrom at 0 (drop n bs))
 unfolding tokensFrom
@@ -545,7 +523,7 @@ answered (b ∷ bs) zero at = split (blank b)
   where
     scanned : blank b ≡ false → ((n k : ℕ) → Answers k (drop n bs) (tokensFrom k 0 (drop n bs)))
         → (s : Scan) → Means (b ∷ bs) s → Answers at (b ∷ bs) (tokensFrom at 0 (b ∷ bs))
-    scanned q behind nothing m = rw (step-none at b bs q m) (Stops.here q m)
+    scanned q behind nothing m = rw (step-none at b bs q m) (NoTokenAt.here q m)
     scanned q behind (found l zero) m = absurd (no-shape (m .0 .shape))
     scanned q behind (found l (suc n)) m = rw (step-token at (suc n) (b ∷ bs) l (m .0) (m .1))
         (answers-token at (suc n) (b ∷ bs) l (tokensFrom (at + suc n) 0 (drop n bs)) (m .0) (m .1)
@@ -557,7 +535,7 @@ pub tokenize-tokens : (file : List ℕ) (ts : List Token) → (tokenize file ≡
 unfolding tokenize
 tokenize-tokens file ts = (λ e. subst (Answers 0 file) e (answered file 0 0), cover-tokens)
 
-pub tokenize-none : (file : List ℕ) (k : ℕ) → (tokenize file ≡ none-at k) ↔ Stops k 0 file
+pub tokenize-none : (file : List ℕ) (k : ℕ) → (tokenize file ≡ none-at k) ↔ NoTokenAt k 0 file
 unfolding tokenize
 tokenize-none file k = (λ e. subst (Answers 0 file) e (answered file 0 0), stops-none)
 
@@ -567,12 +545,12 @@ longest-some : (bs : List ℕ) (n : ℕ) → Longest bs n → 0 < n
 longest-some bs zero p = absurd (no-shape (p .shape))
 longest-some bs (suc n) p = omega arith
 
-stops-place : {k at : ℕ} {bs : List ℕ} → Stops k at bs
+stops-place : {k at : ℕ} {bs : List ℕ} → NoTokenAt k at bs
     → (j : ℕ) × (k ≡ at + j) × (j < length bs) × (blank (getD bs j 0) ≡ false) × BeginsNone (drop j bs)
-stops-place (Stops.here h p) = (0, omega arith, omega arith, h, p)
-stops-place (Stops.skip h c) = let r = stops-place c in let e = r .1 in let l = r .2 in
+stops-place (NoTokenAt.here h p) = (0, omega arith, omega arith, h, p)
+stops-place (NoTokenAt.skip h c) = let r = stops-place c in let e = r .1 in let l = r .2 in
     (suc (r .0), omega arith, omega arith, r .3, r .4)
-stops-place (Stops.token {n = n} {bs = bs} p s c) =
+stops-place (NoTokenAt.token {n = n} {bs = bs} p s c) =
     let r = stops-place c in
     let e = r .1 in
     let l = rw length-drop at (r .2) in

@@ -67,8 +67,8 @@ pub data Cover : ℕ → List ℕ → List Token → Type 0 where
 
 -- the bytes from a place on are blanks and tokens up to the place k, and what stands there begins no token
 -- (R 6.5, 6.6)
-pub data Stops (k : ℕ) : ℕ → List ℕ → Type 0 where
-  here : {b : ℕ} {bs : List ℕ} → blank b ≡ false → BeginsNone (b ∷ bs) → Stops k k (b ∷ bs)
-  skip : {at b : ℕ} {bs : List ℕ} → blank b ≡ true → Stops k (at + 1) bs → Stops k at (b ∷ bs)
-  token : {at n : ℕ} {l : Lexeme} {bs : List ℕ} → Longest bs n → Spells (take n bs) l → Stops k (at + n) (drop n bs)
-      → Stops k at bs
+pub data NoTokenAt (k : ℕ) : ℕ → List ℕ → Type 0 where
+  here : {b : ℕ} {bs : List ℕ} → blank b ≡ false → BeginsNone (b ∷ bs) → NoTokenAt k k (b ∷ bs)
+  skip : {at b : ℕ} {bs : List ℕ} → blank b ≡ true → NoTokenAt k (at + 1) bs → NoTokenAt k at (b ∷ bs)
+  token : {at n : ℕ} {l : Lexeme} {bs : List ℕ} → Longest bs n → Spells (take n bs) l → NoTokenAt k (at + n) (drop n bs)
+      → NoTokenAt k at bs

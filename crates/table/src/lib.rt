@@ -48,7 +48,8 @@ fn visit(
     s: usize,
     w: Sweep,
 ) -> Sweep
-    requires { ⌜ (guard < mostRegions) × (r < mostRegions) × (s < mostStates) × Swept (now kept) (now holds) (now after) s
+    requires { ⌜ (guard < mostRegions) × (r < mostRegions) × (s < mostStates) × Swept (now kept) (now holds)
+        (now after) s
         guard r w ⌝ }
     ensures { λ n. ⌜ Swept (now (kept .entry)) (now (holds .entry)) (now (after .entry)) (s + 1) guard r n ⌝ }
 {
@@ -112,8 +113,10 @@ fn code(stands: bool, always: bool, wide: bool) -> u8
 // The entries of a region, at region * 16 + guard, by its sweep and the set of guards whose entries are broadcasts.
 fn fill_region(w: Sweep, wide: u16, guards: usize, r: usize, entries: &mut [u8])
     requires { ⌜ (guards ≤ mostRegions) × (r < mostRegions) × (length (now entries) ≡ mostEntries) ⌝ }
-    ensures { λ _. ⌜ ((g : ℕ) → g < guards → getD (now (entries .exit)) (r * mostRegions + g) 0 ≡ sweptCode w wide g) ⌝ }
-    ensures { λ _. ⌜ ((k : ℕ) → k < r * mostRegions → getD (now (entries .exit)) k 0 ≡ getD (now (entries .entry)) k 0) ⌝ }
+    ensures { λ _. ⌜ ((g : ℕ) → g < guards → getD (now (entries .exit)) (r * mostRegions + g) 0
+        ≡ sweptCode w wide g) ⌝ }
+    ensures { λ _. ⌜ ((k : ℕ) → k < r * mostRegions → getD (now (entries .exit)) k 0 ≡ getD
+        (now (entries .entry)) k 0) ⌝ }
 {
     let mut g = 0;
     while g < guards {
@@ -256,7 +259,8 @@ fn write_entry(
     table: &mut [u8],
     at: usize,
 ) -> usize
-    requires { ⌜ (at + length (lineAt (now entries) r g) ≤ length (now table)) × (r < mostRegions) × (g < mostRegions) ⌝ }
+    requires { ⌜ (at + length (lineAt (now entries) r g) ≤ length (now table)) × (r < mostRegions) ×
+        (g < mostRegions) ⌝ }
     ensures { λ e. ⌜ Writes (lineAt (now (entries .entry)) r g) (now (table .entry)) at e (now (table .exit)) ⌝ }
 {
     let code = entries[r * machine::REGIONS + g];

@@ -112,12 +112,16 @@ read-stmt-returns-2 : (t : ℕ) → read-stmt-lts.Need-returns-2 (read-stmt-call
 unfolding readStmt kindOf markNumber keywordNumber
 read-stmt-returns-2 t c =
     fuelled readStmt
-    (c .before .before .before .before .before .before .before .before .before .before .before .before .before .before .before .if1 .left)
+    (c .before .before .before .before .before .before .before .before .before .before .before .before .before .before
+    .before .if1 .left)
     (yes _ (by-key k-if)
-    (c .before .before .before .before .before .before .before .before .before .before .before .before .before .before .sees .ensures) (c .before .before .before .before .before .before .before .before .before .before .before .before .before .if2 .taken)
+    (c .before .before .before .before .before .before .before .before .before .before .before .before .before .before
+    .sees .ensures) (c .before .before .before .before .before .before .before .before .before .before .before .before
+    .before .if2 .taken)
     (then
     (took-key k-if
-    (c .before .before .before .before .before .before .before .before .before .before .before .before .expect .ensures)) λ _.
+    (c .before .before .before .before .before .before .before .before .before .before .before .before .expect
+    .ensures)) λ _.
     then (took-mark lparen
     (c .before .before .before .before .before .before .before .before .before .before .before .expect2 .ensures))
     λ _.

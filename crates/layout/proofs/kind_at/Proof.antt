@@ -2,7 +2,7 @@
 use borrow.Author.Needs.{needs}
 use mathlib.Core.Path.{sym}
 use lib.ListN.{List·getD-eq-default}
-use Rattle.layout.proofs.Closes.{getD-below}
+use Rattle.logic.proofs.Lists.{getD-below}
 use Rattle.syntax.specs.Held.Kind.{noKind}
 use Rattle.layout.proofs.kind_at.Statement.{statement}
 use Rattle.layout.proofs.kind_at.Tie as tie

@@ -7,7 +7,7 @@ use mathlib.Core.Logic.{⊎-elim}
 use lib.ListN.{length, length-map}
 use Rattle.syntax.specs.Decide.Lexeme.{markNumber}
 use Rattle.syntax.specs.Held.Kind.{kindOf}
-use Rattle.layout.specs.Laid.{Kinds}
+use Rattle.syntax.specs.Held.Kind.{Kinds}
 use Rattle.layout.proofs.Links.{linkOf, Links, links-none, links-pass, links-store, links-linked}
 use Rattle.layout.proofs.link_braces.Statement.{statement}
 use Rattle.layout.proofs.link_braces.Tie as tie

@@ -12,7 +12,7 @@ use Rattle.syntax.specs.Tree.{Monitor, all, spell}
 use Rattle.syntax.specs.Decide.Reading.{read}
 use Rattle.syntax.specs.Held.Kind.{Words}
 use Rattle.meaning.specs.Decide.Check.{crowded, pastLimit, misnamed}
-use Rattle.meaning.proofs.KeywordPlaces.{behindKeep}
+use Rattle.meaning.specs.Held.{behindKeep}
 use Rattle.grammar.specs.declared.Pos.{Pos}
 use Rattle.grammar.specs.Reads.{Reads}
 use Rattle.variables.specs.Bounded.{RangedBy, Ranged}

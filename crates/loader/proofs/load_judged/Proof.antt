@@ -1,5 +1,5 @@
--- `loader::load_judged` meets its contract: the file has a tree, and what is laid out, resolved and linked is what `fill`
--- asks.
+-- `loader::load_judged` meets its contract: the file has a tree, and what is laid out, resolved and linked is what
+-- `fill` asks.
 use borrow.Author.Needs.{needs}
 use Rattle.syntax.specs.Token.{lexemes}
 use Rattle.loader.proofs.Loads.{sizes, few, is-keep, few-lexemes, kinds-held, resolved-long, filling, loads}

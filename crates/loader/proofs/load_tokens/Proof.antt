@@ -1,5 +1,5 @@
--- `loader::load_tokens` meets its contract: an answer of 3 to 7 is `judge`'s; a file that passed them has few tokens, and
--- `load_judged` goes on.
+-- `loader::load_tokens` meets its contract: an answer of 3 to 7 is `judge`'s; a file that passed them has few tokens,
+-- and `load_judged` goes on.
 use native.Mathlib.Omega.{arith}
 use mathlib.Core.Path.{sym, _∙_}
 use lib.Seq.{length-take-le}

@@ -4,7 +4,7 @@ use borrow.Author.Needs.{needs}
 use lib.ListN.{List·getD-eq-default}
 use mathlib.Core.Path.{sym, _∙_}
 use denote.Ref.{now}
-use Rattle.layout.proofs.Closes.{getD-below}
+use Rattle.logic.proofs.Lists.{getD-below}
 use Rattle.loader.proofs.place_of.Statement.{statement}
 use Rattle.loader.proofs.place_of.Tie as tie
 

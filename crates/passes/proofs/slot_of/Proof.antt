@@ -8,7 +8,7 @@ use lib.ListN.{length, drop, getD}
 use borrow.Author.Needs.{needs}
 use borrow.Author.Tests.{ltb-true, ltb-false}
 use Rattle.syntax.specs.Limits.{mostMethods}
-use Rattle.passes.specs.Tokens.{slotIn, Stands, Titles}
+use Rattle.passes.specs.Tokens.{slotIn, NameAt, Titles}
 use Rattle.passes.proofs.Naming.{slot-hit, slot-miss, slot-end}
 use Rattle.passes.proofs.slot_of.Statement.{statement}
 use Rattle.passes.proofs.slot_of.Tie as tie
@@ -16,7 +16,7 @@ use Rattle.passes.proofs.slot_of.Tie as tie
 abbrev Inv-loop : tie.InvT-loop
 Inv-loop file start len names i₀ i =
     (i ≤ mostMethods)
-    × ((titles : List (List ℕ)) (x : List ℕ) → Titles file titles names → Stands file x start len → slotIn titles x
+    × ((titles : List (List ℕ)) (x : List ℕ) → Titles file titles names → NameAt file x start len → slotIn titles x
     ≡ i + slotIn (drop i titles) x)
 
 abbrev μ-loop : tie.MeasureT-loop

@@ -9,7 +9,7 @@ use borrow.Author.Count.{below-more}
 use borrow.Author.Tests.{eq-eqb, ne-eqb}
 use Rattle.machine.specs.Decide.Step.{isDue}
 use Rattle.stepper.specs.Shown.{placesOf, idleThread}
-use Rattle.stepper.proofs.Loops.{any-true, any-false}
+use Rattle.logic.proofs.Any.{any-intro, any-false}
 use Rattle.stepper.proofs.other_due.Statement.{statement}
 use Rattle.stepper.proofs.other_due.Tie as tie
 
@@ -36,7 +36,7 @@ unfolding placesOf idleThread
 returns c = let a = c .before .before .before .before .before .before .args in
     let u = c .before .before .before .before .before .loop .u in
     sym
-    (any-true 16 u (λ v. not (eqb v (a .t)) && isDue (placesOf (a .t1) v)) (omega arith)
+    (any-intro 16 (λ v. not (eqb v (a .t)) && isDue (placesOf (a .t1) v)) u (omega arith)
     (ap₂ (λ (x y : Bool). not x && y) (ne-eqb u (a .t) (c .before .before .if1 .taken))
     (sym (c .before .is-due .ensures) ∙ c .if2 .taken)))
 

@@ -49,6 +49,10 @@ valueOf (key k) = 0
 valueOf (number n) = n
 valueOf (mark m) = 0
 
+-- the kinds of some lexemes
+unfoldable pub Kinds : List Lexeme → List ℕ → Type 0
+Kinds ls kinds = map kindOf ls ≡ kinds
+
 -- the tokens of a file that is not too long
 pub record Words (file : List ℕ) (ts : List Token) (kinds values places : List ℕ) : Type 0 where
   pub short : length file ≤ mostBytes

@@ -12,7 +12,8 @@ use Rattle.trace.proofs.line_at.Tie as tie
 -- after the three pairs: what they are
 pairs-at : (c : tie.After-pair3)
     → (let s =
-    c .before .before .before .before .before .before .before .before .before .before .before .before .before .before .args in
+    c .before .before .before .before .before .before .before .before .before .before .before .before .before .before
+    .args in
     PairsAt (now (s .trace)) (s .at) (c .before .before .before .before .before .before .pair .result)
     (c .before .before .before .pair2 .result) (c .pair3 .result))
 pairs-at c =
