@@ -8,7 +8,7 @@ use mathlib.Core.Logic.{_↔_}
 use mathlib.Core.List.{List, _++_}
 use lib.ListN.{length, drop}
 use lib.Dec.{ltb}
-use borrow.Author.Tests.{ltb-true, ltb-false, lt-ltb, le-ltb}
+use borrow.Author.Tests.{ltb-true, ltb-false}
 use Rattle.syntax.specs.Tree.{Monitor}
 use Rattle.machine.specs.Monitor.{Frame, Run, stopped}
 use Rattle.logic.proofs.Bools.{split, clash, is-false}
@@ -18,22 +18,22 @@ use Rattle.meaning.specs.Model.{kept, model}
 use Rattle.meaning.specs.Decide.Table.{tableOf}
 use Rattle.meaning.specs.Decide.Frames.{Frames, frames, none-at, framesOf}
 use Rattle.meaning.specs.Calls.{Placing, Machine, Running, Startable}
-use Rattle.meaning.specs.Decide.Calls.{written, place, runningOf, runList, runFrames, runFrom, running}
+use Rattle.meaning.specs.Decide.Calls.{place, runningOf, runList, runFrames, runFrom, running}
 use Rattle.meaning.specs.Accepted.{Accepted}
 use Rattle.meaning.specs.Trace.{FrameRecords, linesOf}
 use Rattle.meaning.proofs.Frames.{frames-read, frames-stop}
 use Rattle.meaning.proofs.Verdicts.{refusal-number, accepted-iff, refused-iff, check-iff, one-verdict}
 use Rattle.meaning.proofs.ModelLaws.{startable-iff}
-use Rattle.demands.specs.Demand1.{PlacesAs, file-refused, too-short, placed, RunsAs, no-monitor, no-start}
-use Rattle.demands.specs.Demand1.{bad-line, frame-refused, all-allowed, Demand1}
+use Rattle.demands.specs.Demand1.{PlacesAs, file-refused, too-short, placed, RunsAs, no-monitor, no-start, bad-line, frame-refused, all-allowed, Demand1}
 use Rattle.demands.proofs.Demand2.{follows-rules}
+use Rattle.meaning.proofs.Written.{written-short, written-fits}
 
 module _ (file buffer : List ℕ) where
   places : {p : Placing} → PlacesAs file buffer p → place file buffer ≡ p
-  unfolding place written
+  unfolding place
   places (file-refused {a} r) = cc (refused-iff file a .1 r)
-  places (too-short {m} a h) = cc (accepted-iff file m .1 a, lt-ltb (length buffer) (length (tableOf (model m))) h)
-  places (placed {m} a h) = cc (accepted-iff file m .1 a, le-ltb (length buffer) (length (tableOf (model m))) h)
+  places (too-short {m} a h) = cc (accepted-iff file m .1 a, written-short (tableOf (model m)) buffer h)
+  places (placed {m} a h) = cc (accepted-iff file m .1 a, written-fits (tableOf (model m)) buffer h)
 
   placing : (p : Placing) × PlacesAs file buffer p
   placing = go (check file) refl

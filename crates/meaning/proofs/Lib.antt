@@ -4,6 +4,7 @@ pub mod KeywordPlaces
 pub mod Digits
 pub mod Frames
 pub mod TableLines
+pub mod Written
 pub mod Integers
 pub mod RangeLaws
 pub mod StateLaws
