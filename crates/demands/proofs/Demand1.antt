@@ -14,17 +14,20 @@ use Rattle.machine.specs.Monitor.{Frame, Run, stopped}
 use Rattle.logic.proofs.Bools.{split, clash, is-false}
 use Rattle.meaning.specs.Answer.{answer, Verdict, accepted, refused}
 use Rattle.meaning.specs.Decide.Check.{check}
-use Rattle.meaning.specs.Model.{kept, model}
+use Rattle.meaning.specs.Model.{vars, kept, model}
+use Rattle.meaning.specs.State.{startNumber}
 use Rattle.meaning.specs.Decide.Table.{tableOf}
 use Rattle.meaning.specs.Decide.Frames.{Frames, frames, none-at, framesOf}
-use Rattle.meaning.specs.Calls.{Placing, Machine, Running, Startable}
+use Rattle.meaning.specs.Calls.{Placing, Machine, Running, Startable, not-run}
 use Rattle.meaning.specs.Decide.Calls.{place, runningOf, runList, runFrames, runFrom, running}
 use Rattle.meaning.specs.Accepted.{Accepted}
 use Rattle.meaning.specs.Trace.{FrameRecords, linesOf}
 use Rattle.meaning.proofs.Frames.{frames-read, frames-stop}
 use Rattle.meaning.proofs.Verdicts.{refusal-number, accepted-iff, refused-iff, check-iff, one-verdict}
 use Rattle.meaning.proofs.ModelLaws.{startable-iff}
-use Rattle.demands.specs.Demand1.{PlacesAs, file-refused, too-short, placed, RunsAs, no-monitor, no-start, bad-line, frame-refused, all-allowed, Demand1}
+use Rattle.meaning.proofs.StateLaws.{starts-state, number-below, state-at-number}
+use Rattle.machine.proofs.RulesDecided.{refuses-number}
+use Rattle.demands.specs.Demand1.{PlacesAs, file-refused, too-short, placed, RunsAs, no-monitor, no-start, bad-line, frame-refused, all-allowed, NeverEleven, Demand1}
 use Rattle.demands.proofs.Demand2.{follows-rules}
 use Rattle.meaning.proofs.Written.{written-short, written-fits}
 
@@ -114,6 +117,27 @@ module _ (file bytes : List ℕ) (s : ℕ) where
     pub running-iff : (x : Running) → (running file bytes s w ≡ x) ↔ RunsAs file bytes s w x
     running-iff x = (λ e. subst (RunsAs file bytes s w) (sym (runs (run-as .1)) ∙ e) (run-as .1), runs)
 
+-- From the start values
+
+pub start-counts : (file : List ℕ) (m : Monitor) → check file ≡ accepted m → Startable m (startNumber (vars m))
+start-counts file m e =
+    let ok = accepted-iff file m .0 e .sound in
+    let s = starts-state (ok .ranges) in
+    record { below = number-below (ok .ranges) s; keeps = rw (state-at-number (ok .ranges) s) (ok .start) }
+
+pub never-eleven : (file bytes : List ℕ) → NeverEleven file bytes
+unfolding NeverEleven
+never-eleven file bytes m e w a r n = go (running-iff file bytes (startNumber (vars m)) w (not-run a) .0 r) refl
+  where
+    go : {x : Running} → RunsAs file bytes (startNumber (vars m)) w x → x ≡ not-run a → ⊥
+    go (no-monitor {a = b} q) h = let z : _≡_ {A = ℕ} 0 1 = cc (refused-iff file b .1 q) in omega arith
+    go (no-start {m = m′} q k) h = let same : m′ ≡ m = cc (accepted-iff file m′ .1 q) in
+        k (subst (λ (x : Monitor). Startable x (startNumber (vars m))) (sym same) (start-counts file m e))
+    go (bad-line q k t) h = let z : 12 ≡ a .number = cc in omega arith
+    go (frame-refused {a = b} q k f t s) h =
+        let z : b ≡ a .number = cc in let l = refuses-number (s .refuse) in omega arith
+    go (all-allowed q k f t s) h = let z : _≡_ {A = ℕ} 0 1 = cc in omega arith
+
 pub demand-1 : Demand1
 demand-1 = record {
   one-verdict = λ file. (check file, check-iff file (check file) .0 refl, λ w h. sym (check-iff file w .1 h));
@@ -121,4 +145,6 @@ demand-1 = record {
   places = place-iff;
   runs = running-iff;
   writes-nothing = refused-writes-nothing;
+  starts = start-counts;
+  never-11 = never-eleven;
 }

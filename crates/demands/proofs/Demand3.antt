@@ -96,7 +96,8 @@ module _ (file bytes : List ℕ) (s : ℕ) where
   abbrev Answers : Type 0
   Answers =
       (runAnswer plain ≡ runAnswer table)
-      ⊎ ((fs : List Frame) × (k : ℕ) × (bytes ≡ linesOf fs) × (table ≡ not-run (answer 14 k 0)) × Recheck fs k)
+      ⊎ ((fs : List Frame) × (k : ℕ) × FrameRecords fs × (bytes ≡ linesOf fs) × (table ≡ not-run (answer 14 k 0))
+      × Recheck fs k)
 
   on-frames-agree : {m : Monitor} {fs : List Frame} → Accepted file m → Startable m s → FrameRecords fs
       → bytes ≡ linesOf fs → Answers
@@ -107,7 +108,7 @@ module _ (file bytes : List ℕ) (s : ℕ) where
       ⊎-elim
       (λ h. inl (ap runAnswer p ∙ answer-of m _ ∙ ap (λ (x : ℕ × ℕ). answer (x .0) (x .1) 0) h ∙ sym (answer-of m _)
       ∙ sym (ap runAnswer t)))
-      (λ x. inr (fs, x .0, e, t ∙ ap (runningOf m) (x .1), x .2))
+      (λ x. inr (fs, x .0, r, e, t ∙ ap (runningOf m) (x .1), x .2))
       (demand-3 .agree file m (accepted-iff file m .1 a) s (startable-iff m s .1 k) fs .same-answer)
 
   alike : {x : Running} → ((w : Machine) → RunsAs file bytes s w x) → Answers

@@ -9,9 +9,10 @@ use lib.ListN.{length, drop}
 use Rattle.syntax.specs.Tree.{Monitor}
 use Rattle.machine.specs.Monitor.{Frame, Config, allIdle}
 use Rattle.machine.specs.Rules.{Rules, Stops}
-use Rattle.meaning.specs.Answer.{Answer, answer, Verdict}
+use Rattle.meaning.specs.State.{startNumber}
+use Rattle.meaning.specs.Answer.{Answer, answer, Verdict, accepted}
 use Rattle.meaning.specs.Decide.Check.{check}
-use Rattle.meaning.specs.Model.{model}
+use Rattle.meaning.specs.Model.{vars, model}
 use Rattle.meaning.specs.Decide.Table.{tableOf}
 use Rattle.meaning.specs.Calls.{Startable, noticesOf, Placing, notPlaced, Machine, recordOf}
 use Rattle.meaning.specs.Calls.{Running, ran, refused-file, not-run}
@@ -61,6 +62,12 @@ pub data RunsAs (file bytes : List ℕ) (s : ℕ) (w : Machine) : Running → Ty
       → bytes ≡ linesOf fs
       → Rules (model m) (noticesOf m w) (allIdle s) fs c → RunsAs file bytes s w (ran (recordOf m c))
 
+-- from the start values no machine answers 11 (R 13.9)
+unfoldable pub NeverEleven : List ℕ → List ℕ → Type 0
+NeverEleven file bytes =
+    (m : Monitor) → check file ≡ accepted m → (w : Machine) (a : Answer)
+    → running file bytes (startNumber (vars m)) w ≡ not-run a → a .number ≡ 11 → ⊥
+
 pub record Demand1 : Type 0 where
   -- a file of any bytes has a verdict, and no second one, and the check gives it (R 12.1)
   pub one-verdict : (file : List ℕ) → (v : Verdict) × HasVerdict file v × ((w : Verdict) → HasVerdict file w → w ≡ v)
@@ -72,3 +79,6 @@ pub record Demand1 : Type 0 where
   -- "a refused hand-in writes to no buffer" (R 12.3)
   pub writes-nothing :
       (file buffer : List ℕ) → (place file buffer .answer .number ≡ 0 → ⊥) → place file buffer .buffer ≡ buffer
+  -- the state at the start values counts, so 11 is no answer to a run from there (R 13.9)
+  pub starts : (file : List ℕ) (m : Monitor) → check file ≡ accepted m → Startable m (startNumber (vars m))
+  pub never-11 : (file bytes : List ℕ) → NeverEleven file bytes

@@ -19,7 +19,7 @@ use Rattle.meaning.specs.Decide.Check.{check}
 use Rattle.meaning.specs.Model.{vars, kept, model, region, guardOf}
 use Rattle.meaning.specs.Calls.{plain-machine, table-machine, Record, threadsOf, Running, ran, refused-file, not-run}
 use Rattle.meaning.specs.Decide.Calls.{runList, running}
-use Rattle.meaning.specs.Trace.{linesOf}
+use Rattle.meaning.specs.Trace.{FrameRecords, linesOf}
 use mathlib.Core.Option.{some}
 
 pub record Demand3 : Type 0 where
@@ -41,7 +41,7 @@ pub record SameRunning (file bytes : List ℕ) (s : ℕ) : Type 0 where
   -- (R 12.8)
   pub same-answer :
       (runAnswer (running file bytes s plain-machine) ≡ runAnswer (running file bytes s table-machine))
-      ⊎ ((fs : List Frame) × (k : ℕ) × (bytes ≡ linesOf fs)
+      ⊎ ((fs : List Frame) × (k : ℕ) × FrameRecords fs × (bytes ≡ linesOf fs)
       × (running file bytes s table-machine ≡ not-run (answer 14 k 0)) × Recheck fs k)
   -- each variable's value and the place of each of the sixteen threads (R 12.9)
   pub same-record :

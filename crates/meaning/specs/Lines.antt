@@ -5,7 +5,7 @@ use lib.ListN.{take}
 use lib.IntN.{ℤ, pos, _+ℤ_, natAbs}
 use Rattle.syntax.specs.Tree.{Monitor}
 use Rattle.machine.specs.Monitor.{Place, idle, waiting, due}
-use Rattle.meaning.specs.State.{starts, numberOf}
+use Rattle.meaning.specs.State.{startNumber}
 use Rattle.meaning.specs.Answer.{Answer, accepted, refused}
 use Rattle.meaning.specs.Decide.Check.{check}
 use Rattle.meaning.specs.Model.{vars, model}
@@ -51,7 +51,7 @@ runLine (not-run a) = refusalLine a
 
 -- a machine's line for a trace, from the start values (R 13.9)
 unfoldable pub machineLine : Monitor → Machine → List ℕ → List ℕ
-machineLine m w trace = runLine (runFrom m w (numberOf (vars m) (starts (vars m))) trace)
+machineLine m w trace = runLine (runFrom m w (startNumber (vars m)) trace)
 
 -- the table's bytes, or the refusal's line (R 13.2, 13.3)
 unfoldable pub placer : List ℕ → List ℕ

@@ -30,3 +30,7 @@ numberOf (v ∷ vs) (a ∷ as′) = natAbs (a -ℤ intOf (v .low)) * count vs + 
 unfoldable pub starts : List Var → List ℤ
 starts [] = []
 starts (v ∷ vs) = intOf (v .start) ∷ starts vs
+
+-- the number of the state at the start values (R 3.15, 3.19)
+abbrev pub startNumber : List Var → ℕ
+startNumber vs = numberOf vs (starts vs)

@@ -13,7 +13,7 @@ ghost use Rattle.run.specs.Results.{Runs, machineOf};
 ghost use mathlib.Core.List.{List};
 ghost use Prim.Native.Nat.{ℕ};
 ghost use Rattle.loader.specs.Loading.{Loads};
-ghost use Rattle.monitor.specs.Results.{Places, Agrees, EntriesOf, startOf};
+ghost use Rattle.monitor.specs.Results.{Places, Agrees, EntriesOf, startOf, Starts};
 
 // What placing answers, and the table's length where it is placed.
 pub struct Placing {
@@ -205,7 +205,7 @@ pub fn run_both_from_start(file: &[u8], bytes: &[u8]) -> Both
 
 // The number of the state at the start values of an accepted file; 0 of a refused one.
 pub fn start_state(file: &[u8]) -> usize
-    ensures { λ r. ⌜ r ≡ startOf (meaning.check (now (file .entry))) ⌝ }
+    ensures { λ r. ⌜ Starts (now (file .entry)) r ⌝ }
 {
     let mut kept = [0u8; machine::STATES];
     let mut holds = [0u16; machine::STATES];

@@ -1,13 +1,14 @@
 -- `monitor::start_state` meets its contract: what `start_of` says of what was loaded.
 use borrow.Author.Needs.{needs}
 use Rattle.monitor.proofs.Loaded.{long}
+use Rattle.monitor.proofs.Same.{starts}
 use Rattle.monitor.proofs.start_state.Statement.{statement}
 use Rattle.monitor.proofs.start_state.Tie as tie
 
 returns : tie.Need-returns
 returns c =
-    c .start-of .ensures _ _ _ _ (c .before .before .before .before .load .ensures (long 4096 0) (long 4096 0)
-    (long 65536 0))
+    starts _ (c .start-of .ensures _ _ _ _ (c .before .before .before .before .load .ensures (long 4096 0) (long 4096 0)
+    (long 65536 0)))
 
 pub start-state-spec : {M : Type 1} → statement M
 start-state-spec =
