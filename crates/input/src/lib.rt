@@ -3,6 +3,7 @@
 ghost use Prim.Native.Nat.{_≤_, min};
 ghost use mathlib.Core.Path.{_≡_};
 ghost use lib.ListN.{length};
+ghost use lib.Seq.{paste};
 ghost use Rattle.io.specs.Counts.{Counts};
 ghost use Rattle.input.specs.Kept.{Keeps};
 
@@ -58,6 +59,20 @@ pub fn read_opened(fd: i32, buf: &mut [u8]) -> Got
         };
     }
     read_on(fd, buf, 0)
+}
+
+// Copies as many bytes as both have from the start of one slice to the start of another, and says how many.
+pub fn copy(from: &[u8], to: &mut [u8]) -> usize
+    ensures { λ r. ⌜ r ≡ min (length (now (from .entry))) (length (now (to .entry))) ⌝ }
+    ensures { λ r. ⌜ now (to .exit) ≡ paste (now (to .entry)) 0 (now (from .entry)) r ⌝ }
+{
+    let n = least(from.len(), to.len());
+    let mut i = 0;
+    while i < n {
+        to[i] = from[i];
+        i += 1;
+    }
+    n
 }
 
 fn least(a: usize, b: usize) -> usize

@@ -26,7 +26,7 @@ use Rattle.demands.proofs.Demand3.{demand-3, same-running, zero-iff-ran}
 use Rattle.answers.specs.Says.{Says}
 use Rattle.answers.specs.declared.Answer as code
 use Rattle.run.specs.Results.{Runs, Records}
-use Rattle.run.specs.declared.Running as code
+use Rattle.run.specs.declared.Running as result
 use Rattle.run.specs.declared.Record as held
 use Rattle.monitor.specs.Results.{SameResults, Agrees, Starts, startOf}
 
@@ -39,7 +39,7 @@ says-one x y = λ i. record {
 }
 
 -- what a result says is its run's answer
-says-run : (x : Running) (r : code.Running) → Runs x r → Says (r .answer) (runAnswer x)
+says-run : (x : Running) (r : result.Running) → Runs x r → Says (r .answer) (runAnswer x)
 unfolding Runs runAnswer
 says-run (ran rec) r s = s .0
 says-run (refused-file a) r s = s .0
@@ -66,7 +66,7 @@ values-alike {x} {y} {r} {s} a b e k h =
     let high = ltb-false k (length (x .values)) l in
     a .unused k h high ∙ sym (b .unused k h (rw (← e) high)))
 
-module _ (file bytes : List ℕ) (start : ℕ) (plain table : code.Running)
+module _ (file bytes : List ℕ) (start : ℕ) (plain table : result.Running)
     (p : Runs (running file bytes start plain-machine) plain) (t : Runs (running file bytes start table-machine) table)
   where
     -- where the table's number is 0, both runs have records, which are alike
@@ -81,6 +81,7 @@ module _ (file bytes : List ℕ) (start : ℕ) (plain table : code.Running)
         (a, b, (rw f at p) .1, (rw e at t) .1, values, places)
 
     same-results : SameResults bytes plain table
+    unfolding runAnswer
     same-results = record {
       same-answer = ⊎-elim
           (λ e. inl (says-one (says-run _ plain p) (rw (← e) at (says-run _ table t))))

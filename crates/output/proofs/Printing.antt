@@ -125,15 +125,6 @@ of-file-refused (bad-line a k t) r s h = clash h (s .2)
 of-file-refused (frame-refused a k q e t) r s h = clash h (s .2)
 of-file-refused (all-allowed a k q e t) r s h = clash h (s .2)
 
--- a trace is judged by its first 65,536 bytes
-pub runner-cut : (file trace : List ℕ) → runner file (take traceBytes trace) ≡ runner file trace
-unfolding runner
-runner-cut file trace = go (check file) refl
-  where
-    go : (v : Verdict) → check file ≡ v → runner file (take traceBytes trace) ≡ runner file trace
-    go (accepted m) e = rw (e, runner, take-take traceBytes traceBytes trace (omega arith))
-    go (refused a) e = rw (e, runner)
-
 module _ (file trace : List ℕ) (short : length trace ≤ traceBytes) where
   abbrev pub end : Machine → calls.Running
   end w = running file trace (startOf (check file)) w

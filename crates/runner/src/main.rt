@@ -1,44 +1,50 @@
-// Reads monitor.txt and trace.txt, and prints the plain machine's line and the table's, from the start values; or a
-// file's refusal once.
-ghost use Rattle.io.specs.Counts.{Counts};
-
-// The bytes of a small buffer, in which most traces fit.
-const SHORT: usize = 4096;
-
+// Reads monitor.txt and trace.txt, each once, and prints the plain machine's line and the table's, from the start values;
+// or a file's refusal once. A missing file reads as an empty one. Where opening, reading or writing fails otherwise it
+// says so on standard error, and after a failed read prints nothing.
 fn main() {
-    let mut file = [0u8; 8193];
-    let n = read_file(b"monitor.txt", &mut file);
-    let mut short = [0u8; SHORT];
-    let k = read_file(b"trace.txt", &mut short);
-    if k < SHORT {
-        show(&file[..n], &short[..k]);
+    let mut file = [0u8; output::FILE_BYTES];
+    let monitor = input::read_opened(os::open_read(b"monitor.txt"), &mut file);
+    if monitor.failed {
+        os::fail(b"runner: monitor.txt");
         return;
     }
-    show_long(&file[..n]);
-}
-
-// A trace that does not fit the short buffer.
-fn show_long(file: &[u8]) {
-    let mut trace = [0u8; output::TRACE_BYTES];
-    let k = read_file(b"trace.txt", &mut trace);
-    show(file, &trace[..k]);
-}
-
-fn show(file: &[u8], trace: &[u8]) {
-    let mut out = [0u8; output::OUTPUT_BYTES];
-    let end = output::runner_lines(file, trace, &mut out);
-    io::write_all(1, &out[..end]);
-}
-
-// As much of a file as fits; a missing one reads as empty.
-fn read_file(path: &[u8], into: &mut [u8]) -> usize
-    ensures { λ r. ⌜ Counts r (now (into .exit)) ⌝ }
-{
-    let fd = os::open_read(path);
-    if fd < 0 {
-        return 0;
+    let fd = os::open_read(b"trace.txt");
+    let mut short = [0u8; output::SHORT_BYTES];
+    let begun = input::read_opened(fd, &mut short);
+    if begun.failed {
+        os::fail(b"runner: trace.txt");
+        return;
     }
-    let n = io::read_full(fd, into);
-    libc::close(fd);
-    n
+    let mut out = [0u8; output::OUTPUT_BYTES];
+    let end = output::runner_short(&file, monitor.count, &short, begun.count, &mut out);
+    if 0 < end {
+        print(&out[..end]);
+        return;
+    }
+    run_long(fd, &file, monitor.count, &short);
+}
+
+// A trace that fills the short buffer, read on behind its bytes.
+fn run_long(
+    fd: i32,
+    file: &[u8; output::FILE_BYTES],
+    count: usize,
+    short: &[u8; output::SHORT_BYTES],
+) {
+    let mut trace = [0u8; output::TRACE_BYTES];
+    let front = input::copy(short, &mut trace);
+    let got = input::read_on(fd, &mut trace, front);
+    if got.failed {
+        os::fail(b"runner: trace.txt");
+        return;
+    }
+    let mut out = [0u8; output::OUTPUT_BYTES];
+    let end = output::runner_read(file, count, &trace, got.count, &mut out);
+    print(&out[..end]);
+}
+
+fn print(lines: &[u8]) {
+    if !io::write_all(libc::STDOUT_FILENO, lines) {
+        os::fail(b"runner: standard output");
+    }
 }
