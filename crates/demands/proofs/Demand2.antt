@@ -1,36 +1,36 @@
 -- Demand 2 holds. The table: from the entries' words and the lines' laws, and over values by the numbering of states.
--- The machines: from the step that decides the rules.
+-- The machines: from the step that decides the rules, and over values since a state's number stands for its values.
 use Rattle.machine.specs.Monitor as machine
 use Prim.Native.Nat.{ℕ, _≤_, _<_}
 use native.Mathlib.Omega.{arith}
-use mathlib.Core.Path.{_≡_, refl, sym, _∙_}
+use mathlib.Core.Path.{_≡_, refl, sym, subst, _∙_}
 use mathlib.Core.Bool.{Bool, true, false}
-use mathlib.Core.Logic.{_↔_, Iff·trans}
+use mathlib.Core.Logic.{_↔_, Iff·rfl, Iff·trans}
+use mathlib.Core.Option.{Option·some-injective}
 use mathlib.Core.List.{List, _∷_, List·Memᴰ}
 use lib.ListN.{length, length-append}
-use lib.Dec.{ltb}
-use borrow.Author.Tests.{ltb-true, ltb-false}
 use Rattle.syntax.specs.Tree.{Monitor}
 use Rattle.syntax.proofs.Grammar.{one-cond}
-use Rattle.machine.specs.Monitor.{Frame, Config, stopped, allIdle}
+use Rattle.machine.specs.Monitor.{Threads, Frame, Config, stopped, allIdle}
 use Rattle.machine.specs.Algorithm1.{entry, Holds, Fails, Triple, Stands, Signals, MayRun}
 use Rattle.machine.specs.Decide.Table.{entryOf}
-use Rattle.machine.specs.Rules.{Notices, Stops}
+use Rattle.machine.specs.Rules.{Notices, Stops, PlainNoticesBy, TableNoticesBy}
 use Rattle.machine.proofs.RulesDecided.{refuses-number, Decides, plain-decides, table-decides}
 use Rattle.machine.proofs.Entries.{entry-stands, entry-unconditional, entry-signal}
-use Rattle.logic.proofs.Bools.{tests-equal, split, clash}
+use Rattle.logic.proofs.Bools.{tests-equal}
 use Rattle.machine.specs.Agreement.{Checked}
 use Rattle.machine.proofs.Reached.{Reached, start-reached, rules-reached}
+use Rattle.machine.proofs.Views.{Views, rules-viewed, stops-viewed}
 use Rattle.meaning.specs.State.{stateAt, numberOf}
 use Rattle.meaning.specs.Answer.{accepted}
 use Rattle.meaning.specs.Decide.Check.{check}
 use Rattle.meaning.specs.Model.{vars, kept, model, numberAfter, regions, guards, region, holds, after}
 use Rattle.meaning.specs.Calls.{Machine, plain-machine, table-machine, Startable, noticesOf}
 use Rattle.meaning.specs.Decide.Calls.{place, toldBy, runList}
-use Rattle.meaning.specs.Accepted.{State, Keeps, Meets, Sound}
+use Rattle.meaning.specs.Accepted.{State, Keeps, Meets, Sound, BlockRuns}
 use Rattle.meaning.proofs.StateLaws.{state-at, number-below, state-at-number}
 use Rattle.meaning.proofs.ModelLaws.{kept-below, keeps, outside, leaves, follows-below, region-numbered, holds-guard}
-use Rattle.meaning.proofs.ModelLaws.{startable-iff}
+use Rattle.meaning.proofs.ModelLaws.{startable-iff, holds-region, holds-below}
 use Rattle.meaning.specs.Table.{Row, Small}
 use Rattle.meaning.proofs.TableLines.{rowsOf, table-lines, row-stands, rows-increasing, rows-decoded}
 use Rattle.meaning.proofs.Verdicts.{accepted-iff, refused-iff}
@@ -38,6 +38,7 @@ use Rattle.meaning.proofs.Sizes.{sizes}
 use lib.IntN.{ℤ}
 use Rattle.meaning.proofs.BodyLaws.{outcome-of-runs, block-runs-state}
 use Rattle.demands.specs.Demand2.{IsEntry, IsTable, FollowsRules, Demand2, Moves, truthOf, Makes, ByValues}
+use Rattle.demands.specs.Demand2.{valued, noticesByValues, FollowsByValues}
 
 -- What an accepted file's monitor, freed from its syntax, is known for
 pub checked : (file : List ℕ) (m : Monitor) → check file ≡ accepted m → Checked (model m)
@@ -153,15 +154,13 @@ runs-keep file m e s k fs w c h =
 
 module _ (m : Monitor) where
   module _ (ok : Sound m) where
-    -- a body that may run from a state's number, by values
-    to-values : (r s : ℕ) → MayRun (model m) r s
+    -- a body that may run from a state by its number runs by values, to the values of the state after it
+    pub to-values : (r s : ℕ) → MayRun (model m) r s
         → (bs : List ℤ) × Moves m (region m r) (stateAt (vars m) s) bs × (stateAt (vars m) (after m r s) ≡ bs)
     unfolding model Holds Keeps after numberAfter
     to-values r s h =
         let k = startable-iff m s .0 (h .is-kept) in
-        let low : r < length (regions m) =
-        split (ltb r (length (regions m))) (ltb-true r (length (regions m)))
-        (λ high. clash (h .guard) (outside m one-cond r s (ltb-false r (length (regions m)) high))) in
+        let low = holds-region m one-cond r s (h .guard) in
         let meets : Meets m (region m r) (stateAt (vars m) s) =
         record {
           state = state-at (ok .ranges) s (k .below);
@@ -175,8 +174,8 @@ module _ (m : Monitor) where
               (state-at-number (ok .ranges) (block-runs-state (t .1) (meets .state))),
         )
 
-    -- and back
-    from-values : (r : ℕ) (as′ bs : List ℤ) → Moves m (region m r) as′ bs
+    -- and a body that runs by values may run from its state's number, and leads to the number of the values after it
+    pub from-values : (r : ℕ) (as′ bs : List ℤ) → Moves m (region m r) as′ bs
         → (s : ℕ) × MayRun (model m) r s × (stateAt (vars m) s ≡ as′) × (stateAt (vars m) (after m r s) ≡ bs)
     unfolding model Holds after numberAfter
     from-values r as′ bs h =
@@ -241,6 +240,69 @@ module _ (m : Monitor) where
           },
         )
 
+-- The machines by values
+
+module _ (file : List ℕ) (m : Monitor) (e : check file ≡ accepted m) where
+  ok : Sound m
+  ok = accepted-iff file m .0 e .sound
+
+  -- an entry of the table, by values
+  entry-by-values : (r g : ℕ) (a b : Bool)
+      → (entryOf (model m) r g ≡ entry a b)
+      ↔ ByValues m (record { region = r; guard = g; unconditional = a; broadcast = b })
+  unfolding model Holds
+  entry-by-values r g a b =
+      let w : Row = record { region = r; guard = g; unconditional = a; broadcast = b } in
+      let rows = row-algorithm (model m) (checked file m e) w in (
+        λ h.
+            let t = entry-stands (model m) (kept-below m) r g .0 (a, b, h) in
+            by-values m ok w .0 (rows .0 (
+              holds-region m one-cond r (t .from) (t .may-run .guard),
+              holds-below m g (after m r (t .from)) (t .after),
+              h,
+            )),
+        λ h. rows .1 (by-values m ok w .1 h) .2,
+      )
+
+  same-notices : (w : Machine) (s : ℕ) (p : Threads) (r u : ℕ)
+      → noticesByValues m w (stateAt (vars m) s) p r u ↔ noticesOf m w s p r u
+  unfolding noticesByValues noticesOf PlainNoticesBy TableNoticesBy model holds truthOf
+  same-notices plain-machine s p r u = Iff·rfl
+  same-notices table-machine s p r u = (
+    λ (g, w, a, b, h, k, l). (g, w, a, b, entry-by-values r g a b .1 h, k, l),
+    λ (g, w, a, b, h, k, l). (g, w, a, b, entry-by-values r g a b .0 h, k, l),
+  )
+
+  -- a state's number stands for its values
+  values-viewed : (w : Machine) → Views (model m) (valued m) (stateAt (vars m)) (noticesOf m w) (noticesByValues m w)
+  unfolding model holds truthOf
+  values-viewed w = record {
+    same-truth = λ g s. refl;
+    same-runs = λ r s h bs.
+        let t = to-values m ok r s h in (
+          λ b.
+              let x = outcome-of-runs (region m r) b in
+              let y = outcome-of-runs (region m r) (t .1 .runs) in
+              Option·some-injective _ _ (sym x ∙ y) ∙ sym (t .2),
+          λ q. subst (BlockRuns (vars m) (region m r .body) (stateAt (vars m) s)) (sym (q ∙ t .2)) (t .1 .runs),
+        );
+    same-notices = same-notices w;
+  }
+
+  pub follows-by-values : (w : Machine) (s : ℕ) → Startable m s → FollowsByValues m w s
+  unfolding allIdle model
+  follows-by-values w s k =
+      let rules = follows-rules m w in
+      let from = start-reached (model m) s (startable-iff m s .1 k) in
+      let v = values-viewed w in
+      record {
+        accepts = λ fs d. Iff·trans (
+          λ t. (t .0, rules .accepts s fs (t .0) .0 (t .1), t .2),
+          λ t. (t .0, rules .accepts s fs (t .0) .1 (t .1), t .2),
+        ) (rules-viewed (model m) (checked file m e) v from fs d);
+        stops = λ fs a j. Iff·trans (rules .stops s fs a j) (stops-viewed (model m) (checked file m e) v from 0 fs a j);
+      }
+
 pub demand-2 : Demand2
 demand-2 = record {
   accepts = accepted-iff;
@@ -248,4 +310,5 @@ demand-2 = record {
   table = λ file m e. (rowsOf (model m), is-table file m e);
   entries = λ file m e. by-values m (accepted-iff file m .0 e .sound);
   machines = follows-rules;
+  machines-by-values = follows-by-values;
 }

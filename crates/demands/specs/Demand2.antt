@@ -9,15 +9,16 @@ use mathlib.Core.Logic.{_↔_}
 use mathlib.Core.List.{List, List·Memᴰ}
 use lib.ListN.{length, getD}
 use Rattle.syntax.specs.Tree.{Monitor, Region}
-use Rattle.machine.specs.Monitor.{Frame, Config, stopped, allIdle}
+use Rattle.machine.specs.Monitor.{Frame, Point, Config, stopped, withState, allIdle}
 use Rattle.machine.specs.Algorithm1.{Holds, Fails, Triple, Stands, Signals}
-use Rattle.machine.specs.Rules.{Rules, Stops}
+use Rattle.machine.specs.Rules.{Rules, Stops, Semantics, NoticesOver, PlainNoticesBy, TableNoticesBy, RulesBy, StopsBy}
 use Rattle.meaning.specs.Value.{truth}
 use Rattle.meaning.specs.Answer.{Answer, accepted, refused}
 use Rattle.meaning.specs.Decide.Check.{check}
 use Rattle.meaning.specs.Model.{vars, model, noGuard, regions, guards, region, guardOf}
 use Rattle.meaning.specs.Decide.Table.{tableOf}
-use Rattle.meaning.specs.Calls.{noticesOf, Machine}
+use Rattle.meaning.specs.Calls.{noticesOf, Machine, plain-machine, table-machine, Startable}
+use Rattle.meaning.specs.State.{stateAt}
 use Rattle.meaning.specs.Decide.Calls.{runList}
 use Rattle.meaning.specs.Accepted.{Accepted, BlockRuns, Meets}
 use Rattle.meaning.specs.Table.{Row, rowLines, Increasing, Small}
@@ -93,6 +94,33 @@ module _ (m : Monitor) where
         (w .broadcast ≡ false) ↔ ((r : ℕ) → r < length (regions m) → guardOf m r ≡ w .guard
         → Makes r (w .guard) true false)
 
+-- The machines in the file's own words: the rules over each variable's values and over runs of bodies
+
+module _ (m : Monitor) where
+  -- a guard is asked of the values, and a body leads where it runs to; one that faults runs to no values, so it is no
+  -- step (R 9.35, 9.36)
+  abbrev pub valued : Semantics (List ℤ)
+  valued = record { holds = truthOf m; runs = λ r as′ bs. BlockRuns (vars m) (region m r .body) as′ bs }
+
+  -- whom a body notifies, by the source's Figures 4 and 6 (R 9.24, 9.25)
+  unfoldable pub noticesByValues : Machine → NoticesOver (List ℤ)
+  noticesByValues plain-machine = PlainNoticesBy (model m) valued
+  noticesByValues table-machine =
+      TableNoticesBy (model m) valued
+      (λ r g a b. ByValues m (record { region = r; guard = g; unconditional = a; broadcast = b }))
+
+  -- from state s: the rules lead to the machine's point, with the values of its state (R 3.18, 12.6), and stop where it
+  -- stops (R 12.7)
+  pub record FollowsByValues (w : Machine) (s : ℕ) : Type 0 where
+    pub accepts :
+        (fs : List Frame) (d : Point (List ℤ))
+        → ((c : Config) × (runList m w s fs ≡ machine.accepted c)
+        × (d ≡ withState (stateAt (vars m) (c .state)) c))
+        ↔ RulesBy (model m) valued (noticesByValues w) (allIdle (stateAt (vars m) s)) fs d
+    pub stops :
+        (fs : List Frame) (a k : ℕ) → (runList m w s fs ≡ stopped a k)
+        ↔ StopsBy (model m) valued (noticesByValues w) 0 (allIdle (stateAt (vars m) s)) fs a k
+
 pub record Demand2 : Type 0 where
   -- (R 12.4)
   pub accepts : (file : List ℕ) (m : Monitor) → (check file ≡ accepted m) ↔ Accepted file m
@@ -103,3 +131,7 @@ pub record Demand2 : Type 0 where
   pub entries : (file : List ℕ) (m : Monitor) → check file ≡ accepted m → (w : Row) → IsEntry (model m) w ↔ ByValues m w
   -- for every tree, also one that is not accepted (R 12.6, 12.7)
   pub machines : (m : Monitor) (w : Machine) → FollowsRules m w
+  -- the same over values, from every state that counts (R 8.12, 9.35, 9.36)
+  pub machines-by-values :
+      (file : List ℕ) (m : Monitor) → check file ≡ accepted m → (w : Machine) (s : ℕ) → Startable m s
+      → FollowsByValues m w s

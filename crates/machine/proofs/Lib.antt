@@ -6,5 +6,6 @@ pub mod Entries
 pub mod Rechecks
 pub mod Points
 pub mod Reached
+pub mod Views
 pub mod Simulation
 pub mod Agreement

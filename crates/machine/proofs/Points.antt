@@ -10,7 +10,7 @@ use Rattle.machine.specs.Monitor.{Threads, idleThreads, waiting, Monitor
 use Rattle.machine.specs.Decide.Step.{without, isWaiting, beginWait, leave, next, firstNotified, plainTold}
 use Rattle.machine.specs.Algorithm1.{Entry, entry}
 use Rattle.machine.specs.Decide.Table.{tableTold, unconditional, broadcast, entryOf}
-use Rattle.machine.specs.Rules.{Waits, First, PlainNotices, TableNotices}
+use Rattle.machine.specs.Rules.{Waits, First, PlainNoticesBy, TableNoticesBy}
 use Rattle.logic.proofs.Bools.{split, clash, split-eq, either, or-left, or-right, tests-equal, decides-and}
 use Rattle.machine.proofs.Places.{without-iff}
 use Rattle.machine.proofs.Order.{ahead-began, ahead-left, began-own, began-other, left-own, left-other}
@@ -146,11 +146,11 @@ module _ (m : Monitor) (ok : Checked m) (s : ℕ) (p : Threads) (t r : ℕ) (gua
 
   ran-all : (n : ℕ → Bool) (g u : ℕ) → Waits m p′ g u → m .holds g s′ ≡ true → without n t u || plainTold m s′ p′ r u
       ≡ true
-  unfolding PlainNotices
+  unfolding PlainNoticesBy
   ran-all n g u w h = or-right (without n t u) (plainTold m s′ p′ r u) (plain-notices m s′ p′ r u .1 (g, w, h))
 
   pub ran-plain : (n : ℕ → Bool) → PlainPoint m s p n → PlainPoint m s′ p′ (λ u. without n t u || plainTold m s′ p′ r u)
-  unfolding PlainNotices
+  unfolding PlainNoticesBy
   ran-plain n pt = record {
     is-kept = ok .keeps r s (pt .is-kept) guard;
     waits = λ u h. ⊎-elim
@@ -187,7 +187,7 @@ module _ (m : Monitor) (ok : Checked m) (s : ℕ) (p : Threads) (t r : ℕ) (gua
         (λ q. stays nP u (plainTold m s′ p′ r u) (o .0) (ag .plain .all g u (o .1) (held-before g a b z x q)))
 
     ran-within : (u : ℕ) → nT′ u ≡ true → nP′ u ≡ true
-    unfolding TableNotices
+    unfolding TableNoticesBy
     ran-within u h =
         ⊎-elim
         (λ y. let b = without-iff nT t u .0 y in stays nP u (plainTold m s′ p′ r u) (b .0) (ag .within u (b .1)))
@@ -197,7 +197,7 @@ module _ (m : Monitor) (ok : Checked m) (s : ℕ) (p : Threads) (t r : ℕ) (gua
     -- a guard that has become true: its entry stands, and acts
     woken : (g u : ℕ) → Waits m p′ g u → m .holds g s′ ≡ true → m .holds g s ≡ false
         → (bc g ≡ true) ⊎ First m p′ (Waits m p′ g) u → nT′ u ≡ true
-    unfolding TableNotices
+    unfolding TableNoticesBy
     woken g u w h k a =
         let x = placed .stands r g s (ag .plain .is-kept) guard k h in
         or-right (without nT t u) (tableTold m e s′ p′ r u)

@@ -11,7 +11,8 @@ use Rattle.logic.specs.Tests.{any}
 use Rattle.machine.specs.Decide.Step.{isDue, next, own, plainTold, mayBeAt, may}
 use Rattle.machine.specs.Algorithm1.{Entry, none, entry}
 use Rattle.machine.specs.Decide.Table.{acts, entryTold, tableTold}
-use Rattle.machine.specs.Rules.{Waits, First, PlainNotices, TableNotices, MayBeAt, May}
+use Rattle.machine.specs.Rules.{Waits, First, PlainNotices, TableNotices, PlainNoticesBy, TableNoticesBy}
+use Rattle.machine.specs.Rules.{MayBeAt, May}
 use Rattle.logic.proofs.Bools.{decides-and, decides-or, decides-not, decides-eqb}
 use Rattle.logic.proofs.Any.{none-iff}
 use Rattle.machine.proofs.Order.{next-iff}
@@ -54,7 +55,7 @@ module _ (m : Monitor) where
   -- Whom the two machines notify
 
   pub plain-notices : (s : ℕ) (p : Threads) (r u : ℕ) → (plainTold m s p r u ≡ true) ↔ PlainNotices m s p r u
-  unfolding plainTold PlainNotices own Waits
+  unfolding plainTold PlainNoticesBy own Waits
   plain-notices s p r u =
       (to (p .place u) refl, λ n. ap (own m s) (n .1 .1) ∙ ap (λ (g : ℕ). m .holds g s) (n .1 .2) ∙ n .2)
     where
@@ -78,7 +79,7 @@ module _ (m : Monitor) where
 
   pub table-notices :
       (e : ℕ → ℕ → Entry) (s : ℕ) (p : Threads) (r u : ℕ) → (tableTold m e s p r u ≡ true) ↔ TableNotices m e s p r u
-  unfolding tableTold TableNotices entryTold Waits
+  unfolding tableTold TableNoticesBy entryTold Waits
   table-notices e s p r u =
       (to (p .place u) refl, λ n. from (n .0) (n .1) (n .2, n .3, n .4, n .5, ⊎-elim inl (λ x. inr (n .1, x)) (n .6)))
     where

@@ -52,18 +52,27 @@ pub record SameThreads (p p′ : Threads) : Type 0 where
 unfoldable pub ahead : Threads → ℕ → ℕ → Bool
 ahead p u v = ltb u v
 
--- a point of a run: the state, what is known of all threads, and who has a notice that is not used up (R 9.3)
-pub record Config : Type 0 where
-  pub state : ℕ
+-- a point of a run, over states of any kind: the state, what is known of all threads, and who has a notice that is not
+-- used up (R 9.3)
+pub record Point (S : Type 0) : Type 0 where
+  pub state : S
   pub threads : Threads
   pub notified : ℕ → Bool
+
+-- a point whose state is a number, as the machines compute it
+abbrev pub Config : Type 0
+Config = Point ℕ
+
+-- a point with another state in its place
+abbrev pub withState : {S T : Type 0} → T → Point S → Point T
+withState x c = record { state = x; threads = c .threads; notified = c .notified }
 
 -- every place is idle (R 9.6)
 abbrev pub idleThreads : Threads
 idleThreads = record { place = λ _. idle }
 
 -- "At the start all are idle and none notified" (R 9.6)
-unfoldable pub allIdle : ℕ → Config
+unfoldable pub allIdle : {S : Type 0} → S → Point S
 allIdle s = record { state = s; threads = idleThreads; notified = λ _. false }
 
 -- the end of a run of a list: its last point, or a refusal's number and the frame (R 9.8, 10.5)

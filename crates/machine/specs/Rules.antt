@@ -1,18 +1,26 @@
 -- The published step rules 1a, 1b, 2a, 2b (source document 001, Figures 4 to 6), as document 01 narrows them: a
--- relation, over whom a body notifies. `RulesDecided` shows that the step of `Machine` takes a frame exactly where this
--- relation does.
+-- relation, over what states are and over whom a body notifies. At the end, states are numbers: `RulesDecided` shows
+-- that the step of `Decide/Step` takes a frame exactly where this relation does. Demand 2 has them as values.
 use Prim.Native.Nat.{ℕ, _+_, _<_}
 use mathlib.Core.Path.{_≡_}
 use mathlib.Core.Bool.{Bool, true, false}
 use mathlib.Core.Logic.{_⊎_, _↔_}
 use mathlib.Core.List.{List, [], _∷_, _++_}
 use lib.ListN.{length}
-use Rattle.machine.specs.Monitor.{Place, idle, waiting, due, Threads, Monitor, Frame, Config, threads, ahead}
+use Rattle.machine.specs.Monitor.{Place, idle, waiting, due, Threads, Monitor, Frame, Point, Config, threads}
+use Rattle.machine.specs.Monitor.{ahead}
 use Rattle.machine.specs.Algorithm1.{Entry, entry}
 
+-- what the rules ask of states of a kind
+pub record Semantics (S : Type 0) : Type 1 where
+  -- does the guard with a number hold in a state: the source's ⊨ (R 4.9)
+  pub holds : ℕ → S → Bool
+  -- the body of the region with a number leads from one state to another: the source's ⇓ (R 4.19)
+  pub runs : ℕ → S → S → Type 0
+
 -- a set of threads to notify: by the state after a body, the threads then and the region that ran (R 9.23)
-abbrev pub Notices : Type 1
-Notices = ℕ → Threads → ℕ → ℕ → Type 0
+abbrev pub NoticesOver : Type 0 → Type 1
+NoticesOver S = S → Threads → ℕ → ℕ → Type 0
 
 module _ (m : Monitor) where
   -- thread u waits at a region whose guard is g: in the source, one of Events(B, g) (R 9.5)
@@ -23,15 +31,17 @@ module _ (m : Monitor) where
   unfoldable pub First : Threads → (ℕ → Type 0) → ℕ → Type 0
   First p among t = (u : ℕ) → u < threads → among u → ahead p u t ≡ true → ⊥
 
-  -- Figure 4: whom the plain machine notifies (R 9.24)
-  unfoldable pub PlainNotices : Notices
-  PlainNotices s p r u = (g : ℕ) × Waits p g u × (m .holds g s ≡ true)
+  module _ {S : Type 0} (sense : Semantics S) where
+    -- Figure 4: whom the plain machine notifies (R 9.24)
+    unfoldable pub PlainNoticesBy : NoticesOver S
+    PlainNoticesBy s p r u = (g : ℕ) × Waits p g u × (sense .holds g s ≡ true)
 
-  -- Figure 6: GetSignals and GetBroadcasts of a table (R 9.25, 9.26, 9.28, 9.29)
-  unfoldable pub TableNotices : (ℕ → ℕ → Entry) → Notices
-  TableNotices e s p r u =
-      (g : ℕ) × Waits p g u × (a b : Bool) × (e r g ≡ entry a b)
-      × ((a ≡ true) ⊎ (m .holds g s ≡ true)) × ((b ≡ true) ⊎ First p (Waits p g) u)
+    -- Figure 6: GetSignals and GetBroadcasts of a table, by what it has for a region and a guard: unconditional or not,
+    -- broadcast or signal (R 9.25, 9.26, 9.28, 9.29)
+    unfoldable pub TableNoticesBy : (ℕ → ℕ → Bool → Bool → Type 0) → NoticesOver S
+    TableNoticesBy has s p r u =
+        (g : ℕ) × Waits p g u × (a b : Bool) × has r g a b × ((a ≡ true) ⊎ (sense .holds g s ≡ true))
+        × ((b ≡ true) ⊎ First p (Waits p g) u)
 
   -- where a thread may be next (13; R 9.11, 9.12)
   unfoldable pub MayBeAt : Place → ℕ → Type 0
@@ -62,59 +72,95 @@ module _ (m : Monitor) where
   unfoldable pub OthersOf : (ℕ → Bool) → ℕ → ℕ → Type 0
   OthersOf n t u = (u ≡ t → ⊥) × (n u ≡ true)
 
-  module _ (notices : Notices) where
-    -- what a body's frame leads to, in 2a and 2b (R 9.21, 9.22, 9.23)
-    pub record Body (c : Config) (f : Frame) (c′ : Config) : Type 0 where
-      pub state : c′ .state ≡ m .after (f .region) (c .state)
+  module _ {S : Type 0} (sense : Semantics S) (notices : NoticesOver S) where
+    -- What a body's frame leads to, in 2a and 2b (R 9.21, 9.22, 9.23). Not as in the source's Figure 5: there 2b picks
+    -- among those blocked before the frame, the thread that resumes still among them, and takes it out of those picked
+    -- at the end, so a signal that picks it is lost. Here, as document 01 says, it leaves its line when it resumes
+    -- (`places`), before anybody is picked, so it is never among those notified for the body that it has just run.
+    pub record BodyBy (c : Point S) (f : Frame) (c′ : Point S) : Type 0 where
+      pub state : sense .runs (f .region) (c .state) (c′ .state)
       pub places : Moved (c .threads) (c′ .threads) (f .thread) (m .follows (f .region))
       pub notified :
           NotifiedAre (c′ .notified)
           (λ u. OthersOf (c .notified) (f .thread) u ⊎ notices (c′ .state) (c′ .threads) (f .region) u)
 
     -- a rule takes a frame that 13 passes; the flag tells the truth of the guard in the state before (R 9.14, 9.15)
-    pub data Rule (c : Config) (f : Frame) (c′ : Config) : Type 0 where
+    pub data RuleBy (c : Point S) (f : Frame) (c′ : Point S) : Type 0 where
       -- (R 9.16)
       rule-1a :
-          May (c .threads) f → f .flag ≡ false → m .holds (m .guardOf (f .region)) (c .state) ≡ false
+          May (c .threads) f → f .flag ≡ false → sense .holds (m .guardOf (f .region)) (c .state) ≡ false
           → (Waiting (c .threads .place (f .thread)) → ⊥)
           → c′ .state ≡ c .state → Moved (c .threads) (c′ .threads) (f .thread) (waiting (f .region))
-          → NotifiedAre (c′ .notified) (λ u. c .notified u ≡ true) → Rule c f c′
+          → NotifiedAre (c′ .notified) (λ u. c .notified u ≡ true) → RuleBy c f c′
       -- (R 9.17)
       rule-1b :
-          May (c .threads) f → f .flag ≡ false → m .holds (m .guardOf (f .region)) (c .state) ≡ false
+          May (c .threads) f → f .flag ≡ false → sense .holds (m .guardOf (f .region)) (c .state) ≡ false
           → Waiting (c .threads .place (f .thread)) → c .notified (f .thread) ≡ true
           → c′ .state ≡ c .state → c′ .threads ≡ c .threads
-          → NotifiedAre (c′ .notified) (OthersOf (c .notified) (f .thread)) → Rule c f c′
+          → NotifiedAre (c′ .notified) (OthersOf (c .notified) (f .thread)) → RuleBy c f c′
       -- (R 9.18)
       rule-2a :
-          May (c .threads) f → f .flag ≡ true → m .holds (m .guardOf (f .region)) (c .state) ≡ true
-          → (Waiting (c .threads .place (f .thread)) → ⊥) → Body c f c′ → Rule c f c′
+          May (c .threads) f → f .flag ≡ true → sense .holds (m .guardOf (f .region)) (c .state) ≡ true
+          → (Waiting (c .threads .place (f .thread)) → ⊥) → BodyBy c f c′ → RuleBy c f c′
       -- (R 9.19)
       rule-2b :
-          May (c .threads) f → f .flag ≡ true → m .holds (m .guardOf (f .region)) (c .state) ≡ true
+          May (c .threads) f → f .flag ≡ true → sense .holds (m .guardOf (f .region)) (c .state) ≡ true
           → Waiting (c .threads .place (f .thread)) → c .notified (f .thread) ≡ true
           → First (c .threads) (λ u. Waits (c .threads) (m .guardOf (f .region)) u × (c .notified u ≡ true)) (f .thread)
-          → Body c f c′ → Rule c f c′
+          → BodyBy c f c′ → RuleBy c f c′
 
     -- frames allowed one after the other (the source's rule 3 and its closure; R 9.7)
-    pub data Rules : Config → List Frame → Config → Type 0 where
-      no-more : {c : Config} → Rules c [] c
-      one-more : {c d c′ : Config} {f : Frame} {fs : List Frame} → Rule c f d → Rules d fs c′ → Rules c (f ∷ fs) c′
+    pub data RulesBy : Point S → List Frame → Point S → Type 0 where
+      no-more : {c : Point S} → RulesBy c [] c
+      one-more : {c d c′ : Point S} {f : Frame} {fs : List Frame} → RuleBy c f d → RulesBy d fs c′
+          → RulesBy c (f ∷ fs) c′
 
-module _ (m : Monitor) (notices : Notices) where
-  -- what a frame that is refused by a number breaks: "13 first" (R 9.9, 9.14)
-  pub data Refuses (c : Config) (f : Frame) : ℕ → Type 0 where
-    may-not : (May m (c .threads) f → ⊥) → Refuses c f 13
-    no-rule : May m (c .threads) f → ((c′ : Config) → Rule m notices c f c′ → ⊥) → Refuses c f 14
+    -- what a frame that is refused by a number breaks: "13 first" (R 9.9, 9.14)
+    pub data RefusesBy (c : Point S) (f : Frame) : ℕ → Type 0 where
+      may-not : (May (c .threads) f → ⊥) → RefusesBy c f 13
+      no-rule : May (c .threads) f → ((c′ : Point S) → RuleBy c f c′ → ⊥) → RefusesBy c f 14
 
-  -- The frames before frame j, counted on from k, are allowed one after the other, and frame j is refused by number a
-  -- (R 9.8)
-  pub record Stops (k : ℕ) (c : Config) (fs : List Frame) (a j : ℕ) : Type 0 where
-    pub front : List Frame
-    pub frame : Frame
-    pub more : List Frame
-    pub point : Config
-    pub splits : fs ≡ front ++ (frame ∷ more)
-    pub place : j ≡ k + length front
-    pub allow : Rules m notices c front point
-    pub refuse : Refuses point frame a
+    -- The frames before frame j, counted on from k, are allowed one after the other, and frame j is refused by number a
+    -- (R 9.8)
+    pub record StopsBy (k : ℕ) (c : Point S) (fs : List Frame) (a j : ℕ) : Type 0 where
+      pub front : List Frame
+      pub frame : Frame
+      pub more : List Frame
+      pub point : Point S
+      pub splits : fs ≡ front ++ (frame ∷ more)
+      pub place : j ≡ k + length front
+      pub allow : RulesBy c front point
+      pub refuse : RefusesBy point frame a
+
+-- The same where a state is its number (R 3.17)
+
+abbrev pub Notices : Type 1
+Notices = NoticesOver ℕ
+
+module _ (m : Monitor) where
+  -- a guard is asked of a state's number, and a body leads to the number of the state after it, also where it faults
+  -- (R 4.9, 4.19, 4.20)
+  abbrev pub numbered : Semantics ℕ
+  numbered = record { holds = m .holds; runs = λ r s s′. s′ ≡ m .after r s }
+
+  abbrev pub PlainNotices : Notices
+  PlainNotices = PlainNoticesBy m numbered
+
+  abbrev pub TableNotices : (ℕ → ℕ → Entry) → Notices
+  TableNotices e = TableNoticesBy m numbered (λ r g a b. e r g ≡ entry a b)
+
+  module _ (notices : Notices) where
+    abbrev pub Body : Config → Frame → Config → Type 0
+    Body = BodyBy m numbered notices
+
+    abbrev pub Rule : Config → Frame → Config → Type 0
+    Rule = RuleBy m numbered notices
+
+    abbrev pub Rules : Config → List Frame → Config → Type 0
+    Rules = RulesBy m numbered notices
+
+    abbrev pub Refuses : Config → Frame → ℕ → Type 0
+    Refuses = RefusesBy m numbered notices
+
+    abbrev pub Stops : ℕ → Config → List Frame → ℕ → ℕ → Type 0
+    Stops = StopsBy m numbered notices

@@ -263,6 +263,14 @@ module _ (m : Monitor) where
   unfolding kept
   kept-truth s h = both (ltb s (count (vars m))) (keptAt m (stateAt (vars m) s)) h .1
 
+  -- only a guard of the file holds
+  pub holds-below : (g s : ℕ) → holds m g s ≡ true → g < length (guards m)
+  unfolding holds noGuard truth
+  holds-below g s h =
+      split (ltb g (length (guards m))) (ltb-true g (length (guards m)))
+      (λ high. clash h (ap (λ (c : Cond). truth c (vars m) (stateAt (vars m) s))
+      (List·getD-eq-default (guards m) noGuard (ltb-false g (length (guards m)) high))))
+
   no-region : (r : ℕ) → length (regions m) ≤ r → region m r ≡ noRegion
   unfolding region
   no-region r h = List·getD-eq-default (regions m) noRegion h
@@ -292,7 +300,8 @@ module _ (m : Monitor) where
     outside r s h = holds-guard r s ∙ ap (λ (q : Region). truth (q .guard) (vars m) (stateAt (vars m) s))
         (no-region r h)
 
-    holds-region : (r s : ℕ) → holds m (guardOf m r) s ≡ true → r < length (regions m)
+    -- only a region of the file has a guard that holds
+    pub holds-region : (r s : ℕ) → holds m (guardOf m r) s ≡ true → r < length (regions m)
     holds-region r s h =
         split (ltb r (length (regions m))) (λ low. ltb-true r (length (regions m)) low)
         (λ high. clash h (outside r s (ltb-false r (length (regions m)) high)))
