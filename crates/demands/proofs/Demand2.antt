@@ -24,9 +24,9 @@ use Rattle.machine.proofs.Views.{Views, rules-viewed, stops-viewed}
 use Rattle.meaning.specs.State.{stateAt, numberOf}
 use Rattle.meaning.specs.Answer.{accepted}
 use Rattle.meaning.specs.Decide.Check.{check}
-use Rattle.meaning.specs.Model.{vars, kept, model, numberAfter, regions, guards, region, holds, after}
+use Rattle.meaning.specs.Model.{vars, kept, model, numberAfter, region, holds, after}
 use Rattle.meaning.specs.Calls.{Machine, plain-machine, table-machine, Startable, noticesOf}
-use Rattle.meaning.specs.Decide.Calls.{place, toldBy, runList}
+use Rattle.meaning.specs.Decide.Calls.{toldBy, runList}
 use Rattle.meaning.specs.Accepted.{State, Keeps, Meets, Sound, BlockRuns}
 use Rattle.meaning.proofs.StateLaws.{state-at, number-below, state-at-number}
 use Rattle.meaning.proofs.ModelLaws.{kept-below, keeps, outside, leaves, follows-below, region-numbered, holds-guard}
@@ -264,6 +264,7 @@ module _ (file : List ℕ) (m : Monitor) (e : check file ≡ accepted m) where
         λ h. rows .1 (by-values m ok w .1 h) .2,
       )
 
+  -- whom a body notifies is the same
   same-notices : (w : Machine) (s : ℕ) (p : Threads) (r u : ℕ)
       → noticesByValues m w (stateAt (vars m) s) p r u ↔ noticesOf m w s p r u
   unfolding noticesByValues noticesOf PlainNoticesBy TableNoticesBy model holds truthOf
@@ -289,6 +290,7 @@ module _ (file : List ℕ) (m : Monitor) (e : check file ≡ accepted m) where
     same-notices = same-notices w;
   }
 
+  -- the machines follow the rules by values, as those by numbers
   pub follows-by-values : (w : Machine) (s : ℕ) → Startable m s → FollowsByValues m w s
   unfolding allIdle model
   follows-by-values w s k =
