@@ -2,7 +2,7 @@
 -- can follow, and there are none where the file ends early.
 use Prim.Native.Nat.{ℕ, suc, _-_}
 use native.Mathlib.Omega.{arith}
-use mathlib.Core.Path.{_≡_, refl, sym, ap, _∙_}
+use mathlib.Core.Path.{_≡_, refl, sym, ap}
 use mathlib.Core.List.{List, [], _∷_, _++_, append-assoc}
 use lib.ListN.{length, length-append, drop-of-length-le}
 use lib.Seq.{drop-at}
@@ -54,7 +54,7 @@ left-is ts pre ls c = rw (c .whole)
 
 viable-front : (a b : List Lexeme) → Viable (a ++ b) → Viable a
 unfolding Viable
-viable-front a b (m, rest, e) = (m, b ++ rest, e ∙ append-assoc a b rest)
+viable-front a b (rest, g) = (b ++ rest, rw append-assoc at g)
 
 viable-none : (ts : List Token) → Viable (lexemes ts) → NoneOffends NoFile ts
 unfolding NoneOffends NoFile

@@ -4,18 +4,20 @@ use Prim.Native.Nat.{ℕ, _≤_, _<_}
 use native.Mathlib.Omega.{arith}
 use mathlib.Core.Path.{_≡_, refl, sym, subst, ap, _∙_}
 use mathlib.Core.Logic.{_⊎_, inl, inr, _↔_}
-use mathlib.Core.List.{List, [], _∷_, _++_, append-nil}
+use mathlib.Core.List.{List, [], _∷_, _++_}
 use mathlib.Core.Option.{Option, none, some}
 use lib.ListN.{length, getD}
 use lib.Dec.{ltb}
 use borrow.Author.Tests.{ltb-true, ltb-false, lt-ltb, le-ltb}
 use Rattle.syntax.specs.Token.{Lexeme, number, Keyword, k-var, Token, lexemes}
 use Rattle.syntax.specs.Decide.Scan.{Tokens, tokens, none-at, tokenize}
-use Rattle.syntax.specs.Spelling.{NoTokenAt}
+use Rattle.syntax.specs.Spelling.{NoTokenAt, AllSpellable}
 use Rattle.syntax.proofs.Scanning.{tokenize-tokens, tokenize-none}
+use Rattle.syntax.proofs.Spellable.{cover-spellable}
 use Rattle.syntax.specs.Tree.{Monitor, all, spell, InGrammar, Viable}
 use Rattle.syntax.specs.Decide.Reading.{Got, got, stuck, read}
 use Rattle.syntax.proofs.Grammar.{read-spells, spelled-read, stuck-viable, stuck-not-viable, stuck-at-end}
+use Rattle.syntax.proofs.Grammar.{whole-viable, in-grammar-iff}
 use Rattle.meaning.specs.Answer.{Answer, answer, Verdict, accepted, refused}
 use Rattle.meaning.specs.Decide.Check.{crowded, pastLimit, misnamed, placesOf, placeOf, leftOf, checkMeaning}
 use Rattle.meaning.specs.Decide.Check.{checkTokens, check}
@@ -108,21 +110,23 @@ module _ {file : List ℕ} {ts : List Token} where
 -- 4: where reading ends
 
 data Reads (end : ℕ) (ts : List Token) : Type 0 where
-  whole : (m : Monitor) → spell m ≡ lexemes ts → Reads end ts
+  whole : (m : Monitor) → spell m ≡ lexemes ts → InGrammar (lexemes ts) → Reads end ts
   wrong : (us : List Lexeme) → read (lexemes ts) ≡ stuck us → FirstOffends NoFile ts (placeOf end (leftOf ts us))
       → Reads end ts
   early :
       (us : List Lexeme) → read (lexemes ts) ≡ stuck us → placeOf end (leftOf ts us) ≡ end → Viable (lexemes ts)
       → (InGrammar (lexemes ts) → ⊥) → Reads end ts
 
-reads-as : (end : ℕ) (ts : List Token) → Reads end ts
-reads-as end ts = go (read (lexemes ts)) refl
+reads-as : {file : List ℕ} {ts : List Token} (end : ℕ) → Past2 file ts → Reads end ts
+reads-as {ts = ts} end p = go (read (lexemes ts)) refl (cover-spellable (p .cut))
   where
-    go : (g : Got Monitor) → read (lexemes ts) ≡ g → Reads end ts
-    go (got m us) e = whole m (read-spells (lexemes ts) m us e .0)
-    go (stuck []) e = let s = stuck-at-end (lexemes ts) e in early [] e (place-end end ts (s .0) .0) (s .0) (s .1)
-    go (stuck (l ∷ us)) e =
-        let s = stuck-viable (lexemes ts) (l ∷ us) e in
+    go : (g : Got Monitor) → read (lexemes ts) ≡ g → AllSpellable (lexemes ts) → Reads end ts
+    go (got m us) e a =
+        let w = read-spells (lexemes ts) m us e .0 in
+        whole m w (in-grammar-iff (lexemes ts) a .1 (m, w))
+    go (stuck []) e a = let s = stuck-at-end (lexemes ts) a e in early [] e (place-end end ts (s .0) .0) (s .0) (s .1)
+    go (stuck (l ∷ us)) e a =
+        let s = stuck-viable (lexemes ts) (l ∷ us) a e in
         wrong (l ∷ us) e
         (place-first end ts (s .0) l us (s .1) (s .2) (stuck-not-viable (lexemes ts) (s .0) l us e (s .1)))
 
@@ -132,21 +136,19 @@ viable-no-first ts k v (b, a, t, e, o, p, n) = place-end 0 ts v .1 b a t e o
 
 module _ {file : List ℕ} {ts : List Token} (p : Past3 file ts) where
   says-no-file : (k : ℕ) → FirstOffends NoFile ts k → check file ≡ refused (answer 4 k 0)
-  unfolding Viable
-  says-no-file k f = go (reads-as (length file) ts)
+  says-no-file k f = go (reads-as (length file) (p .past))
     where
       go : Reads (length file) ts → check file ≡ refused (answer 4 k 0)
-      go (whole m e) = absurd (viable-no-first ts k (m, [], e ∙ sym (append-nil (lexemes ts))) f)
+      go (whole m e g) = absurd (viable-no-first ts k (whole-viable (lexemes ts) g) f)
       go (wrong us e g) = says-4 us p e ∙ ap {B = Verdict} (λ j. refused (answer 4 j 0))
           (first-unique NoFile ts _ k g f)
       go (early us e q v n) = absurd (viable-no-first ts k v f)
 
   says-early : Viable (lexemes ts) → (InGrammar (lexemes ts) → ⊥) → check file ≡ refused (answer 4 (length file) 0)
-  unfolding InGrammar
-  says-early v n = go (reads-as (length file) ts)
+  says-early v n = go (reads-as (length file) (p .past))
     where
       go : Reads (length file) ts → check file ≡ refused (answer 4 (length file) 0)
-      go (whole m e) = absurd (n (m, e))
+      go (whole m e g) = absurd (n g)
       go (wrong us e g) = absurd (viable-no-first ts _ v g)
       go (early us e q w x) = says-4 us p e ∙ ap {B = Verdict} (λ j. refused (answer 4 j 0)) q
 
@@ -258,13 +260,13 @@ module _ (file : List ℕ) where
   by-tokens ts p = go (crowded 0 0 0 ts) refl
     where
       reading : Past3 file ts → Reads (length file) ts → Grounds
-      reading q (whole m e) = by-tree ts m (record { past = q; grammar = e })
+      reading q (whole m e g) = by-tree ts m (record { past = q; grammar = e })
       reading q (wrong us e f) = (refused (answer 4 (placeOf (length file) (leftOf ts us)) 0), no-file q f)
       reading q (early us e r v n) = (refused (answer 4 (length file) 0), ends-early q v n)
 
       go : (o : Option ℕ) → crowded 0 0 0 ts ≡ o → Grounds
       go (some k) e = (refused (answer 3 k 0), too-many p (crowded-first ts k .0 e))
-      go none e = reading (record { past = p; limits = crowded-none ts .0 e }) (reads-as (length file) ts)
+      go none e = reading (record { past = p; limits = crowded-none ts .0 e }) (reads-as (length file) p)
 
   grounds : Grounds
   grounds = split (ltb 8192 (length file)) (λ e. (refused (answer 1 0 0), too-long (ltb-true 8192 (length file) e)))

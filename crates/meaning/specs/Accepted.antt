@@ -169,7 +169,7 @@ pub record Accepted (file : List ℕ) (m : Monitor) : Type 0 where
   pub short : length file ≤ mostBytes
   pub cut : Cover 0 file ts
   pub limits : NoneOffends Crowded ts
-  -- not 4, 5, 6
+  -- not 4 (bytes spell its lexemes, by `cut`), 5, 6
   pub grammar : spell m ≡ lexemes ts
   pub counts : NoneOffends PastLimit ts
   pub names : NoneOffends Misnamed ts

@@ -71,7 +71,7 @@ pub record Past3 (file : List ℕ) (ts : List Token) : Type 0 where
   pub past : Past2 file ts
   pub limits : NoneOffends Crowded ts
 
--- 4 too (R 6.13, 6.14)
+-- 4 too (R 2.16, 6.13, 6.14)
 pub record Past4 (file : List ℕ) (ts : List Token) (m : Monitor) : Type 0 where
   pub past : Past3 file ts
   pub grammar : spell m ≡ lexemes ts

@@ -6,7 +6,7 @@ use native.Mathlib.Nat.{zero-add, suc-add}
 use native.Mathlib.Omega.{arith}
 use mathlib.Core.Path.{_≡_, refl, sym, subst, ap, _∙_}
 use mathlib.Core.Bool.{Bool, true, false, false≢true}
-use mathlib.Core.Logic.{inl, inr}
+use mathlib.Core.Logic.{inl, inr, _↔_}
 use mathlib.Core.Option.{Option, none, some}
 use mathlib.Core.List.{List, [], _∷_, _++_, append-nil, append-assoc, append-cancel-right}
 use lib.ListN.{length, getD}
@@ -15,6 +15,8 @@ use Rattle.syntax.specs.Token.{Lexeme, name, key, number, mark, Mark, Ke
 use Rattle.syntax.specs.Token.{semicolon, equals, dots, becomes, same, differs, below, at-most, above, at-least}
 use Rattle.syntax.specs.Token.{plus, minus, bang, and-and, or-or, k-monitor, k-var, k-in, k-keep, k-method}
 use Rattle.syntax.specs.Token.{k-waituntil, k-if, k-else, k-true, k-false}
+use Rattle.syntax.specs.Bytes.{bytes}
+use Rattle.syntax.specs.Spelling.{AllSpellable}
 use Rattle.syntax.specs.Decide.Lexeme.{isMark, isKey, isName, markNumber}
 use Rattle.syntax.specs.Decide.Lexeme.{keywordNumber}
 use Rattle.syntax.specs.Tree.{Int, plain, negated, Atom, literal, variable, Sign, added, taken, Term, Expr}
@@ -30,6 +32,8 @@ use Rattle.syntax.specs.Decide.Reading.{readRegion, readMethod, readVar,
 use Rattle.syntax.proofs.Phrase.{Follow, of, Phrase, Accepts, front, said, vacuous, spelled, gives, chains}
 use Rattle.syntax.proofs.Phrase.{chooses, ones, skips, picks, picks₁, meets, thens, turns, manys, somes, every}
 use Rattle.syntax.proofs.Phrase.{pairs, cases, exact, clear}
+use Rattle.syntax.proofs.Spellable.{key-spellable, mark-spellable, name-spellable, number-spellable}
+use Rattle.syntax.proofs.Spellable.{both-spellable, front-spellable}
 
 -- Tests of a lexeme
 
@@ -83,7 +87,7 @@ key-at k = elim k [
 
 the-mark : (m : Mark) → Accepts (isMark m) (mark m)
 unfolding isMark
-the-mark m = record { alone = alone; itself = eq-eqb (markNumber m) (markNumber m) refl }
+the-mark m = record { spells = mark-spellable m; alone = alone; itself = eq-eqb (markNumber m) (markNumber m) refl }
   where
     alone : (x : Lexeme) → isMark m x ≡ true → x ≡ mark m
     alone (name x) e = absurd (false≢true e)
@@ -96,7 +100,7 @@ the-mark m = record { alone = alone; itself = eq-eqb (markNumber m) (markNumber 
 
 the-key : (k : Keyword) → Accepts (isKey k) (key k)
 unfolding isKey
-the-key k = record { alone = alone; itself = eq-eqb (keywordNumber k) (keywordNumber k) refl }
+the-key k = record { spells = key-spellable k; alone = alone; itself = eq-eqb (keywordNumber k) (keywordNumber k) refl }
   where
     alone : (x : Lexeme) → isKey k x ≡ true → x ≡ key k
     alone (name x) e = absurd (false≢true e)
@@ -117,7 +121,8 @@ names = ones {s = name} (record {
   at = λ l ls. elim l [ name x ↦ refl | key k ↦ refl | number n ↦ refl | mark m ↦ refl ];
   fits = λ l x. elim l [ name y ↦ λ e. cc | key k ↦ λ e. cc | number n ↦ λ e. cc | mark m ↦ λ e. cc ];
   takes = λ x. refl;
-  example = [];
+  example = bytes "a";
+  spells = name-spellable;
 })
 
 numbers : {F : Follow} {n : ℕ} → Phrase (of (λ x. number x ∷ [])) F n readNumber readNumber
@@ -129,6 +134,7 @@ numbers = ones {s = number} (record {
   fits = λ l x. elim l [ name y ↦ λ e. cc | key k ↦ λ e. cc | number n ↦ λ e. cc | mark m ↦ λ e. cc ];
   takes = λ x. refl;
   example = 0;
+  spells = number-spellable;
 })
 
 ints : {F : Follow} {n : ℕ} → Phrase (of spellInt) F n readInt readInt
@@ -225,21 +231,24 @@ abbrev after-cond : Follow
 after-cond us = no-sign us × (begins (isMark and-and) us ≡ false) × (begins (isMark or-or) us ≡ false)
 
 -- some tree of each
-a-simple : Simple
+abbrev a-simple : Simple
 a-simple = constant true
 
-a-conj : Conj
+abbrev a-conj : Conj
 a-conj = just a-simple
 
-a-cond : Cond
+abbrev a-cond : Cond
 a-cond = only a-conj
+
+true-spellable : AllSpellable (key k-true ∷ [])
+true-spellable = (key-spellable k-true, tt)
 
 mutual
   unfolding readCond readConj readSimple spellCond spellConj spellSimple spellConstant begins isMark isKey markNumber keywordNumber isSign
 
   conds : (k n : ℕ) → 3 * n + 1 ≤ k → Phrase (of spellCond) after-cond n (readCond k) (readCond (suc k))
   conds zero n h = absurd (omega arith)
-  conds (suc k) zero h = vacuous refl a-cond
+  conds (suc k) zero h = vacuous refl a-cond true-spellable
   conds (suc k) (suc n) h = spelled
       (meets (conjs k (suc n) (omega arith))
       (λ c. picks₁ (the-mark or-or) (turns (or c) (conds k n (omega arith))) (gives (only c)) (every λ _ us g. g .2))
@@ -248,8 +257,8 @@ mutual
       (λ x. elim x [ only c ↦ ((c, inr tt), refl) | or c d ↦ ((c, inl d), refl) ])
 
   conjs : (k n : ℕ) → 3 * n ≤ k → Phrase (of spellConj) after-conj n (readConj k) (readConj (suc k))
-  conjs zero n h = vacuous (omega arith) a-conj
-  conjs (suc k) zero h = vacuous refl a-conj
+  conjs zero n h = vacuous (omega arith) a-conj true-spellable
+  conjs (suc k) zero h = vacuous refl a-conj true-spellable
   conjs (suc k) (suc n) h = spelled
       (meets (simples k (suc n) (omega arith))
       (λ s. picks₁ (the-mark and-and) (turns (and s) (conjs k n (omega arith))) (gives (just s)) (every λ _ us g. g .1))
@@ -258,8 +267,8 @@ mutual
       (λ x. elim x [ just s ↦ ((s, inr tt), refl) | and s c ↦ ((s, inl c), refl) ])
 
   simples : (k n : ℕ) → 3 * n ≤ k + 1 → Phrase (of spellSimple) no-sign n (readSimple k) (readSimple (suc k))
-  simples zero n h = vacuous (omega arith) a-simple
-  simples (suc k) zero h = vacuous refl a-simple
+  simples zero n h = vacuous (omega arith) a-simple true-spellable
+  simples (suc k) zero h = vacuous refl a-simple true-spellable
   simples (suc k) (suc n) h = spelled
       (picks₁ (the-mark bang) (turns negation (simples k n (omega arith)))
       (picks₁ (the-mark lparen)
@@ -318,15 +327,25 @@ stmt-not-empty (assign x e) = omega arith
 stmt-not-empty (if-then c b) = omega arith
 stmt-not-empty (if-else c a b) = omega arith
 
-a-stmt : Stmt
+abbrev a-stmt : Stmt
 a-stmt = if-then a-cond end
+
+if-spellable : AllSpellable (spellStmt a-stmt)
+unfolding spellStmt spellCond spellConj spellSimple spellConstant spellBlock
+if-spellable = (
+  key-spellable k-if,
+  (
+    mark-spellable lparen,
+    (key-spellable k-true, (mark-spellable rparen, (mark-spellable lbrace, (mark-spellable rbrace, tt)))),
+  ),
+)
 
 mutual
   unfolding readBlock readStmt spellBlock spellStmt begins isMark isKey markNumber keywordNumber isSign
 
   blocks : (k n : ℕ) → 3 * n + 1 ≤ k → Phrase (of spellBlock) at-brace n (readBlock k) (readBlock (suc k))
   blocks zero n h = absurd (omega arith)
-  blocks (suc k) zero h = vacuous refl end
+  blocks (suc k) zero h = vacuous refl end tt
   blocks (suc k) (suc n) h = spelled
       (chooses (isMark rbrace) (gives end)
       (chains {m = n} (stmts k (suc n) (omega arith)) (λ s. turns (then s) (blocks k n (omega arith)))
@@ -337,8 +356,8 @@ mutual
       (λ x. elim x [ end ↦ (inl tt, refl) | then s b ↦ (inr (s, b), refl) ])
 
   stmts : (k n : ℕ) → 3 * n ≤ k → Phrase (of spellStmt) no-else n (readStmt k) (readStmt (suc k))
-  stmts zero n h = vacuous (omega arith) a-stmt
-  stmts (suc k) zero h = vacuous refl a-stmt
+  stmts zero n h = vacuous (omega arith) a-stmt if-spellable
+  stmts (suc k) zero h = vacuous refl a-stmt if-spellable
   stmts (suc k) (suc n) h = spelled
       (picks₁ (the-key k-if) (skips (the-mark lparen) (meets (conds k n (omega arith)) (λ c. skips (the-mark rparen)
       (skips (the-mark lbrace) (meets (blocks k n (omega arith)) (λ a. skips (the-mark rbrace)
@@ -391,9 +410,10 @@ ends : {n : ℕ} → Phrase (of (λ (_ : Unit {0}). [])) at-end n atEnd atEnd
 unfolding atEnd
 ends = record {
   witness = tt;
+  spells = tt;
   sound = λ ls a us h e. (tt, refl, leaves (some a) ls us e);
   complete = λ i us f h. rw f;
-  prefix = λ ls us h e. ([], leaves none ls us e, tt, [], refl);
+  prefix = λ ls us h e. ([], leaves none ls us e, tt, [], refl, tt);
   local = λ o pre us us′ f h h′ e.
       let q : pre ≡ [] = append-cancel-right pre [] us (leaves o (pre ++ us) us e) in
       rw q (still o us us′ f (rw q at e));
@@ -489,41 +509,72 @@ pub one-tree : (m m′ : Monitor) → spell m ≡ spell m′ → m ≡ m′
 one-tree m m′ e = let p = spelled-read m in let q = spelled-read m′ in cc
 
 -- what it read before it was stuck begins a file of the grammar ..
-pub stuck-viable : (ls us : List Lexeme) → read ls ≡ stuck us → (pre : List Lexeme) × (ls ≡ pre ++ us) × Viable pre
-unfolding read Viable
-stuck-viable ls us e = let s = reading ls .prefix ls us (omega arith) e in (s .0, s .1, (s .2, s .3, s .4))
+pub stuck-viable : (ls us : List Lexeme) → AllSpellable ls → read ls ≡ stuck us
+    → (pre : List Lexeme) × (ls ≡ pre ++ us) × Viable pre
+unfolding read Viable InGrammar
+stuck-viable ls us a e =
+    let s = reading ls .prefix ls us (omega arith) e in
+    let pre = s .0 in
+    let front = front-spellable pre us (rw (s .1) at a) in
+    (pre, s .1, (s .3, (s .2, s .4, both-spellable pre (s .3) front (s .5))))
 
--- .. and with the next lexeme it begins none
-pub stuck-not-viable : (ls pre : List Lexeme) (l : Lexeme) (us : List Lexeme) → read ls ≡ stuck (l ∷ us)
-    → ls ≡ pre ++ (l ∷ us)
-    → Viable (pre ++ (l ∷ [])) → ⊥
-unfolding Viable
-stuck-not-viable ls pre l us e c v =
-    let m = v .0 in
+-- .. and with the next lexeme it begins none, whatever the lexemes are
+no-tree-on : (ls pre : List Lexeme) (l : Lexeme) (us : List Lexeme) → read ls ≡ stuck (l ∷ us) → ls ≡ pre ++ (l ∷ us)
+    → (m : Monitor) (rest : List Lexeme) → spell m ≡ pre ++ (l ∷ rest) → ⊥
+no-tree-on ls pre l us e c m rest w =
     let n = suc (length ls + length (spell m)) in
-    let w : spell m ≡ pre ++ (l ∷ v .1) = v .2 ∙ append-assoc pre (l ∷ []) (v .1) in
     let p = monitors (4 * n) n (omega arith) in
-    let there = p .local none pre (l ∷ us) (l ∷ v .1) refl (omega (arith, ap length c)) (omega (arith, ap length w))
+    let there = p .local none pre (l ∷ us) (l ∷ rest) refl (omega (arith, ap length c)) (omega (arith, ap length w))
     (ap (readMonitor (4 * n)) (sym c) ∙ fuel-enough ls (4 * n) (omega arith) ∙ e) in
     let whole = p .complete m [] refl (simp append-nil (omega arith)) in
     let short = append-nil (spell m) in
     let z : _≡_ {A = ℕ} 0 1 = cc in
     omega arith
 
+pub stuck-not-viable : (ls pre : List Lexeme) (l : Lexeme) (us : List Lexeme) → read ls ≡ stuck (l ∷ us)
+    → ls ≡ pre ++ (l ∷ us)
+    → Viable (pre ++ (l ∷ [])) → ⊥
+unfolding Viable InGrammar
+stuck-not-viable ls pre l us e c (rest, (m, w, a)) =
+    no-tree-on ls pre l us e c m rest (w ∙ append-assoc pre (l ∷ []) rest)
+
 -- a list at which it is stuck is not in the grammar
 pub stuck-not-in-grammar : (ls us : List Lexeme) → read ls ≡ stuck us → InGrammar ls → ⊥
 unfolding InGrammar
-stuck-not-in-grammar ls us e g =
-    let p = spelled-read (g .0) in
-    let q = g .1 in
+stuck-not-in-grammar ls us e (m, q, a) =
+    let p = spelled-read m in
     let z : _≡_ {A = ℕ} 0 1 = cc in
     omega arith
 
 -- stuck at the end: the list is only a beginning
-pub stuck-at-end : (ls : List Lexeme) → read ls ≡ stuck [] → Viable ls × (InGrammar ls → ⊥)
-stuck-at-end ls e =
-    let s = stuck-viable ls [] e in
+pub stuck-at-end : (ls : List Lexeme) → AllSpellable ls → read ls ≡ stuck [] → Viable ls × (InGrammar ls → ⊥)
+stuck-at-end ls a e =
+    let s = stuck-viable ls [] a e in
     (subst Viable (sym (s .1 ∙ append-nil (s .0))) (s .2), stuck-not-in-grammar ls [] e)
+
+-- a list in the grammar is viable
+pub whole-viable : (ls : List Lexeme) → InGrammar ls → Viable ls
+unfolding Viable
+whole-viable ls g = ([], rw append-nil g)
+
+-- Of lexemes that bytes spell it is the same to ask for any tree, whatever its names and numbers: one that spells them,
+-- and one that goes on from them
+pub in-grammar-iff : (ls : List Lexeme) → AllSpellable ls → InGrammar ls ↔ ((m : Monitor) × (spell m ≡ ls))
+unfolding InGrammar
+in-grammar-iff ls a = (λ g. (g .0, g .1), λ t. (t .0, t .1, a))
+
+pub viable-iff : (ls : List Lexeme) → AllSpellable ls
+    → Viable ls ↔ ((m : Monitor) × (rest : List Lexeme) × (spell m ≡ ls ++ rest))
+unfolding Viable InGrammar
+viable-iff ls a = (λ v. (v .1 .0, v .0, v .1 .1), λ t. go (read ls) refl (t .0) (t .1) (t .2))
+  where
+    go : (g : Got Monitor) → read ls ≡ g → (m : Monitor) (rest : List Lexeme) → spell m ≡ ls ++ rest → Viable ls
+    go (got t us) e m rest w = whole-viable ls (in-grammar-iff ls a .1 (t, read-spells ls t us e .0))
+    go (stuck []) e m rest w = stuck-at-end ls a e .0
+    go (stuck (l ∷ us)) e m rest w =
+        let s = stuck-viable ls (l ∷ us) a e in
+        absurd (no-tree-on ls (s .0) l us e (s .1) m (us ++ rest)
+        (w ∙ ap (λ (x : List Lexeme). x ++ rest) (s .1) ∙ append-assoc (s .0) (l ∷ us) rest))
 
 -- A condition as the kept condition of a file
 keeping : Cond → Monitor

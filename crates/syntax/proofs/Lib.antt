@@ -1,4 +1,5 @@
 pub mod Scanning
+pub mod Spellable
 pub mod Lexemes
 pub mod Phrase
 pub mod Grammar

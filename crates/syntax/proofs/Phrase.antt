@@ -2,16 +2,18 @@
 -- and the laws that carry it through the combinators of `Reading`.
 use Prim.Native.Nat.{ℕ, zero, suc, _+_, _≤_, _<_}
 use native.Mathlib.Omega.{arith}
-use mathlib.Core.Path.{_≡_, refl, sym, ap, _∙_}
+use mathlib.Core.Path.{_≡_, refl, sym, ap, subst, _∙_}
 use mathlib.Core.Bool.{Bool, true, false, false≢true}
 use mathlib.Core.Logic.{_⊎_, inl, inr, ⊎-elim}
 use mathlib.Core.Option.{Option, none, some}
 use mathlib.Core.List.{List, [], _∷_, _++_, append-nil, append-assoc, append-cancel-right}
 use lib.ListN.{length, length-append}
 use Rattle.syntax.specs.Token.{Lexeme}
+use Rattle.syntax.specs.Spelling.{Spellable, AllSpellable}
 use Rattle.syntax.specs.Tree.{each, Some, all}
 use Rattle.syntax.specs.Decide.Reading.{Got, got, stuck, Reader, onwards, _>>=_, give, begins, rest, choose}
 use Rattle.syntax.specs.Decide.Reading.{expect, readMany, readSome}
+use Rattle.syntax.proofs.Spellable.{both-spellable}
 use Rattle.logic.proofs.Bools.{split}
 
 -- what the trees of a part spell: an index, and for each its tree and its word
@@ -74,15 +76,17 @@ front (l ∷ ls) = l ∷ []
 -- fuel.
 pub record Phrase {A : Type 0} (W : Words A) (F : Follow) (n : ℕ) (r r′ : Reader A) : Type 0 where
   pub witness : W .index
+  pub spells : AllSpellable (W .word witness)
   -- it reads words only
   pub sound : (ls : List Lexeme) (a : A) (us : List Lexeme) → length ls < n → r ls ≡ got a us
       → (i : W .index) × (a ≡ W .value i) × (ls ≡ W .word i ++ us)
   -- it reads every word
   pub complete : (i : W .index) (us : List Lexeme) → F us → length (W .word i ++ us) < n → r (W .word i ++ us)
       ≡ got (W .value i) us
-  -- where it is stuck a word goes on
+  -- where it is stuck a word goes on, by lexemes that bytes spell
   pub prefix : (ls us : List Lexeme) → length ls < n → r ls ≡ stuck us
       → (pre : List Lexeme) × (ls ≡ pre ++ us) × (i : W .index) × (more : List Lexeme) × (W .word i ≡ pre ++ more)
+      × AllSpellable more
   -- of what it leaves it sees one lexeme
   pub local : (o : Option A) (pre us us′ : List Lexeme) → front us ≡ front us′ → length (pre ++ us) < n
       → length (pre ++ us′) < n
@@ -98,9 +102,11 @@ same-front [] us us′ h = h
 same-front (l ∷ pre) us us′ h = refl
 
 -- no list is shorter than nothing
-pub vacuous : {A : Type 0} {W : Words A} {F : Follow} {n : ℕ} {r r′ : Reader A} → n ≡ 0 → W .index → Phrase W F n r r′
-vacuous z i = record {
+pub vacuous : {A : Type 0} {W : Words A} {F : Follow} {n : ℕ} {r r′ : Reader A} → n ≡ 0 → (i : W .index)
+    → AllSpellable (W .word i) → Phrase W F n r r′
+vacuous z i s = record {
   witness = i;
+  spells = s;
   sound = λ ls a us h e. absurd (omega arith);
   complete = λ i us f h. absurd (omega arith);
   prefix = λ ls us h e. absurd (omega arith);
@@ -113,6 +119,7 @@ within : {A : Type 0} {W : Words A} {F : Follow} {n m : ℕ} {r r′ : Reader A}
     → Phrase W F m r r′
 within le p = record {
   witness = p .witness;
+  spells = p .spells;
   sound = λ ls a us h e. p .sound ls a us (omega arith) e;
   complete = λ i us f h. p .complete i us f (omega arith);
   prefix = λ ls us h e. p .prefix ls us (omega arith) e;
@@ -129,6 +136,7 @@ reword : {A : Type 0} {W U : Words A} {F : Follow} {n : ℕ} {r r′ : Reader A}
 unfolding Same
 reword {F = F} {n = n} {r = r} there back p = record {
   witness = there (p .witness) .0;
+  spells = subst AllSpellable (there (p .witness) .2) (p .spells);
   sound = λ ls a us h e.
       let s = p .sound ls a us h e in
       let t = there (s .0) in
@@ -139,7 +147,7 @@ reword {F = F} {n = n} {r = r} there back p = record {
   prefix = λ ls us h e.
       let s = p .prefix ls us h e in
       let t = there (s .2) in
-      (s .0, s .1, t .0, s .3, sym (t .2) ∙ s .4);
+      (s .0, s .1, t .0, s .3, sym (t .2) ∙ s .4, s .5);
   local = p .local;
   agree = p .agree;
 }
@@ -179,6 +187,7 @@ pub gives : {A : Type 0} {F : Follow} {n : ℕ} (a : A) → Phrase (bare a) F n 
 unfolding give
 gives {A} a = record {
   witness = tt;
+  spells = tt;
   sound = λ ls b us h e. (tt, cc, cc);
   complete = λ i us f h. refl;
   prefix = λ ls us h e. got-stuck e;
@@ -220,13 +229,14 @@ module _ {A B : Type 0} {W : Words A} {U : A → Words B} {F G : Follow} {n m : 
 
     chain-prefix : (ls us : List Lexeme) → length ls < n → (g : Got A) → r ls ≡ g → onwards g f ≡ stuck us
         → (pre : List Lexeme) × (ls ≡ pre ++ us) × (x : chain W U .index) × (more : List Lexeme)
-        × (chain W U .word x ≡ pre ++ more)
+        × (chain W U .word x ≡ pre ++ more) × AllSpellable more
     unfolding onwards
     chain-prefix ls us h (stuck vs) d e =
         let s = p .prefix ls us h (cc) in
         let i = s .2 in
-        let j = q (W .value i) .witness in
-        (s .0, s .1, (i, j), s .3 ++ U (W .value i) .word j, rw (s .4, append-assoc))
+        let k = q (W .value i) in
+        let w = U (W .value i) .word (k .witness) in
+        (s .0, s .1, (i, k .witness), s .3 ++ w, rw (s .4, append-assoc), both-spellable (s .3) w (s .5) (k .spells))
     chain-prefix ls us h (got a vs) d e =
         let s = p .sound ls a vs h d in
         let i = s .0 in
@@ -236,6 +246,7 @@ module _ {A B : Type 0} {W : Words A} {U : A → Words B} {F G : Follow} {n m : 
           (i, t .2),
           t .3,
           ap (λ (x : List Lexeme). W .word i ++ x) (t .4) ∙ sym (append-assoc (W .word i) (t .0) (t .3)),
+          t .5,
         )
 
     chain-complete : (x : chain W U .index) (us : List Lexeme) → G us → length (chain W U .word x ++ us) < n
@@ -281,6 +292,9 @@ module _ {A B : Type 0} {W : Words A} {U : A → Words B} {F G : Follow} {n m : 
     unfolding _>>=_
     chains = record {
       witness = (p .witness, q _ .witness);
+      spells =
+          let k = q (W .value (p .witness)) in
+          both-spellable (W .word (p .witness)) (U (W .value (p .witness)) .word (k .witness)) (p .spells) (k .spells);
       sound = λ ls b us h e. chain-sound ls b us h (r ls) refl e;
       complete = chain-complete;
       prefix = λ ls us h e. chain-prefix ls us h (r ls) refl e;
@@ -327,13 +341,14 @@ module _ {A : Type 0} {W U : Words A} {F : Follow} {n : ℕ} {a a′ b b′ : Re
   unfolding choose
   chooses = record {
     witness = inl (p .witness);
+    spells = p .spells;
     sound = λ ls v us h e. split (begins t ls)
         (λ x. let s = p .sound ls v us h (sym (by-first ls x) ∙ e) in (inl (s .0), s .1, s .2))
         (λ x. let s = q .sound ls v us h (sym (by-second ls x) ∙ e) in (inr (s .0), s .1, s .2));
     complete = either-complete;
     prefix = λ ls us h e. split (begins t ls)
-        (λ x. let s = p .prefix ls us h (sym (by-first ls x) ∙ e) in (s .0, s .1, inl (s .2), s .3, s .4))
-        (λ x. let s = q .prefix ls us h (sym (by-second ls x) ∙ e) in (s .0, s .1, inr (s .2), s .3, s .4));
+        (λ x. let s = p .prefix ls us h (sym (by-first ls x) ∙ e) in (s .0, s .1, inl (s .2), s .3, s .4, s .5))
+        (λ x. let s = q .prefix ls us h (sym (by-second ls x) ∙ e) in (s .0, s .1, inr (s .2), s .3, s .4, s .5));
     local = λ o pre us us′ s h h′ e.
         let same = seen t (pre ++ us) (pre ++ us′) (same-front pre us us′ s) in
         split (begins t (pre ++ us))
@@ -358,6 +373,7 @@ pub record Takes {A : Type 0} (s : A → Lexeme) (r : Reader A) : Type 0 where
   pub fits : (l : Lexeme) (a : A) → tree l ≡ some a → l ≡ s a
   pub takes : (a : A) → tree (s a) ≡ some a
   pub example : A
+  pub spells : Spellable (s example)
 
 module _ {A : Type 0} {s : A → Lexeme} {r : Reader A} (k : Takes s r) where
   one-sound : (ls : List Lexeme) (a : A) (us : List Lexeme) → r ls ≡ got a us → (b : A) × (a ≡ b) × (ls ≡ s b ∷ us)
@@ -401,15 +417,17 @@ module _ {A : Type 0} {s : A → Lexeme} {r : Reader A} (k : Takes s r) where
   pub ones : {F : Follow} {n : ℕ} → Phrase (of (λ (a : A). s a ∷ [])) F n r r
   ones = record {
     witness = k .example;
+    spells = (k .spells, tt);
     sound = λ ls a us h e. one-sound ls a us e;
     complete = λ a us f h. rw (k .at, k .takes);
-    prefix = λ ls us h e. ([], one-stuck ls us e, k .example, s (k .example) ∷ [], refl);
+    prefix = λ ls us h e. ([], one-stuck ls us e, k .example, s (k .example) ∷ [], refl, (k .spells, tt));
     local = λ o pre us us′ f h h′ e. one-local o pre us us′ f e;
     agree = λ ls h. refl;
   }
 
--- a test that one lexeme passes
+-- a test that one lexeme passes, which bytes spell
 pub record Accepts (p : Lexeme → Bool) (l : Lexeme) : Type 0 where
+  pub spells : Spellable l
   pub alone : (x : Lexeme) → p x ≡ true → x ≡ l
   pub itself : p l ≡ true
 
@@ -426,6 +444,7 @@ expect-takes {p} acc = record {
   fits = λ x a e. acc .alone x (passed (p x) e);
   takes = λ a. ap passing (acc .itself);
   example = tt;
+  spells = acc .spells;
 }
   where
     passed : (b : Bool) → passing b ≡ some tt → b ≡ true
@@ -490,8 +509,8 @@ module _ {A : Type 0} (s : A → List Lexeme) (p : Lexeme → Bool) (starts : (a
   pub manys : {r r′ : Reader A} (k n : ℕ) → n ≤ k → Phrase (of s) anything n r r′
       → Phrase (of (each s)) (λ us. begins p us ≡ false) n (readMany p r k) (readMany p r′ (suc k))
   unfolding readMany each
-  manys zero n h q = vacuous (omega arith) []
-  manys (suc k) zero h q = vacuous refl []
+  manys zero n h q = vacuous (omega arith) [] tt
+  manys (suc k) zero h q = vacuous refl [] tt
   manys (suc k) (suc n) h q = spelled
       (chooses p
       (chains {m = n} q (λ a. turns (λ (x : List A). a ∷ x) (manys k n (omega arith) (within (omega arith) q)))

@@ -159,11 +159,11 @@ keyword-found w k i = ap (wordOf keywords) (sym (i .2)) ∙ agree-at (λ e. word
 -- Marks: those of two bytes stand first, so that the first mark in front is the longest
 
 -- each entry of a list passes a test
-passes : {A : Type 0} → (A → Bool) → List A → Bool
+unfoldable pub passes : {A : Type 0} → (A → Bool) → List A → Bool
 passes p [] = true
 passes p (x ∷ l) = p x && passes p l
 
-passes-at : {A : Type 0} (p : A → Bool) (l : List A) → passes p l ≡ true → {a : A} → List·Memᴰ a l → p a ≡ true
+pub passes-at : {A : Type 0} (p : A → Bool) (l : List A) → passes p l ≡ true → {a : A} → List·Memᴰ a l → p a ≡ true
 unfolding passes
 passes-at p [] h m = absurd (List·Memᴰ·not-nil m)
 passes-at p (x ∷ l) h m =

@@ -46,6 +46,15 @@ pub data Spells (w : List ℕ) : Lexeme → Type 0 where
   valued : Digits w → length w ≤ mostDigits → Spells w (number (decimal 0 w))
   marked : {m : Mark} → Listed marks w m → Spells w (mark m)
 
+-- some bytes spell the lexeme: so a name is not reserved and not too long, a number not too large (R 1.20)
+unfoldable pub Spellable : Lexeme → Type 0
+Spellable l = (w : List ℕ) × Spells w l
+
+-- each of some lexemes is spelled by some bytes (R 1.20)
+abbrev pub AllSpellable : List Lexeme → Type 0
+AllSpellable [] = Unit {0}
+AllSpellable (l ∷ ls) = Spellable l × AllSpellable ls
+
 -- "The longest token is taken": the first n bytes have a token's shape, and no more bytes have one (R 1.14, 1.15)
 pub record Longest (bs : List ℕ) (n : ℕ) : Type 0 where
   pub within : n ≤ length bs

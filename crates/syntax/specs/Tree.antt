@@ -7,6 +7,7 @@ use Rattle.syntax.specs.Token.{Lexeme, name, key, number, mark, Mark, lb
 use Rattle.syntax.specs.Token.{equals, dots, becomes, same, differs, below, at-most, above, at-least, plus, minus}
 use Rattle.syntax.specs.Token.{bang, and-and, or-or, k-monitor, k-var, k-in, k-keep, k-method, k-waituntil, k-if}
 use Rattle.syntax.specs.Token.{k-else, k-true, k-false}
+use Rattle.syntax.specs.Spelling.{AllSpellable}
 
 -- "a number with or without - before it" (R 2.12)
 pub data Int : Type 0 where
@@ -198,10 +199,11 @@ spell m =
     ++ (key k-keep ∷ (spellCond (m .keep)
     ++ (mark semicolon ∷ (each spellMethod (all (m .methods)) ++ (mark rbrace ∷ []))))))
 
--- A list of lexemes is in the grammar if a tree spells it, with no token behind (R 2.2)
+-- A list of lexemes is in the grammar if a tree spells it, with no token behind, and bytes spell each of its lexemes
+-- (R 2.2, 2.16)
 unfoldable pub InGrammar : List Lexeme → Type 0
-InGrammar ls = (m : Monitor) × (spell m ≡ ls)
+InGrammar ls = (m : Monitor) × (spell m ≡ ls) × AllSpellable ls
 
--- A list of lexemes is viable if a tree spells a list that it begins (4; R 6.12, 6.15)
+-- A list of lexemes is viable if it begins a list that is in the grammar (4; R 6.12, 6.15)
 unfoldable pub Viable : List Lexeme → Type 0
-Viable ls = (m : Monitor) × (rest : List Lexeme) × (spell m ≡ ls ++ rest)
+Viable ls = (rest : List Lexeme) × InGrammar (ls ++ rest)
