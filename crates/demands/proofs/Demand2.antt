@@ -1,5 +1,6 @@
--- Demand 2 holds. The table: from the entries' words and the lines' laws, and over values by the numbering of states.
--- The machines: from the step that decides the rules, and over values since a state's number stands for its values.
+-- Demand 2 holds. The numbers of states: from their laws. The table: from the entries' words and the lines' laws, and
+-- over values by the numbering of states. The machines: from the step that decides the rules, and over values since a
+-- state's number stands for its values.
 use Rattle.machine.specs.Monitor as machine
 use Prim.Native.Nat.{ℕ, _≤_, _<_}
 use native.Mathlib.Omega.{arith}
@@ -9,7 +10,7 @@ use mathlib.Core.Logic.{_↔_, Iff·rfl, Iff·trans}
 use mathlib.Core.Option.{Option·some-injective}
 use mathlib.Core.List.{List, _∷_, List·Memᴰ}
 use lib.ListN.{length, length-append}
-use Rattle.syntax.specs.Tree.{Monitor}
+use Rattle.syntax.specs.Tree.{Monitor, Var}
 use Rattle.syntax.proofs.Grammar.{one-cond}
 use Rattle.machine.specs.Monitor.{Threads, Frame, Config, stopped, allIdle}
 use Rattle.machine.specs.Algorithm1.{entry, Holds, Fails, Triple, Stands, Signals, MayRun}
@@ -27,8 +28,8 @@ use Rattle.meaning.specs.Decide.Check.{check}
 use Rattle.meaning.specs.Model.{vars, kept, model, numberAfter, region, holds, after}
 use Rattle.meaning.specs.Calls.{Machine, plain-machine, table-machine, Startable, noticesOf}
 use Rattle.meaning.specs.Decide.Calls.{toldBy, runList}
-use Rattle.meaning.specs.Accepted.{State, Keeps, Meets, Sound, BlockRuns}
-use Rattle.meaning.proofs.StateLaws.{state-at, number-below, state-at-number}
+use Rattle.meaning.specs.Accepted.{State, Keeps, Meets, Sound, BlockRuns, GoodRanges}
+use Rattle.meaning.proofs.StateLaws.{state-at, number-below, state-at-number, number-of-state-at, earlier-iff}
 use Rattle.meaning.proofs.ModelLaws.{kept-below, keeps, outside, leaves, follows-below, region-numbered, holds-guard}
 use Rattle.meaning.proofs.ModelLaws.{startable-iff, holds-region, holds-below}
 use Rattle.meaning.specs.Table.{Row, Small}
@@ -38,7 +39,17 @@ use Rattle.meaning.proofs.Sizes.{sizes}
 use lib.IntN.{ℤ}
 use Rattle.meaning.proofs.BodyLaws.{outcome-of-runs, block-runs-state}
 use Rattle.demands.specs.Demand2.{IsEntry, IsTable, FollowsRules, Demand2, Moves, truthOf, Makes, ByValues}
-use Rattle.demands.specs.Demand2.{valued, noticesByValues, FollowsByValues}
+use Rattle.demands.specs.Demand2.{valued, noticesByValues, FollowsByValues, Numbering}
+
+numbering : {vs : List Var} → GoodRanges vs → Numbering vs
+numbering {vs} g =
+    record {
+      below = λ as′ s. number-below g s;
+      state = state-at g;
+      number-back = number-of-state-at vs;
+      state-back = λ as′ s. state-at-number g s;
+      rising = λ as′ bs s t. earlier-iff g s t;
+    }
 
 -- What an accepted file's monitor, freed from its syntax, is known for
 pub checked : (file : List ℕ) (m : Monitor) → check file ≡ accepted m → Checked (model m)
@@ -309,6 +320,7 @@ pub demand-2 : Demand2
 demand-2 = record {
   accepts = accepted-iff;
   refuses = refused-iff;
+  numbers = λ file m e. numbering (accepted-iff file m .0 e .sound .ranges);
   table = λ file m e. (rowsOf (model m), is-table file m e);
   entries = λ file m e. by-values m (accepted-iff file m .0 e .sound);
   machines = follows-rules;

@@ -1,6 +1,7 @@
 -- Demand 2: a file is accepted exactly when it is within the grammar and limits, its kept condition holds at the start,
 -- and every region keeps it and every range; the table has the entries of Algorithm 1, no more, no fewer; each machine
--- accepts exactly the traces that its step rules allow. The claim is `Demand2`.
+-- accepts exactly the traces that its step rules allow. Beside these stands what the numbers of states are. The claim
+-- is `Demand2`.
 use Rattle.machine.specs.Monitor as machine
 use Prim.Native.Nat.{ℕ, _<_}
 use mathlib.Core.Path.{_≡_}
@@ -8,22 +9,33 @@ use mathlib.Core.Bool.{Bool, true, false}
 use mathlib.Core.Logic.{_↔_}
 use mathlib.Core.List.{List, List·Memᴰ}
 use lib.ListN.{length, getD}
-use Rattle.syntax.specs.Tree.{Monitor, Region}
+use Rattle.syntax.specs.Tree.{Monitor, Region, Var}
 use Rattle.machine.specs.Monitor.{Frame, Point, Config, stopped, withState, allIdle}
 use Rattle.machine.specs.Algorithm1.{Holds, Fails, Triple, Stands, Signals}
 use Rattle.machine.specs.Rules.{Rules, Stops, Semantics, NoticesOver, PlainNoticesBy, TableNoticesBy, RulesBy, StopsBy}
 use Rattle.meaning.specs.Value.{truth}
+use Rattle.meaning.specs.State.{count, stateAt, numberOf, Earlier}
 use Rattle.meaning.specs.Answer.{Answer, accepted, refused}
 use Rattle.meaning.specs.Decide.Check.{check}
 use Rattle.meaning.specs.Model.{vars, model, noGuard, regions, guards, region, guardOf}
 use Rattle.meaning.specs.Decide.Table.{tableOf}
 use Rattle.meaning.specs.Calls.{noticesOf, Machine, plain-machine, table-machine, Startable}
-use Rattle.meaning.specs.State.{stateAt}
 use Rattle.meaning.specs.Decide.Calls.{runList}
-use Rattle.meaning.specs.Accepted.{Accepted, BlockRuns, Meets}
+use Rattle.meaning.specs.Accepted.{Accepted, BlockRuns, Meets, State}
 use Rattle.meaning.specs.Table.{Row, rowLines, Increasing, Small}
 use Rattle.meaning.specs.Refusal.{Refusal}
 use lib.IntN.{ℤ}
+
+-- The numbers of states
+
+-- they are those below the count, each of one state (R 3.17), and rise with the values (R 3.20): "the first variable
+-- weighing most"
+pub record Numbering (vs : List Var) : Type 0 where
+  pub below : (as′ : List ℤ) → State vs as′ → numberOf vs as′ < count vs
+  pub state : (n : ℕ) → n < count vs → State vs (stateAt vs n)
+  pub number-back : (n : ℕ) → n < count vs → numberOf vs (stateAt vs n) ≡ n
+  pub state-back : (as′ : List ℤ) → State vs as′ → stateAt vs (numberOf vs as′) ≡ as′
+  pub rising : (as′ bs : List ℤ) → State vs as′ → State vs bs → Earlier as′ bs ↔ (numberOf vs as′ < numberOf vs bs)
 
 -- The table
 
@@ -125,6 +137,8 @@ pub record Demand2 : Type 0 where
   -- (R 12.4)
   pub accepts : (file : List ℕ) (m : Monitor) → (check file ≡ accepted m) ↔ Accepted file m
   pub refuses : (file : List ℕ) (a : Answer) → (check file ≡ refused a) ↔ Refusal file a
+  -- (R 3.17, 3.20)
+  pub numbers : (file : List ℕ) (m : Monitor) → check file ≡ accepted m → Numbering (vars m)
   -- (R 12.5)
   pub table : (file : List ℕ) (m : Monitor) → check file ≡ accepted m → (rows : List Row) × IsTable (model m) rows
   -- the same over values (R 7.3, 7.4, 7.5)

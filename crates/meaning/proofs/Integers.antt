@@ -90,7 +90,7 @@ pub not-less-iff : (a b : ℤ) → (less b a ≡ false) ↔ ((n : ℕ) × (b ≡
 not-less-iff a b =
     (λ h. (natAbs (b -ℤ a), up-of-not-less a b h), λ t. ap (λ z. less z a) (t .1) ∙ not-less-up a (t .0))
 
-equal-of-not-less : (a b : ℤ) → less a b ≡ false → less b a ≡ false → a ≡ b
+pub equal-of-not-less : (a b : ℤ) → less a b ≡ false → less b a ≡ false → a ≡ b
 equal-of-not-less a b h k =
     let n = natAbs (b -ℤ a) in
     let up : b ≡ a +ℤ pos n = up-of-not-less a b k in
@@ -142,6 +142,15 @@ module _ (v : Var) (ordered : less (intOf (v .high)) (intOf (v .low)) ≡ false)
       let fits = ltb-false (natAbs (intOf (v .high) -ℤ intOf (v .low))) n
       (sym (below-high n) ∙ ap (less (intOf (v .high))) (sym (up-of-in-range a h)) ∙ within a h .1) in
       omega arith
+
+  -- of two values in the range the distances from the lowest are ordered as they are
+  pub distances-ordered : (a b : ℤ) → inRange v a ≡ true → inRange v b ≡ true
+      → less a b ≡ ltb (natAbs (a -ℤ intOf (v .low))) (natAbs (b -ℤ intOf (v .low)))
+  distances-ordered a b h k =
+      let i = natAbs (a -ℤ intOf (v .low)) in
+      let j = natAbs (b -ℤ intOf (v .low)) in
+      ap (λ z. less z b) (up-of-in-range a h) ∙ ap (less (intOf (v .low) +ℤ pos i)) (up-of-in-range b k)
+      ∙ up-less (intOf (v .low)) i j
 
   -- a value is in a range exactly where it is the lowest and a number below the size
   pub in-range-iff : (a : ℤ) → (inRange v a ≡ true) ↔ ((n : ℕ) × (n < size v) × (a ≡ intOf (v .low) +ℤ pos n))

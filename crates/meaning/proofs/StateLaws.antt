@@ -1,19 +1,22 @@
 -- States and their numbers match one to one, by induction on the variables: below the count of states each number has
--- its state, and each state a number.
+-- its state, and each state a number; and the numbers rise with the values, the first variable's first.
 use Prim.Native.Nat.{ℕ, _+_, _*_, _/_, _%_, _<_}
 use native.Mathlib.Omega.{arith}
 use native.Mathlib.Nat.{div-add-mod', mod-lt, div-lt-iff-lt-mul, mul-add-div-right, mul-add-mod-self-right}
 use native.Mathlib.Nat.{mod-eq-of-lt, div-eq-of-lt, mul-pos, mul-le-mul-right, suc-mul, add-zero}
-use mathlib.Core.Path.{_≡_, refl, ap₂, _∙_}
+use mathlib.Core.Path.{_≡_, refl, sym, ap, ap₂, _∙_}
 use mathlib.Core.Bool.{true, false}
+use mathlib.Core.Logic.{_↔_}
 use mathlib.Core.List.{List, [], _∷_}
 use lib.IntN.{ℤ, natAbs, _-ℤ_}
+use borrow.Author.Tests.{ltb-true}
 use Rattle.syntax.specs.Tree.{Var}
 use Rattle.meaning.specs.Value.{intOf, inRange, less}
-use Rattle.meaning.specs.State.{size, count, stateAt, numberOf, starts}
+use Rattle.meaning.specs.State.{size, count, stateAt, numberOf, Earlier, by-first, by-rest, starts}
 use Rattle.meaning.specs.Accepted.{AtMost, GoodRange, GoodRanges, no-vars, one-var, State, no-values, one-value}
-use Rattle.logic.proofs.Bools.{and, true-not}
+use Rattle.logic.proofs.Bools.{and, split, true-not}
 use Rattle.meaning.proofs.Integers.{up-distance, in-range-up, up-of-in-range, distance-in-range}
+use Rattle.meaning.proofs.Integers.{distances-ordered, equal-of-not-less}
 
 low-to-high : {v : Var} → GoodRange v → less (intOf (v .high)) (intOf (v .low)) ≡ false
 unfolding AtMost
@@ -66,6 +69,43 @@ state-at-number (one-var {v} {vs} g gs) (one-value {a = a} {as′ = as′} r s) 
       ← up-of-in-range v (low-to-high g) a r,
       state-at-number gs s,
     )
+
+-- the later variables weigh less, all together, than one step of the first
+step-weighs : (i j c x y : ℕ) → i < j → x < c → i * c + x < j * c + y
+step-weighs i j c x y h l =
+    let top = mul-le-mul-right c h in
+    let sum = suc-mul i c in
+    omega arith
+
+earlier-lower : {vs : List Var} {as′ bs : List ℤ} → Earlier as′ bs → State vs as′ → State vs bs → GoodRanges vs
+    → numberOf vs as′ < numberOf vs bs
+unfolding numberOf
+earlier-lower (by-first {a} {b} {as′} {bs} h) (one-value p s) (one-value q t) (one-var {v} {vs} g gs) =
+    let i = natAbs (a -ℤ intOf (v .low)) in
+    let j = natAbs (b -ℤ intOf (v .low)) in
+    step-weighs i j (count vs) (numberOf vs as′) (numberOf vs bs)
+    (ltb-true i j (sym (distances-ordered v (low-to-high g) a b p q) ∙ h)) (number-below gs s)
+earlier-lower (by-rest h) (one-value p s) (one-value q t) (one-var g gs) = omega (arith, earlier-lower h s t gs)
+
+lower-earlier : {vs : List Var} {as′ bs : List ℤ} → GoodRanges vs → State vs as′ → State vs bs
+    → numberOf vs as′ < numberOf vs bs → Earlier as′ bs
+unfolding numberOf
+lower-earlier no-vars no-values no-values h = absurd (omega arith)
+lower-earlier (one-var {v} {vs} g gs) (one-value {a = a} {as′ = as′} p s) (one-value {a = b} {as′ = bs} q t) h =
+    split (less a b) (λ e. by-first e)
+    (λ e. split (less b a)
+    (λ f. absurd (omega (arith, earlier-lower (by-first f) (one-value q t) (one-value p s) (one-var g gs))))
+    (λ f. equal (equal-of-not-less a b e f) (lower-earlier gs s t)))
+  where
+    equal : a ≡ b → (numberOf vs as′ < numberOf vs bs → Earlier as′ bs) → Earlier (a ∷ as′) (b ∷ bs)
+    equal e rest =
+        let same = ap (λ (z : ℤ). natAbs (z -ℤ intOf (v .low)) * count vs) e in
+        rw e (by-rest (rest (omega arith)))
+
+-- of two states one is earlier exactly when it has the lower number
+pub earlier-iff : {vs : List Var} {as′ bs : List ℤ} → GoodRanges vs → State vs as′ → State vs bs
+    → Earlier as′ bs ↔ (numberOf vs as′ < numberOf vs bs)
+earlier-iff g s t = (λ h. earlier-lower h s t g, lower-earlier g s t)
 
 start-in-range : (v : Var) → GoodRange v → inRange v (intOf (v .start)) ≡ true
 unfolding AtMost inRange
