@@ -16,6 +16,7 @@ use Rattle.machine.specs.Monitor.{Threads, Frame, Config, stopped, allIdle}
 use Rattle.machine.specs.Algorithm1.{entry, Holds, Fails, Triple, Stands, Signals, MayRun}
 use Rattle.machine.specs.Decide.Table.{entryOf}
 use Rattle.machine.specs.Rules.{Notices, Stops, PlainNoticesBy, TableNoticesBy}
+use Rattle.machine.specs.Limits.{mostLines}
 use Rattle.machine.proofs.RulesDecided.{refuses-number, Decides, plain-decides, table-decides}
 use Rattle.machine.proofs.Entries.{entry-stands, entry-unconditional, entry-signal}
 use Rattle.logic.proofs.Bools.{tests-equal}
@@ -28,12 +29,12 @@ use Rattle.meaning.specs.Decide.Check.{check}
 use Rattle.meaning.specs.Model.{vars, kept, model, numberAfter, region, holds, after}
 use Rattle.meaning.specs.Calls.{Machine, plain-machine, table-machine, Startable, noticesOf}
 use Rattle.meaning.specs.Decide.Calls.{toldBy, runList}
-use Rattle.meaning.specs.Accepted.{State, Keeps, Meets, Sound, BlockRuns, GoodRanges}
+use Rattle.meaning.specs.Accepted.{State, Keeps, Meets, Sound, BlockRuns, GoodRanges, Accepted}
 use Rattle.meaning.proofs.StateLaws.{state-at, number-below, state-at-number, number-of-state-at, earlier-iff}
 use Rattle.meaning.proofs.ModelLaws.{kept-below, keeps, outside, leaves, follows-below, region-numbered, holds-guard}
-use Rattle.meaning.proofs.ModelLaws.{startable-iff, holds-region, holds-below}
+use Rattle.meaning.proofs.ModelLaws.{startable-iff, holds-region, holds-below, guard-below}
 use Rattle.meaning.specs.Table.{Row, Small}
-use Rattle.meaning.proofs.TableLines.{rowsOf, table-lines, row-stands, rows-increasing, rows-decoded}
+use Rattle.meaning.proofs.TableLines.{rowsOf, table-lines, row-stands, rows-increasing, rows-decoded, rows-few}
 use Rattle.meaning.proofs.Verdicts.{accepted-iff, refused-iff}
 use Rattle.meaning.proofs.Sizes.{sizes}
 use lib.IntN.{ℤ}
@@ -102,6 +103,12 @@ rows-small file m e w h =
     let s = row-stands (model m) w .0 h in
     (omega arith, omega arith)
 
+rows-few-of : {file : List ℕ} {m : Monitor} → Accepted file m → length (rowsOf (model m)) ≤ mostLines
+unfolding model
+rows-few-of {m = m} a =
+    let n = sizes a in
+    rows-few (model m) (kept-below m) (guard-below m) (n .regions) (n .guards)
+
 pub is-table : (file : List ℕ) (m : Monitor) → check file ≡ accepted m → IsTable (model m) (rowsOf (model m))
 is-table file m e =
     record {
@@ -111,6 +118,7 @@ is-table file m e =
           let a = row-algorithm (model m) (checked file m e) w in
           (λ h. a .0 (s .0 h), λ h. s .1 (a .1 h));
       order = rows-increasing (model m);
+      few = rows-few-of (accepted-iff file m .0 e);
       only = λ ws h t. rows-decoded ws (rowsOf (model m)) h (rows-small file m e) (sym t ∙ table-lines (model m));
     }
 

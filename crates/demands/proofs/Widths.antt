@@ -1,7 +1,7 @@
--- Every printed number fits its digits: places are below 65,536, values with 128 added below 256, regions below 16.
+-- Every printed number fits its digits: places are below 65,536, values with 128 added below 256, regions below 16. And
+-- how long what is printed can be.
 use Prim.Native.Nat.{ℕ, zero, suc, _+_, _*_, _≤_, _<_}
 use native.Mathlib.Omega.{arith}
-use native.Mathlib.Nat.{suc-mul}
 use mathlib.Core.Path.{_≡_, refl, ap, _∙_}
 use mathlib.Core.Bool.{true, not}
 use mathlib.Core.List.{List, [], _∷_, _++_, List·Memᴰ·head, Memᴰ·append-right}
@@ -9,25 +9,21 @@ use lib.ListN.{length, getD, length-append}
 use lib.IntN.{ℤ, pos, negℤ, _+ℤ_, natAbs}
 use Rattle.syntax.specs.Token.{Token}
 use Rattle.syntax.proofs.Scanning.{tokenize-tokens, tokenize-none, none-place, token-stands}
-use Rattle.syntax.specs.Tree.{plain, negated, Var, Monitor, all}
-use Rattle.machine.specs.Monitor as machine
+use Rattle.syntax.specs.Tree.{plain, negated, Var, Monitor}
 use Rattle.machine.specs.Monitor.{Place, idle, Config, threads}
-use Rattle.machine.specs.Algorithm1.{Entry, entry}
-use Rattle.machine.specs.Decide.Table.{entryOf}
-use Rattle.machine.specs.Algorithm1 as table
 use Rattle.machine.proofs.Reached.{PlaceWithin, Reached, idle-within}
 use Rattle.meaning.specs.Value.{intOf, negative, less, inRange}
 use Rattle.meaning.specs.State.{size, stateAt}
 use Rattle.meaning.specs.Answer.{Answer}
 use Rattle.meaning.specs.Model.{noRegion, vars, regions, model}
 use Rattle.meaning.specs.Hex.{hex2}
-use Rattle.meaning.specs.Decide.Table.{entryLine, forEach, tableOf}
+use Rattle.meaning.specs.Decide.Table.{tableOf}
 use Rattle.meaning.specs.Calls.{Machine, eachThread, recordOf, Running, ran, refused-file, not-run}
 use Rattle.meaning.specs.Lines.{hex4, refusalLine, valueDigits, placeDigits, recordLine, runLine}
 use Rattle.meaning.specs.Accepted.{FirstOffends, Crowded, PastLimit, Misnamed, IsRegion, AtMost, GoodRange, GoodRanges}
 use Rattle.meaning.specs.Accepted.{one-var, State, no-values, one-value}
 use Rattle.logic.proofs.Bools.{both, and, not-true, true-not}
-use Rattle.meaning.proofs.Digits.{bit-digits}
+use Rattle.meaning.proofs.TableLines.{rowsOf, row-lines-length}
 use Rattle.meaning.proofs.Integers.{not-less-trans, distance-in-range}
 use Rattle.meaning.specs.Refusal.{NoFile}
 use Rattle.meaning.proofs.ModelLaws.{element-below}
@@ -40,7 +36,7 @@ use Rattle.meaning.proofs.Verdicts.{refusal-number, accepted-iff}
 use Rattle.meaning.proofs.Sizes.{sizes-of, sizes}
 use Rattle.meaning.proofs.ModelLaws.{startable-iff}
 use Rattle.demands.specs.Demand1.{RunsAs, no-monitor, no-start, bad-line, frame-refused, all-allowed}
-use Rattle.demands.proofs.Demand2.{checked, run-reached, runs-keep, stops-within, follows-rules}
+use Rattle.demands.proofs.Demand2.{checked, is-table, run-reached, runs-keep, stops-within, follows-rules}
 use Rattle.demands.specs.Widths.{AnswerFits, RecordFits, RunFits}
 
 -- The places of a file's refusal
@@ -197,24 +193,8 @@ line-short (ran r) f =
 line-short (refused-file a) f = omega arith
 line-short (not-run a) f = omega arith
 
-entry-short : (r g : ℕ) (e : Entry) → length (entryLine r g e) ≤ 9
-unfolding entryLine hex2
-entry-short r g table.none = omega arith
-entry-short r g (entry a b) = simp bit-digits (omega arith)
-
-each-short : (n k b : ℕ) (f : ℕ → List ℕ) → ((j : ℕ) → length (f j) ≤ b) → length (forEach n k f) ≤ n * b
-unfolding forEach
-each-short zero k b f h = omega arith
-each-short (suc n) k b f h =
-    let rest = each-short n (k + 1) b f h in
-    let sum = length-append (f k) (forEach n (k + 1) f) in
-    omega (arith, h k, suc-mul n b)
-
--- the table of sixteen regions and sixteen guards
-pub table-short : (m : machine.Monitor) → m .regions ≤ 16 → m .guards ≤ 16 → length (tableOf m) ≤ 2304
-unfolding tableOf
-table-short m few-regions few-guards =
-    let all = each-short (m .regions) 0 144 (λ r. forEach (m .guards) 0 (λ g. entryLine r g (entryOf m r g)))
-    (λ r. let line = each-short (m .guards) 0 9 (λ g. entryLine r g (entryOf m r g))
-    (λ g. entry-short r g (entryOf m r g)) in omega arith) in
-    omega arith
+-- the table: at most 240 lines of nine bytes
+pub table-short : {file : List ℕ} {m : Monitor} → Accepted file m → length (tableOf (model m)) ≤ 2160
+table-short {file} {m} a =
+    let t = is-table file m (accepted-iff file m .1 a) in
+    omega (arith, t .few, ap length (t .lines), row-lines-length (rowsOf (model m)))

@@ -3,7 +3,7 @@
 -- accepts exactly the traces that its step rules allow. Beside these stands what the numbers of states are. The claim
 -- is `Demand2`.
 use Rattle.machine.specs.Monitor as machine
-use Prim.Native.Nat.{ℕ, _<_}
+use Prim.Native.Nat.{ℕ, _≤_, _<_}
 use mathlib.Core.Path.{_≡_}
 use mathlib.Core.Bool.{Bool, true, false}
 use mathlib.Core.Logic.{_↔_}
@@ -11,6 +11,7 @@ use mathlib.Core.List.{List, List·Memᴰ}
 use lib.ListN.{length, getD}
 use Rattle.syntax.specs.Tree.{Monitor, Region, Var}
 use Rattle.machine.specs.Monitor.{Frame, Point, Config, stopped, withState, allIdle}
+use Rattle.machine.specs.Limits.{mostLines}
 use Rattle.machine.specs.Algorithm1.{Holds, Fails, Triple, Stands, Signals}
 use Rattle.machine.specs.Rules.{Rules, Stops, Semantics, NoticesOver, PlainNoticesBy, TableNoticesBy, RulesBy, StopsBy}
 use Rattle.meaning.specs.Value.{truth}
@@ -59,6 +60,8 @@ pub record IsTable (m : machine.Monitor) (rows : List Row) : Type 0 where
   pub exactly : (w : Row) → List·Memᴰ w rows ↔ IsEntry m w
   -- "For each region and each guard, in that order" (R 7.9)
   pub order : Increasing rows
+  -- (R 7.8)
+  pub few : length rows ≤ mostLines
   -- the bytes tell the rows (R 12.5)
   pub only : (ws : List Row) → ((w : Row) → List·Memᴰ w ws → Small w) → tableOf m ≡ rowLines ws → ws ≡ rows
 

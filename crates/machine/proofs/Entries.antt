@@ -109,6 +109,11 @@ module _ (m : Monitor) where
       λ h. none-where r g (λ x. clash (x .after) (h (x .from) (x .may-run) (x .before))),
     )
 
+    -- a region has none for its own guard, which holds wherever its body may run
+    pub own-none : (r : ℕ) → entryOf m r (m .guardOf r) ≡ none
+    unfolding Triple Holds Fails
+    own-none r = entry-none r (m .guardOf r) .1 (λ s x k. clash (x .guard) k)
+
     entry-parts : (r g : ℕ) (a b : Bool) → entryOf m r g ≡ entry a b → (a ≡ unconditional m r g) × (b ≡ broadcast m g)
     entry-parts r g a b e = let k = entry-where r g (stands-where r g a b e) in (cc, cc)
 

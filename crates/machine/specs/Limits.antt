@@ -17,3 +17,7 @@ mostAfter = 65536
 -- the entries of all regions and guards
 abbrev pub mostEntries : ℕ
 mostEntries = 256
+
+-- the lines of a table, as no region has an entry for its own guard (R 7.8)
+abbrev pub mostLines : ℕ
+mostLines = 240

@@ -1,18 +1,23 @@
--- The table's lines are the entries that stand, each once, by region and then by guard; and the bytes tell the entries.
-use Prim.Native.Nat.{ℕ, zero, suc, _+_, _≤_, _<_}
+-- The table's lines are the entries that stand, each once, by region and then by guard; the bytes tell the entries; and
+-- there are at most 240, by counting them region by region.
+use Prim.Native.Nat.{ℕ, zero, suc, _+_, _*_, _≤_, _<_}
 use native.Mathlib.Omega.{arith}
-use mathlib.Core.Path.{_≡_, refl, sym, ap₂, _∙_}
+use native.Mathlib.Nat.{suc-mul}
+use mathlib.Core.Path.{_≡_, refl, sym, ap, ap₂, _∙_}
+use mathlib.Core.Bool.{true}
 use mathlib.Core.Logic.{inl, inr, ⊎-elim, _↔_}
 use mathlib.Core.List.{List, [], _∷_, _++_, append-nil, append-assoc, List·Memᴰ, List·Memᴰ·head, List·Memᴰ·tail}
 use mathlib.Core.List.{List·Memᴰ·append-cases, List·Memᴰ·not-nil, List·Memᴰ·eq-of-singleton, Memᴰ·append-left}
 use mathlib.Core.List.{Memᴰ·append-right}
-use lib.ListN.{drop}
+use lib.ListN.{length, drop, length-append}
 use lib.Dec.{eqb}
 use borrow.Author.Tests.{eqb-true, eqb-false}
 use Rattle.machine.specs.Monitor.{Monitor}
 use Rattle.machine.specs.Algorithm1.{Entry, entry}
 use Rattle.machine.specs.Decide.Table.{entryOf}
 use Rattle.machine.specs.Algorithm1 as table
+use Rattle.machine.specs.Limits.{mostLines}
+use Rattle.machine.proofs.Entries.{own-none}
 use Rattle.meaning.specs.Hex.{hex2}
 use Rattle.meaning.specs.Decide.Table.{entryLine, forEach, tableOf}
 use Rattle.meaning.specs.Decide.Frames.{pairAt}
@@ -199,6 +204,55 @@ rows-decoded (w ∷ ws) (v ∷ vs) h g e =
     let q = rows-decoded ws vs (λ x m. h x (List·Memᴰ·tail m)) (λ x m. g x (List·Memᴰ·tail m)) (t .1) in
     cc
 
-rows-small : (m : Monitor) → m .regions ≤ 256 → m .guards ≤ 256 → (w : Row) → List·Memᴰ w (rowsOf m) → Small w
-unfolding Small
-rows-small m h g w i = let r = row-stands m w .0 i in (omega arith, omega arith)
+-- How many
+
+rowsAt-few : (r g : ℕ) (e : Entry) → length (rowsAt r g e) ≤ 1
+unfolding rowsAt
+rowsAt-few r g table.none = omega arith
+rowsAt-few r g (entry a b) = omega arith
+
+each-few : (n k b : ℕ) (f : ℕ → List Row) → ((j : ℕ) → j < k + n → length (f j) ≤ b) → length (each n k f) ≤ n * b
+unfolding each
+each-few zero k b f h = omega arith
+each-few (suc n) k b f h =
+    let rest = each-few n (k + 1) b f (λ j l. h j (omega arith)) in
+    let sum = length-append (f k) (each n (k + 1) f) in
+    omega (arith, h k (omega arith), suc-mul n b)
+
+-- where one of the parts is empty
+each-fewer : (n k g : ℕ) (f : ℕ → List Row) → ((j : ℕ) → length (f j) ≤ 1) → k ≤ g → g < k + n → f g ≡ []
+    → length (each n k f) + 1 ≤ n
+unfolding each
+each-fewer zero k g f h low high e = absurd (omega arith)
+each-fewer (suc n) k g f h low high e =
+    let sum = length-append (f k) (each n (k + 1) f) in
+    split (eqb k g)
+    (λ q.
+    let none = ap length (ap f (eqb-true k g q) ∙ e) in
+    let rest = each-few n (k + 1) 1 f (λ j l. h j) in
+    omega arith)
+    (λ q. let ne : (k ≡ g → ⊥) = eqb-false k g q in
+    omega (arith, h k, each-fewer n (k + 1) g f h (omega arith) (omega arith) e))
+
+-- for sixteen regions at most fifteen each, as there is none for a region's own guard
+pub rows-few : (m : Monitor) → ((s : ℕ) → m .kept s ≡ true → s < m .states)
+    → ((r : ℕ) → r < m .regions → m .guardOf r < m .guards) → m .regions ≤ 16 → m .guards ≤ 16
+    → length (rowsOf m) ≤ mostLines
+unfolding rowsOf rowsAt
+rows-few m below own few-regions few-guards =
+    let all = each-few (m .regions) 0 15 (λ r. each (m .guards) 0 (λ g. rowsAt r g (entryOf m r g))) region in
+    omega arith
+  where
+    region : (r : ℕ) → r < 0 + m .regions → length (each (m .guards) 0 (λ g. rowsAt r g (entryOf m r g))) ≤ 15
+    region r h =
+        omega (
+          arith,
+          each-fewer (m .guards) 0 (m .guardOf r) (λ g. rowsAt r g (entryOf m r g))
+              (λ g. rowsAt-few r g (entryOf m r g)) (omega arith) (omega (arith, own r (omega arith)))
+              (ap (rowsAt r (m .guardOf r)) (own-none m below r)),
+        )
+
+pub row-lines-length : (ws : List Row) → length (rowLines ws) ≡ 9 * length ws
+unfolding rowLines rowLine hex2
+row-lines-length [] = refl
+row-lines-length (w ∷ ws) = simp bit-digits (omega (arith, row-lines-length ws))

@@ -12,7 +12,6 @@ use Rattle.meaning.specs.Decide.Check.{check}
 use Rattle.meaning.specs.Model.{model}
 use Rattle.logic.proofs.Bools.{clash}
 use Rattle.meaning.proofs.Verdicts.{accepted-iff, refused-iff}
-use Rattle.meaning.proofs.Sizes.{sizes}
 use Rattle.meaning.specs.Calls.{Machine, plain-machine, table-machine, ran, refused-file, not-run}
 use Rattle.meaning.specs.Decide.Calls.{place, running}
 use Rattle.meaning.specs.Calls as calls
@@ -76,7 +75,7 @@ module _ (file buffer : List ℕ) {r : Placing} {after : List ℕ} (p : Places (
       → (0 + 11 ≤ length after → r .answer .first < 65536 → r .answer .second < 65536
       → Writes (refusalLine (answer (r .answer .number) (r .answer .first) (r .answer .second))) after 0 n last)
       → Prints (placer file) buffer n last
-  unfolding placer model
+  unfolding placer
   refusal-printed {n} {last} room other put = go (place-iff file buffer _ .0 refl) p
     where
       go : {q : calls.Placing} → PlacesAs file buffer q → Places q r after → Prints (placer file) buffer n last
@@ -84,8 +83,7 @@ module _ (file buffer : List ℕ) {r : Placing} {after : List ℕ} (p : Places (
           let w = answer-written (r .answer) put (q .answer) (refusal-fits f) (rw (q .bytes) (omega arith)) in
           rw (refused-iff file a .1 f, placer) (written-prints (rw (q .bytes) at w))
       go (too-short {m} a h) q =
-          let n = sizes a in
-          let short = table-short (model m) (n .regions) (n .guards) in
+          let short = table-short a in
           absurd (omega arith)
       go (placed a h) q = absurd (other (q .answer .number))
 
