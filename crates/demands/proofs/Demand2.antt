@@ -1,6 +1,6 @@
--- Demand 2 holds. The numbers of states: from their laws. The table: from the entries' words and the lines' laws, and
--- over values by the numbering of states. The machines: from the step that decides the rules, and over values since a
--- state's number stands for its values.
+-- Demand 2 holds. The numbers of states and guards: from their laws. The table: from the entries' words and the lines'
+-- laws, and over values by the numbers of states. The machines: from the step that decides the rules, and over values
+-- since a state's number stands for its values.
 use Rattle.machine.specs.Monitor as machine
 use Prim.Native.Nat.{ℕ, _≤_, _<_}
 use native.Mathlib.Omega.{arith}
@@ -32,7 +32,8 @@ use Rattle.meaning.specs.Decide.Calls.{toldBy, runList}
 use Rattle.meaning.specs.Accepted.{State, Keeps, Meets, Sound, BlockRuns, GoodRanges, Accepted}
 use Rattle.meaning.proofs.StateLaws.{state-at, number-below, state-at-number, number-of-state-at, earlier-iff}
 use Rattle.meaning.proofs.ModelLaws.{kept-below, keeps, outside, leaves, follows-below, region-numbered, holds-guard}
-use Rattle.meaning.proofs.ModelLaws.{startable-iff, holds-region, holds-below, guard-below}
+use Rattle.meaning.proofs.ModelLaws.{startable-iff, holds-region, holds-below, guard-below, each-guard}
+use Rattle.meaning.proofs.ModelLaws.{guard-of-region, one-guard-iff, first-appearance}
 use Rattle.meaning.specs.Table.{Row, Small}
 use Rattle.meaning.proofs.TableLines.{rowsOf, table-lines, row-stands, rows-increasing, rows-decoded, rows-few}
 use Rattle.meaning.proofs.Verdicts.{accepted-iff, refused-iff}
@@ -40,16 +41,27 @@ use Rattle.meaning.proofs.Sizes.{sizes}
 use lib.IntN.{ℤ}
 use Rattle.meaning.proofs.BodyLaws.{outcome-of-runs, block-runs-state}
 use Rattle.demands.specs.Demand2.{IsEntry, IsTable, FollowsRules, Demand2, Moves, truthOf, Makes, ByValues}
-use Rattle.demands.specs.Demand2.{valued, noticesByValues, FollowsByValues, Numbering}
+use Rattle.demands.specs.Demand2.{valued, noticesByValues, FollowsByValues, StatesNumbered}
+use Rattle.demands.specs.Demand2.{GuardsNumbered}
 
-numbering : {vs : List Var} → GoodRanges vs → Numbering vs
-numbering {vs} g =
+states-numbered : {vs : List Var} → GoodRanges vs → StatesNumbered vs
+states-numbered {vs} g =
     record {
       below = λ as′ s. number-below g s;
       state = state-at g;
       number-back = number-of-state-at vs;
       state-back = λ as′ s. state-at-number g s;
       rising = λ as′ bs s t. earlier-iff g s t;
+    }
+
+guards-numbered : (m : Monitor) → GuardsNumbered m
+guards-numbered m =
+    record {
+      below = guard-below m;
+      each = each-guard m;
+      stands-for = λ r h. guard-of-region m one-cond r;
+      one = one-guard-iff m;
+      first = first-appearance m;
     }
 
 -- What an accepted file's monitor, freed from its syntax, is known for
@@ -328,7 +340,8 @@ pub demand-2 : Demand2
 demand-2 = record {
   accepts = accepted-iff;
   refuses = refused-iff;
-  numbers = λ file m e. numbering (accepted-iff file m .0 e .sound .ranges);
+  state-numbers = λ file m e. states-numbered (accepted-iff file m .0 e .sound .ranges);
+  guard-numbers = guards-numbered;
   table = λ file m e. (rowsOf (model m), is-table file m e);
   entries = λ file m e. by-values m (accepted-iff file m .0 e .sound);
   machines = follows-rules;

@@ -1,7 +1,7 @@
 -- Demand 2: a file is accepted exactly when it is within the grammar and limits, its kept condition holds at the start,
 -- and every region keeps it and every range; the table has the entries of Algorithm 1, no more, no fewer; each machine
--- accepts exactly the traces that its step rules allow. Beside these stands what the numbers of states are. The claim
--- is `Demand2`.
+-- accepts exactly the traces that its step rules allow. Beside these stands what the numbers of states and guards are.
+-- The claim is `Demand2`.
 use Rattle.machine.specs.Monitor as machine
 use Prim.Native.Nat.{ℕ, _≤_, _<_}
 use mathlib.Core.Path.{_≡_}
@@ -9,7 +9,7 @@ use mathlib.Core.Bool.{Bool, true, false}
 use mathlib.Core.Logic.{_↔_}
 use mathlib.Core.List.{List, List·Memᴰ}
 use lib.ListN.{length, getD}
-use Rattle.syntax.specs.Tree.{Monitor, Region, Var}
+use Rattle.syntax.specs.Tree.{Monitor, Region, Var, spellCond}
 use Rattle.machine.specs.Monitor.{Frame, Point, Config, stopped, withState, allIdle}
 use Rattle.machine.specs.Limits.{mostLines}
 use Rattle.machine.specs.Algorithm1.{Holds, Fails, Triple, Stands, Signals}
@@ -27,16 +27,27 @@ use Rattle.meaning.specs.Table.{Row, rowLines, Increasing, Small}
 use Rattle.meaning.specs.Refusal.{Refusal}
 use lib.IntN.{ℤ}
 
--- The numbers of states
+-- The numbers of states and of guards
 
--- they are those below the count, each of one state (R 3.17), and rise with the values (R 3.20): "the first variable
--- weighing most"
-pub record Numbering (vs : List Var) : Type 0 where
+-- the states' are those below the count, each of one state (R 3.17), and rise with the values (R 3.20): "the first
+-- variable weighing most"
+pub record StatesNumbered (vs : List Var) : Type 0 where
   pub below : (as′ : List ℤ) → State vs as′ → numberOf vs as′ < count vs
   pub state : (n : ℕ) → n < count vs → State vs (stateAt vs n)
   pub number-back : (n : ℕ) → n < count vs → numberOf vs (stateAt vs n) ≡ n
   pub state-back : (as′ : List ℤ) → State vs as′ → stateAt vs (numberOf vs as′) ≡ as′
   pub rising : (as′ bs : List ℤ) → State vs as′ → State vs bs → Earlier as′ bs ↔ (numberOf vs as′ < numberOf vs bs)
+
+-- the guards' are those below the count, each of some region's guard, for which it stands (R 3.9)
+pub record GuardsNumbered (m : Monitor) : Type 0 where
+  pub below : (r : ℕ) → r < length (regions m) → guardOf m r < length (guards m)
+  pub each : (g : ℕ) → g < length (guards m) → (r : ℕ) × (r < length (regions m)) × (guardOf m r ≡ g)
+  pub stands-for : (r : ℕ) → r < length (regions m) → getD (guards m) (guardOf m r) noGuard ≡ region m r .guard
+  -- "Two guards (a region's condition) are one when their tokens are equal, numbers by value" (R 3.5, 3.6)
+  pub one : (r q : ℕ) → r < length (regions m) → q < length (regions m)
+      → (guardOf m r ≡ guardOf m q) ↔ (spellCond (region m r .guard) ≡ spellCond (region m q .guard))
+  -- "numbered from 0 by first appearance": an earlier region has each lower number (R 3.9)
+  pub first : (r g : ℕ) → r < length (regions m) → g < guardOf m r → (q : ℕ) × (q < r) × (guardOf m q ≡ g)
 
 -- The table
 
@@ -140,8 +151,10 @@ pub record Demand2 : Type 0 where
   -- (R 12.4)
   pub accepts : (file : List ℕ) (m : Monitor) → (check file ≡ accepted m) ↔ Accepted file m
   pub refuses : (file : List ℕ) (a : Answer) → (check file ≡ refused a) ↔ Refusal file a
-  -- (R 3.17, 3.20)
-  pub numbers : (file : List ℕ) (m : Monitor) → check file ≡ accepted m → Numbering (vars m)
+  -- (R 12.15)
+  pub state-numbers : (file : List ℕ) (m : Monitor) → check file ≡ accepted m → StatesNumbered (vars m)
+  -- for every tree, also one that is not accepted (R 12.15)
+  pub guard-numbers : (m : Monitor) → GuardsNumbered m
   -- (R 12.5)
   pub table : (file : List ℕ) (m : Monitor) → check file ≡ accepted m → (rows : List Row) × IsTable (model m) rows
   -- the same over values (R 7.3, 7.4, 7.5)

@@ -9,7 +9,6 @@ use lib.ListN.{length, take, drop, length-append}
 use lib.Seq.{length-take-le, take-all, take-take}
 use Rattle.meaning.specs.Answer.{Answer, answer, Verdict, accepted, refused}
 use Rattle.meaning.specs.Decide.Check.{check}
-use Rattle.meaning.specs.Model.{model}
 use Rattle.logic.proofs.Bools.{clash}
 use Rattle.meaning.proofs.Verdicts.{accepted-iff, refused-iff}
 use Rattle.meaning.specs.Calls.{Machine, plain-machine, table-machine, ran, refused-file, not-run}
