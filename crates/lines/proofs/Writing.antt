@@ -1,21 +1,24 @@
--- What is written of each value and each thread of a record: two digits each, and all of them together.
+-- What is written of each value and each thread of a record: two digits each, and all of them together, which is the
+-- record's line; and a line that is put where there is room, or not put.
 use Prim.Native.Nat.{ℕ, suc, _+_, _*_, _%_, _<_}
 use mathlib.Core.Path.{_≡_, refl, ap, sym, _∙_}
 use mathlib.Core.List.{List, [], _∷_, _++_}
 use native.Mathlib.Nat.{add-zero, zero-add, mod-eq-of-lt}
 use native.Mathlib.Omega.{arith}
-use lib.ListN.{length, getD, length-map, List·getD-map}
+use lib.ListN.{length, getD, List·getD-map}
 use lib.IntN.{ℤ, pos, _+ℤ_, natAbs, -ℤ-+ℤ-cancel}
 use Rattle.machine.specs.Monitor as machine
 use Rattle.meaning.specs.Held.{Offset}
 use Rattle.meaning.specs.Calls as calls
 use Rattle.meaning.specs.Hex.{hex2}
 use Rattle.meaning.specs.Decide.Table.{forEach}
-use Rattle.meaning.specs.Lines.{placeByte, valueDigits, placeDigits}
+use Rattle.meaning.specs.Lines.{placeByte, valueDigits, placeDigits, recordLine}
 use Rattle.stepper.specs.Shown.{placeOf, idleThread, placesOf}
 use Rattle.stepper.specs.declared.Thread.{Thread}
+use Rattle.digits.specs.Written.{Writes}
 use Rattle.digits.proofs.ForEach.{forEach-length}
-use Rattle.lines.specs.Written.{Fits, byteOf, valueAt, placeAt, valuesAt, placesAt}
+use Rattle.lines.specs.Written.{Fits, byteOf, valueAt, placeAt, valuesAt, placesAt, heldLine}
+use Rattle.lines.specs.Written.{PutsLine}
 
 pub value-two : (values : List ℕ) (k : ℕ) → length (valueAt values k) ≡ 2
 unfolding valueAt hex2
@@ -51,7 +54,7 @@ byte-is (machine.due r) h = rw (mod-eq-of-lt (h r refl))
 
 module _ {rec : calls.Record} {vars : ℕ} {values : List ℕ} {threads : List Thread} (fits : Fits rec vars values threads)
   where
-    pub values-are : valuesAt values vars ≡ valueDigits (rec .values)
+    values-are : valuesAt values vars ≡ valueDigits (rec .values)
     unfolding valuesAt valueDigits valueAt
     values-are =
         rw (fits .counted)
@@ -68,15 +71,17 @@ module _ {rec : calls.Record} {vars : ℕ} {values : List ℕ} {threads : List T
     place-is t = sym (List·getD-map (λ t. placeOf (t .place)) threads t idleThread)
         ∙ ap (λ (ps : List machine.Place). getD ps t machine.idle) (fits .places)
 
-    pub places-are : length threads ≡ 16 → placesAt threads 16 ≡ placeDigits (rec .places)
+    places-are : placesAt threads 16 ≡ placeDigits (rec .places)
     unfolding placesAt placeDigits placeAt
-    places-are l =
-        let n : length (rec .places) ≡ 16 = ap length (sym (fits .places))
-        ∙ length-map threads (λ t. placeOf (t .place))
-        ∙ l in
-        rw (← n)
+    places-are =
+        rw (← fits .digits .sixteen)
         (each (λ p. hex2 (placeByte p)) placeDigits refl (λ p ps. refl) machine.idle (rec .places) 0 (placeAt threads)
         (λ j lt. rw (zero-add, place-is j, byte-is _ (fits .digits .dues j))))
+
+    -- what is written of a record that is held is the record's line
+    pub held-line : heldLine vars values threads ≡ recordLine rec
+    unfolding heldLine recordLine
+    held-line = rw (values-are, places-are)
 
 pub values-length : (values : List ℕ) (n : ℕ) → length (valuesAt values n) ≡ 2 * n
 unfolding valuesAt
@@ -85,3 +90,10 @@ values-length values n = forEach-length n 0 (valueAt values) (value-two values)
 pub places-length : (threads : List Thread) (n : ℕ) → length (placesAt threads n) ≡ 2 * n
 unfolding placesAt
 places-length threads n = forEach-length n 0 (placeAt threads) (place-two threads)
+
+pub put : {line before after : List ℕ} {room : Type 0} {at next : ℕ} → room → Writes line before at next after
+    → PutsLine line room before at next after
+put r w = record { written = λ _. w; kept = λ full. absurd (full r) }
+
+pub not-put : {line before : List ℕ} {room : Type 0} {at : ℕ} → (room → ⊥) → PutsLine line room before at at before
+not-put full = record { written = λ r. absurd (full r); kept = λ _. (refl, refl) }

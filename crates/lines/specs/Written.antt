@@ -1,7 +1,7 @@
--- A run's record as the code holds it, and what it writes of each part.
+-- A run's record as the code holds it, what it writes of each part, and what putting a line into a lent buffer says.
 use Prim.Native.Nat.{ℕ, _+_, _%_, _<_}
 use mathlib.Core.Path.{_≡_}
-use mathlib.Core.List.{List, map}
+use mathlib.Core.List.{List, [], _∷_, _++_, map}
 use lib.ListN.{length, getD}
 use lib.IntN.{pos}
 use Rattle.machine.specs.Monitor as machine
@@ -12,6 +12,7 @@ use Rattle.meaning.specs.Calls as calls
 use Rattle.demands.specs.Widths.{RecordFits}
 use Rattle.stepper.specs.Shown.{placeOf, placesOf}
 use Rattle.stepper.specs.declared.Thread.{Thread}
+use Rattle.digits.specs.Written.{Writes}
 
 -- each value with 128 added, and the threads' places; the record's numbers fit their digits
 pub record Fits (rec : calls.Record) (vars : ℕ) (values : List ℕ) (threads : List Thread) : Type 0 where
@@ -37,3 +38,13 @@ valuesAt values n = forEach n 0 (valueAt values)
 
 unfoldable pub placesAt : List Thread → ℕ → List ℕ
 placesAt threads n = forEach n 0 (placeAt threads)
+
+-- the line of a record that is held so
+unfoldable pub heldLine : (vars : ℕ) (values : List ℕ) (threads : List Thread) → List ℕ
+heldLine vars values threads = hex2 0 ++ (valuesAt values vars ++ (placesAt threads 16 ++ (10 ∷ [])))
+
+-- a line put into a lent buffer: it is written where there is room for it; else the buffer is as it was, and so is the
+-- place
+pub record PutsLine (line : List ℕ) (room : Type 0) (before : List ℕ) (at next : ℕ) (after : List ℕ) : Type 0 where
+  pub written : room → Writes line before at next after
+  pub kept : (room → ⊥) → (next ≡ at) × (after ≡ before)

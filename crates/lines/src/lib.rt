@@ -3,16 +3,15 @@ use stepper::Place;
 use stepper::Thread;
 ghost use mathlib.Core.Path.{_≡_};
 ghost use mathlib.Core.List.{[], _∷_};
-ghost use Prim.Native.Nat.{_+_, _*_, _%_, _<_, _≤_};
+ghost use Prim.Native.Nat.{_+_, _*_, _%_, _≤_};
 ghost use lib.ListN.{length};
 ghost use Rattle.syntax.specs.Limits.{mostVars};
 ghost use Rattle.meaning.specs.Answer as meaning;
 ghost use Rattle.meaning.specs.Hex.{hex2};
-ghost use Rattle.meaning.specs.Lines.{hex4, refusalLine, recordLine};
-ghost use Rattle.meaning.specs.Calls as calls;
+ghost use Rattle.meaning.specs.Lines.{hex4, refusalLine};
 ghost use Rattle.stepper.specs.Shown.{placeOf};
 ghost use Rattle.digits.specs.Written.{Writes};
-ghost use Rattle.lines.specs.Written.{Fits, byteOf, valuesAt, placesAt};
+ghost use Rattle.lines.specs.Written.{byteOf, valuesAt, placesAt, heldLine, PutsLine};
 
 // Two digits.
 fn put2(out: &mut [u8], at: usize, n: u8) -> usize
@@ -43,10 +42,11 @@ fn put_end(out: &mut [u8], at: usize) -> usize
     at + 1
 }
 
-// A refusal's line, at a place of the buffer.
+// A refusal's line, at a place of the buffer; a place of an answer is below 65,536, where the remainder is the place
+// itself.
 pub fn put_answer(out: &mut [u8], at: usize, number: u8, first: usize, second: usize) -> usize
-    ensures { λ r. ⌜ (at + 11 ≤ length (now (out .entry)) → first < 65536 → second < 65536
-        → Writes (refusalLine (meaning.answer number first second)) (now (out .entry)) at r (now (out .exit))) ⌝ }
+    ensures { λ r. ⌜ PutsLine (refusalLine (meaning.answer number (first % 65536) (second % 65536)))
+        (at + 11 ≤ length (now (out .entry))) (now (out .entry)) at r (now (out .exit)) ⌝ }
 {
     if out.len() < 11 {
         return at;
@@ -109,7 +109,8 @@ fn put_places(out: &mut [u8], at: usize, threads: [Thread; machine::THREADS]) ->
     to
 }
 
-// The line of a run's record: that it is one, the values of its variables, and the threads.
+// The line of a run's record: that it is one, the values of its variables, and the threads. `proofs/Writing.antt` shows
+// that it is the record's own.
 pub fn put_record(
     out: &mut [u8],
     at: usize,
@@ -117,9 +118,9 @@ pub fn put_record(
     values: [u16; syntax::VARIABLES],
     threads: [Thread; machine::THREADS],
 ) -> usize
-    ensures { λ r. ⌜ ((rec : calls.Record) → Fits rec vars values threads → at + 35 + 2 * vars ≤ length
-        (now (out .entry))
-        → Writes (recordLine rec) (now (out .entry)) at r (now (out .exit))) ⌝ }
+    ensures { λ r. ⌜ PutsLine (heldLine vars values threads)
+        ((vars ≤ mostVars) × (at + 35 + 2 * vars ≤ length (now (out .entry)))) (now (out .entry)) at r
+        (now (out .exit)) ⌝ }
 {
     if vars > syntax::VARIABLES {
         return at;

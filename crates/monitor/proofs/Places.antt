@@ -1,5 +1,5 @@
 -- What a loaded file says of placing its table.
-use Prim.Native.Nat.{ℕ, _≤_}
+use Prim.Native.Nat.{ℕ}
 use native.Mathlib.Omega.{arith}
 use mathlib.Core.Path.{_≡_, refl, sym}
 use mathlib.Core.Bool.{Bool, true, false}
@@ -7,8 +7,6 @@ use mathlib.Core.List.{List}
 use lib.ListN.{length}
 use lib.Dec.{ltb}
 use Rattle.syntax.specs.Tree.{Monitor}
-use Rattle.machine.specs.Monitor as machine
-use Rattle.machine.specs.Held.{HeldEntries}
 use Rattle.meaning.specs.Answer.{answer, accepted}
 use Rattle.meaning.specs.Decide.Check.{check}
 use Rattle.meaning.specs.Decide.Calls.{written, place}
@@ -17,9 +15,10 @@ use Rattle.meaning.specs.Decide.Table.{tableOf}
 use Rattle.logic.proofs.Bools.{different}
 use Rattle.answers.specs.Says.{Says, Is, answerOf}
 use Rattle.answers.specs.declared.Answer as code
-use Rattle.table.specs.Written.{placedOf, bufferOf, WritesTable}
+use Rattle.table.specs.Written.{placedOf, bufferOf, WritesTable, PutsTable}
 use Rattle.table.specs.declared.Placed.{Placed}
 use Rattle.table.specs.declared.Placed.the-variants.{Length, Short}
+use Rattle.table.proofs.Monitors.{table-is}
 use Rattle.loader.specs.Loading.{Loads}
 use Rattle.loader.specs.declared.Loaded.{Loaded}
 use Rattle.monitor.specs.Results.{Places, EntriesOf}
@@ -41,9 +40,7 @@ module _ {file : List ℕ} {l : Loaded} {kept holds after : List ℕ} (loads : L
   -- an accepted file: its entries are filled, and its table is written
   module _ (z : l .answer .number ≡ 0) (entries : List ℕ) {buffer behind : List ℕ} {r : Placed}
       (fill : EntriesOf file entries)
-      (write : (n : machine.Monitor) → n .regions ≡ l .layout .regions → n .guards ≡ l .layout .guards
-      → l .layout .regions ≤ 16
-      → l .layout .guards ≤ 16 → HeldEntries n entries → WritesTable (tableOf n) buffer r behind) where
+      (write : PutsTable entries (l .layout .regions) (l .layout .guards) buffer r behind) where
     abbrev m : Monitor
     m = monitor-of file (l .answer) (loads .verdict) z .0
 
@@ -61,7 +58,7 @@ module _ {file : List ℕ} {l : Loaded} {kept holds after : List ℕ} (loads : L
         let gs = sym (k .guard-count) in
         let few-rs = k .held .few-regions in
         let few-gs = k .held .few-guards in
-        write (model m) rs gs (omega arith) (omega arith) (fill m e)
+        rw (table-is (model m) _ _ _ rs gs (fill m e)) (write .written (omega arith) (omega arith))
 
     pub placed : (n : ℕ) → r ≡ Length n → Places (place file buffer) (record { answer = l .answer; length = n }) behind
     unfolding place written placedOf bufferOf

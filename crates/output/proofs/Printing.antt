@@ -1,12 +1,13 @@
 -- From what the library's calls promise to what the programs print.
-use Prim.Native.Nat.{ℕ, _+_, _*_, _<_, _≤_}
+use Prim.Native.Nat.{ℕ, _+_, _*_, _%_, _<_, _≤_}
 use native.Mathlib.Omega.{arith}
-use native.Mathlib.Nat.{zero-add}
+use native.Mathlib.Nat.{zero-add, mod-eq-of-lt}
 use mathlib.Core.Path.{_≡_, refl, sym, ap, _∙_, subst}
 use mathlib.Core.Bool.{true, false}
 use mathlib.Core.List.{List, _++_}
 use lib.ListN.{length, take, drop, length-append}
 use lib.Seq.{length-take-le, take-all, take-take}
+use Rattle.syntax.specs.Limits.{mostVars}
 use Rattle.meaning.specs.Answer.{Answer, answer, Verdict, accepted, refused}
 use Rattle.meaning.specs.Decide.Check.{check}
 use Rattle.logic.proofs.Bools.{clash}
@@ -18,7 +19,7 @@ use Rattle.demands.specs.Demand1.{PlacesAs, file-refused, too-short, placed}
 use Rattle.demands.specs.Demand1.{RunsAs, no-monitor, no-start, bad-line, frame-refused, all-allowed}
 use Rattle.meaning.specs.Refusal.{Refusal}
 use Rattle.demands.proofs.Demand1.{place-iff, accepted-writes-table, running-iff}
-use Rattle.meaning.specs.Lines.{traceBytes, refusalLine, recordLine, runLine, machineLine, placer, runner}
+use Rattle.meaning.specs.Lines.{traceBytes, refusalLine, runLine, machineLine, placer, runner}
 use Rattle.demands.specs.Widths.{AnswerFits, RunFits}
 use Rattle.demands.proofs.Widths.{refusal-fits, running-fits, line-short, table-short}
 use Rattle.answers.specs.Says.{Says}
@@ -28,7 +29,8 @@ use Rattle.run.specs.declared.Running.{Running}
 use Rattle.monitor.specs.Results.{Places, startOf}
 use Rattle.monitor.specs.declared.Placing.{Placing}
 use Rattle.digits.specs.Written.{over, Writes}
-use Rattle.lines.specs.Written.{Fits}
+use Rattle.lines.specs.Written.{heldLine, PutsLine}
+use Rattle.lines.proofs.Writing.{held-line}
 use Rattle.digits.proofs.Writing.{written-length, written-more}
 use Rattle.output.specs.Printed.{Prints, outputBytes}
 
@@ -50,15 +52,20 @@ written-prints {lines} w = prints (rw zero-add at (w .bytes)) (w .behind ∙ zer
 answer-is : {r : code.Answer} {a : Answer} → Says r a → answer (r .number) (r .first) (r .second) ≡ a
 answer-is s = λ i. record { number = s .number i; first = s .first i; second = s .second i }
 
--- what writing an answer's line says, of a refusal whose places fit
-module _ (r : code.Answer) {before after : List ℕ} {at n : ℕ}
-    (put : at + 11 ≤ length before → r .first < 65536 → r .second < 65536
-    → Writes (refusalLine (answer (r .number) (r .first) (r .second))) before at n after) where
-  pub answer-written : {a : Answer} → Says r a → AnswerFits a → at + 11 ≤ length before
+-- what putting an answer's line says, and what it writes of a refusal whose places fit
+abbrev PutsAnswer : code.Answer → (before : List ℕ) (at n : ℕ) (after : List ℕ) → Type 0
+PutsAnswer r before at n after =
+    PutsLine (refusalLine (answer (r .number) (r .first % 65536) (r .second % 65536))) (at + 11 ≤ length before) before
+    at n after
+
+module _ (r : code.Answer) {before after : List ℕ} {at n : ℕ} (put : PutsAnswer r before at n after) where
+  answer-written : {a : Answer} → Says r a → AnswerFits a → at + 11 ≤ length before
       → Writes (refusalLine a) before at n after
   answer-written s f room =
+      let low : r .first < 65536 = omega (arith, s .first, f .first) in
+      let low′ : r .second < 65536 = omega (arith, s .second, f .second) in
       subst (λ x. Writes (refusalLine x) before at n after) (answer-is s)
-      (put room (omega (arith, s .first, f .first)) (omega (arith, s .second, f .second)))
+      (rw (mod-eq-of-lt low, mod-eq-of-lt low′) at (put .written room))
 
 -- ---- the table
 
@@ -71,9 +78,7 @@ module _ (file buffer : List ℕ) {r : Placing} {after : List ℕ} (p : Places (
 
   -- a number other than 0 is a refusal of the file, since the table fits
   pub refusal-printed : {n : ℕ} {last : List ℕ} → outputBytes ≤ length buffer → (r .answer .number ≡ 0 → ⊥)
-      → (0 + 11 ≤ length after → r .answer .first < 65536 → r .answer .second < 65536
-      → Writes (refusalLine (answer (r .answer .number) (r .answer .first) (r .answer .second))) after 0 n last)
-      → Prints (placer file) buffer n last
+      → PutsAnswer (r .answer) after 0 n last → Prints (placer file) buffer n last
   unfolding placer
   refusal-printed {n} {last} room other put = go (place-iff file buffer _ .0 refl) p
     where
@@ -90,23 +95,21 @@ module _ (file buffer : List ℕ) {r : Placing} {after : List ℕ} (p : Places (
 
 module _ (r : Running) {before after : List ℕ} {at n : ℕ} (room : at + 47 ≤ length before) where
   pub refusal-written : (r .answer .number ≡ 0 → ⊥)
-      → (at + 11 ≤ length before → r .answer .first < 65536 → r .answer .second < 65536
-      → Writes (refusalLine (answer (r .answer .number) (r .answer .first) (r .answer .second))) before at n after)
-      → (x : calls.Running) → Runs x r → RunFits x → Writes (runLine x) before at n after
+      → PutsAnswer (r .answer) before at n after → (x : calls.Running) → Runs x r → RunFits x → Writes (runLine x) before at n after
   unfolding Runs RunFits runLine
   refusal-written other put (ran rec) s f = absurd (other (s .0 .number))
   refusal-written other put (refused-file a) s f = answer-written (r .answer) put (s .0) f (omega arith)
   refusal-written other put (not-run a) s f = answer-written (r .answer) put (s .0) f (omega arith)
 
   pub record-written : r .answer .number ≡ 0
-      → ((rec : calls.Record) → Fits rec (r .record .vars) (r .record .values) (r .record .threads)
-      → at + 35 + 2 * r .record .vars ≤ length before → Writes (recordLine rec) before at n after)
+      → PutsLine (heldLine (r .record .vars) (r .record .values) (r .record .threads))
+      ((r .record .vars ≤ mostVars) × (at + 35 + 2 * r .record .vars ≤ length before)) before at n after
       → (x : calls.Running) → Runs x r → RunFits x → Writes (runLine x) before at n after
   unfolding Runs RunFits runLine
   record-written z put (ran rec) s f =
       let held = s .1 in
-      put rec (record { counted = held .vars; held = held .values; places = held .places; digits = f })
-      (omega (arith, held .vars, f .few))
+      rw held-line (record { counted = held .vars; held = held .values; places = held .places; digits = f }) at
+      (put .written (omega (arith, held .vars, f .few), omega (arith, held .vars, f .few)))
   record-written z put (refused-file a) s f = absurd (omega (arith, s .0 .number, f .refuses))
   record-written z put (not-run a) s f = absurd (omega (arith, s .0 .number, f .refuses))
 

@@ -1,7 +1,7 @@
 -- A table's lines: the nine bytes of one, the stores that write it, and how many lines there are.
 use Prim.Native.Nat.{ℕ, zero, suc, _+_, _*_, _/_, _%_, _<_, _≤_}
 use mathlib.Core.Path.{_≡_, refl, ap, _∙_}
-use mathlib.Core.Bool.{Bool, true, false, _||_}
+use mathlib.Core.Bool.{Bool, true, false}
 use mathlib.Core.List.{List, [], _∷_, append-assoc}
 use native.Mathlib.Nat.{zero-add, mod-eq-of-lt, div-eq-of-lt}
 use native.Mathlib.Numerals.{add-one, add-two, add-three, add-four, add-five, add-six, add-seven, add-eight}
@@ -13,10 +13,11 @@ use borrow.Author.Tests.{lt-ltb, le-ltb}
 use Rattle.machine.specs.Algorithm1.{entry}
 use Rattle.meaning.specs.Hex.{hexDigit, hex2, hexBool}
 use Rattle.meaning.specs.Decide.Table.{entryLine, forEach}
-use Rattle.table.specs.Slices.{entryBy, lineAt}
+use Rattle.table.specs.Slices.{entryBy, lineAt, tableAt}
 use Rattle.digits.specs.Written.{over}
 use Rattle.digits.proofs.ForEach.{forEach-more}
-use Rattle.table.specs.Written.{placedOf, bufferOf, WritesTable}
+use Rattle.table.specs.Written.{placedOf, bufferOf, WritesTable, PutsTable}
+use Rattle.table.specs.declared.Placed.{Placed}
 use Rattle.table.specs.declared.Placed.the-variants.{Length, Short}
 
 -- a line has nine bytes
@@ -124,3 +125,12 @@ writes-long t b n a h en ea =
       answer = rw (le-ltb (length b) (length t) h, placedOf, en);
       buffer = rw (le-ltb (length b) (length t) h, bufferOf, ea, zero-add);
     }
+
+-- entries that are written, or not for too many regions or guards
+pub put : {entries before after : List ℕ} {regions guards : ℕ} {r : Placed} → regions ≤ 16 → guards ≤ 16
+    → WritesTable (tableAt entries regions guards) before r after → PutsTable entries regions guards before r after
+put hr hg w = record { written = λ _ _. w; refused = λ large. absurd (large hr hg) }
+
+pub not-put : {entries before : List ℕ} {regions guards : ℕ} → (regions ≤ 16 → guards ≤ 16 → ⊥)
+    → PutsTable entries regions guards before Short before
+not-put large = record { written = λ hr hg. absurd (large hr hg); refused = λ _. (refl, refl) }

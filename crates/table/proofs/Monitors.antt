@@ -1,7 +1,7 @@
 -- What the code works out from slices, of a monitor that they hold: its entries; and the lines of entries that a slice
 -- holds are those of the monitor's table. The cases are those of `runs`.
 use Prim.Native.Nat.{ℕ, _+_, _*_, _%_, _<_, _≤_}
-use mathlib.Core.Path.{_≡_, refl, ap}
+use mathlib.Core.Path.{_≡_, refl, ap, _∙_}
 use mathlib.Core.Bool.{Bool, true, false, not, _&&_}
 use mathlib.Core.List.{List}
 use native.Mathlib.Nat.{mod-eq-of-lt}
@@ -16,7 +16,7 @@ use Rattle.machine.specs.Held.{Held, codeOf, HeldEntries}
 use Rattle.logic.specs.Tests.{bit}
 use Rattle.meaning.specs.Decide.Table.{tableOf}
 use Rattle.table.specs.Slices.{runsAt, someAt, rises, neither, holdsThen, wideAt, made, codeAt, entryBy, lineAt}
-use Rattle.table.specs.Slices.{linesAt, tableAt}
+use Rattle.table.specs.Slices.{linesAt, tableAt, Counts, FillsEntries}
 use Rattle.logic.proofs.Any.{any-same}
 use Rattle.digits.proofs.ForEach.{forEach-same}
 
@@ -92,7 +92,7 @@ module _ (m : Monitor) (kept holds after guardOf : List ℕ) (states regions gua
       pick false = refl
 
   -- what the code works out is the entry's number
-  pub code-is :
+  code-is :
       (r g : ℕ) → r < m .regions → g < m .guards
       → codeAt kept holds after guardOf states regions r g ≡ codeOf (entryOf m r g)
   unfolding codeAt
@@ -105,6 +105,25 @@ module _ (m : Monitor) (kept holds after guardOf : List ℕ) (states regions gua
     wide-is g hg,
     made-is r g,
   )
+
+  -- the entries that are filled are the monitor's
+  pub entries-held : {before entries : List ℕ} → FillsEntries kept holds after guardOf states regions guards before entries
+      → HeldEntries m entries
+  unfolding HeldEntries
+  entries-held fills r g hr hg =
+      let few-s = held .few-states in
+      let few-r = held .few-regions in
+      let few-g = held .few-guards in
+      let counts : Counts states regions guards =
+      record { few-states = omega arith; few-regions = omega arith; few-guards = omega arith } in
+      fills .filled counts .standing r g (omega arith) (omega arith) ∙ code-is r g hr hg
+
+-- a count that is too large: nothing is filled
+pub not-filled :
+    {kept holds after guardOf : List ℕ} {states regions guards : ℕ} {entries : List ℕ}
+    → (Counts states regions guards → ⊥)
+    → FillsEntries kept holds after guardOf states regions guards entries entries
+not-filled large = record { filled = λ n. absurd (large n); refused = λ _. refl }
 
 -- an entry from its number
 decoded : (e : Entry) → entryBy (codeOf e) ≡ e

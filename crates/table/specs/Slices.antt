@@ -1,10 +1,10 @@
 -- What the code works out from the slices alone, and what entries held as numbers spell: the promises of the inner
 -- functions. `proofs/Monitors.antt` ties these to a monitor that the slices hold.
-use Prim.Native.Nat.{ℕ, zero, suc, _+_, _*_, _/_, _%_, _<_}
+use Prim.Native.Nat.{ℕ, zero, suc, _+_, _*_, _/_, _%_, _<_, _≤_}
 use mathlib.Core.Path.{_≡_}
 use mathlib.Core.Bool.{Bool, true, false, not, _&&_, _||_}
-use mathlib.Core.List.{List, _++_}
-use lib.ListN.{length, getD, take, drop}
+use mathlib.Core.List.{List}
+use lib.ListN.{getD}
 use lib.Dec.{eqb}
 use Rattle.machine.specs.Limits.{mostRegions, mostStates}
 use Rattle.sets.specs.Set.{member}
@@ -64,6 +64,27 @@ module _ (kept holds after guardOf : List ℕ) (states : ℕ) where
   codeAt regions r g =
       let some = someAt kept holds after states (getD guardOf r 0 % mostRegions) r in
       codeOf (made (some (rises g)) (not (some (neither g))) (wideAt regions g))
+
+-- counts for which the slices have room
+pub record Counts (states regions guards : ℕ) : Type 0 where
+  pub few-states : states ≤ mostStates
+  pub few-regions : regions ≤ mostRegions
+  pub few-guards : guards ≤ mostRegions
+
+-- the entries of so many regions and guards stand in a slice at region * mostRegions + guard, and every other number is
+-- as it was
+pub record Filled (kept holds after guardOf : List ℕ) (states regions guards : ℕ) (before entries : List ℕ) : Type 0
+  where
+    pub standing : (r g : ℕ) → r < regions → g < guards
+        → getD entries (r * mostRegions + g) 0 ≡ codeAt kept holds after guardOf states regions r g
+    pub others : (r g : ℕ) → g < mostRegions → (r < regions → g < guards → ⊥)
+        → getD entries (r * mostRegions + g) 0 ≡ getD before (r * mostRegions + g) 0
+
+-- what filling does to a lent slice: where a count is too large, nothing
+pub record FillsEntries (kept holds after guardOf : List ℕ) (states regions guards : ℕ) (before entries : List ℕ)
+    : Type 0 where
+  pub filled : Counts states regions guards → Filled kept holds after guardOf states regions guards before entries
+  pub refused : (Counts states regions guards → ⊥) → entries ≡ before
 
 -- the entry that a number stands for
 unfoldable pub entryBy : ℕ → Entry

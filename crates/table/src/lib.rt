@@ -3,12 +3,12 @@ ghost use mathlib.Core.Path.{_≡_};
 ghost use Prim.Native.Nat.{ℕ, _+_, _*_, _%_, _<_, _≤_};
 ghost use lib.ListN.{length, getD};
 ghost use Rattle.machine.specs.Limits.{mostRegions, mostStates, mostEntries};
-ghost use Rattle.machine.specs.Monitor.{Monitor};
-ghost use Rattle.machine.specs.Held.{Held, codeOf, HeldEntries};
-ghost use Rattle.meaning.specs.Decide.Table.{tableOf, entryLine};
+ghost use Rattle.machine.specs.Held.{codeOf};
+ghost use Rattle.meaning.specs.Decide.Table.{entryLine};
 ghost use Rattle.digits.specs.Written.{over, Writes};
-ghost use Rattle.table.specs.Written.{WritesTable};
-ghost use Rattle.table.specs.Slices.{Swept, made, sweptCode, codeAt, entryBy, lineAt, linesAt, tableAt};
+ghost use Rattle.table.specs.Written.{PutsTable};
+ghost use Rattle.table.specs.Slices.{Swept, made, sweptCode, Filled, FillsEntries, entryBy, lineAt, linesAt};
+ghost use Rattle.table.specs.Slices.{tableAt};
 
 // The table's length, or that the buffer is shorter than the table (10).
 pub enum Placed {
@@ -115,8 +115,8 @@ fn fill_region(w: Sweep, wide: u16, guards: usize, r: usize, entries: &mut [u8])
     requires { ⌜ (guards ≤ mostRegions) × (r < mostRegions) × (length (now entries) ≡ mostEntries) ⌝ }
     ensures { λ _. ⌜ ((g : ℕ) → g < guards → getD (now (entries .exit)) (r * mostRegions + g) 0
         ≡ sweptCode w wide g) ⌝ }
-    ensures { λ _. ⌜ ((k : ℕ) → k < r * mostRegions → getD (now (entries .exit)) k 0 ≡ getD
-        (now (entries .entry)) k 0) ⌝ }
+    ensures { λ _. ⌜ ((q g : ℕ) → g < mostRegions → (q ≡ r → g < guards → ⊥)
+        → getD (now (entries .exit)) (q * mostRegions + g) 0 ≡ getD (now (entries .entry)) (q * mostRegions + g) 0) ⌝ }
 {
     let mut g = 0;
     while g < guards {
@@ -143,9 +143,8 @@ fn fill_regions(
 )
     requires { ⌜ (states ≤ mostStates) × (regions ≤ mostRegions) × (guards ≤ mostRegions)
         × (length (now entries) ≡ mostEntries) ⌝ }
-    ensures { λ _. ⌜ ((r : ℕ) → r < regions → (g : ℕ) → g < guards → getD (now (entries .exit)) (r * mostRegions + g) 0
-        ≡ codeAt (now (kept .entry)) (now (holds .entry)) (now (after .entry)) (now («guard_of» .entry)) states regions
-        r g) ⌝ }
+    ensures { λ _. ⌜ Filled (now (kept .entry)) (now (holds .entry)) (now (after .entry)) (now («guard_of» .entry)) states
+        regions guards (now (entries .entry)) (now (entries .exit)) ⌝ }
 {
     let mut sweeps = [Sweep {
         raised: 0,
@@ -169,7 +168,8 @@ fn fill_regions(
     }
 }
 
-// The entries of all regions and guards of a monitor that the slices hold, at region * 16 + guard.
+// The entries of all regions and guards, at region * 16 + guard; where a count is too large, nothing is filled.
+// `proofs/Monitors.antt` shows that they are those of a monitor that the slices hold.
 pub fn fill_entries(
     kept: &[u8; machine::STATES],
     holds: &[u16; machine::STATES],
@@ -180,9 +180,8 @@ pub fn fill_entries(
     guards: usize,
     entries: &mut [u8; machine::ENTRIES],
 )
-    ensures { λ _. ⌜ ((m : Monitor) → m .states ≡ states → m .regions ≡ regions → m .guards ≡ guards
-        → Held m (now (kept .entry)) (now (holds .entry)) (now (after .entry)) (now («guard_of» .entry))
-        → HeldEntries m (now (entries .exit))) ⌝ }
+    ensures { λ _. ⌜ FillsEntries (now (kept .entry)) (now (holds .entry)) (now (after .entry)) (now («guard_of» .entry))
+        states regions guards (now (entries .entry)) (now (entries .exit)) ⌝ }
 {
     if states > machine::STATES {
         return;
@@ -292,16 +291,16 @@ fn write_region(
     next
 }
 
-// The lines of the entries, by region and then guard. A buffer that is too short is left as it is.
+// The lines of the entries, by region and then guard. A buffer that is too short is left as it is, and so is one for more
+// regions or guards than there can be. `proofs/Monitors.antt` shows that they are the table's of a monitor whose entries
+// these are.
 pub fn write_table(
     entries: &[u8; machine::ENTRIES],
     regions: usize,
     guards: usize,
     table: &mut [u8],
 ) -> Placed
-    ensures { λ r. ⌜ ((m : Monitor) → m .regions ≡ regions → m .guards ≡ guards → regions ≤ mostRegions
-        → guards ≤ mostRegions
-        → HeldEntries m (now (entries .entry)) → WritesTable (tableOf m) (now (table .entry)) r (now (table .exit))) ⌝ }
+    ensures { λ r. ⌜ PutsTable (now (entries .entry)) regions guards (now (table .entry)) r (now (table .exit)) ⌝ }
 {
     if regions > machine::REGIONS {
         return Placed::Short;

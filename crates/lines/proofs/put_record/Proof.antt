@@ -1,17 +1,15 @@
--- `lines::put_record` meets its contract: the line is four parts, one written behind the other.
+-- `lines::put_record` meets its contract: where there is room the line is four parts, one written behind the other.
 use native.Mathlib.Omega.{arith}
-use mathlib.Core.Path.{_≡_}
-use lib.ListN.{length}
 use Rattle.meaning.specs.Hex.{hex2}
-use Rattle.meaning.specs.Lines.{recordLine}
+use Rattle.lines.specs.Written.{heldLine}
 use Rattle.digits.proofs.Writing.{written-four}
-use Rattle.lines.proofs.Writing.{values-length, places-length, values-are, places-are}
+use Rattle.lines.proofs.Writing.{values-length, places-length, put, not-put}
 use borrow.Author.Needs.{needs}
 use Rattle.lines.proofs.put_record.Statement.{statement}
 use Rattle.lines.proofs.put_record.Tie as tie
 
 returns : tie.Need-returns
-returns c = λ rec fits room. absurd (omega arith)
+returns c = not-put (λ room. omega (arith, room .0, room .1))
 
 mul-size : tie.Need-mul-size
 mul-size c = search needs
@@ -20,13 +18,13 @@ add-size : tie.Need-add-size
 add-size c = search needs
 
 returns-2 : tie.Need-returns-2
-returns-2 c = λ rec fits room. absurd (omega arith)
+returns-2 c = not-put (λ room. omega (arith, room .0, room .1))
 
 sub-if3 : tie.Need-sub-if3
 sub-if3 c = search needs
 
 returns-3 : tie.Need-returns-3
-returns-3 c = λ rec fits room. absurd (omega arith)
+returns-3 c = not-put (λ room. omega (arith, room .0, room .1))
 
 put2-requires : tie.Need-put2-requires
 put2-requires c κs = search needs
@@ -56,9 +54,8 @@ same-length : tie.Need-same-length
 same-length c = search needs
 
 returns-4 : tie.Need-returns-4
-unfolding recordLine hex2
+unfolding heldLine hex2
 returns-4 c =
-    λ rec fits room.
     let d = c .before .before in
     let u = d .before .before .before .before in
     let t = u .before .before .before .before in
@@ -66,8 +63,7 @@ returns-4 c =
     let b = s .before .before .before .before .before .before in
     let n = values-length (b .args .values) (b .args .vars) in
     let m = places-length (b .args .threads) 16 in
-    let l : length (b .args .threads) ≡ 16 = omega (arith, b .good .1 .1 .1 .1 .0) in
-    rw (← values-are fits, ← places-are fits l)
+    put (omega arith, omega arith)
     (written-four (s .put2 .ensures) (t .put-values .ensures) (u .put-places .ensures) (d .put-end .ensures)
     (omega arith))
 

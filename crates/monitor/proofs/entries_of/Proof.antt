@@ -3,6 +3,7 @@
 use mathlib.Core.Path.{sym}
 use borrow.Author.Needs.{needs}
 use Rattle.meaning.specs.Model.{model}
+use Rattle.table.proofs.Monitors.{entries-held}
 use Rattle.monitor.specs.Results.{EntriesOf}
 use Rattle.monitor.proofs.entries_of.Statement.{statement}
 use Rattle.monitor.proofs.entries_of.Tie as tie
@@ -11,8 +12,8 @@ returns : tie.Need-returns
 unfolding EntriesOf model
 returns c file loads m e =
     let x = loads .monitored m e in
-    c .fill-entries .ensures (model m) (sym (x .bounded .states)) (sym (x .region-count)) (sym (x .guard-count))
-    (x .held)
+    entries-held (model m) _ _ _ _ _ _ _ (x .held) (sym (x .bounded .states)) (sym (x .region-count))
+    (sym (x .guard-count)) (c .fill-entries .ensures)
 
 pub entries-of-spec : {M : Type 1} → statement M
 entries-of-spec = tie.close (tie.spec (λ c κs. search needs) returns)

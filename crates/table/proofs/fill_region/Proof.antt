@@ -1,5 +1,5 @@
 -- `table::fill_region` meets its contract. The loop's invariant: the entries of the guards passed are in place, and
--- those of lower regions are as they were.
+-- all others are as they were.
 use Prim.Native.Nat.{ℕ, _+_, _*_, _≤_, _<_, _-_}
 use mathlib.Core.Path.{_≡_, refl, _∙_}
 use native.Mathlib.Omega.{arith}
@@ -14,13 +14,13 @@ abbrev Inv-loop : tie.InvT-loop
 Inv-loop w wide guards r entries₀ g₀ entries g =
     (g ≤ guards) × (length entries ≡ 256)
     × ((k : ℕ) → k < g → getD entries (r * 16 + k) 0 ≡ sweptCode w wide k)
-    × ((k : ℕ) → k < r * 16 → getD entries k 0 ≡ getD entries₀ k 0)
+    × ((q k : ℕ) → k < 16 → (q ≡ r → k < guards → ⊥) → getD entries (q * 16 + k) 0 ≡ getD entries₀ (q * 16 + k) 0)
 
 abbrev μ-loop : tie.MeasureT-loop
 μ-loop w wide guards r entries₀ g₀ entries g = guards - g
 
 loop-holds : tie.Need-loop-holds Inv-loop μ-loop
-loop-holds c = (omega arith, c .before .pre .2, λ k h. absurd (omega arith), λ k h. refl)
+loop-holds c = (omega arith, c .before .pre .2, λ k h. absurd (omega arith), λ q k h other. refl)
 
 loop-again : tie.Need-loop-again Inv-loop μ-loop
 unfolding sweptCode
@@ -37,7 +37,8 @@ loop-again c =
       below-more _ _ (λ k h. getD-set-other es at (r * 16 + k) v 0 (λ e. omega arith) ∙ q .loop .inv .2 k h)
           (getD-set-same es at v 0 (omega arith) ∙ c .code .ensures
           ∙ rw (has2 .before .has .ensures, has2 .has2 .ensures, has3 .has3 .ensures)),
-      λ k h. getD-set-other es at k v 0 (λ e. omega arith) ∙ q .loop .inv .3 k h,
+      λ p k h other.
+          getD-set-other es at (p * 16 + k) v 0 (λ e. other (omega arith) (omega arith)) ∙ q .loop .inv .3 p k h other,
     )
 
 returns : tie.Need-returns Inv-loop μ-loop

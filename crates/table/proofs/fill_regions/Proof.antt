@@ -1,5 +1,6 @@
 -- `table::fill_regions` meets its contract. The first loop's invariant: the sweeps of the regions passed, and the
--- guards that these leave true; the second's: the entries of the regions passed are in place.
+-- guards that these leave true; the second's: the entries of the regions passed are in place,
+-- and all others are as they were.
 use Prim.Native.Nat.{ℕ, _+_, _*_, _%_, _≤_, _<_, _-_}
 use mathlib.Core.Path.{_≡_, refl, _∙_}
 use native.Mathlib.Omega.{arith}
@@ -33,6 +34,7 @@ Inv-loop2 kept holds after guard-of states regions guards entries₀ sweeps wide
     (r ≤ regions) × (length entries ≡ 256)
     × ((k : ℕ) → k < r → (g : ℕ) → g < guards
     → getD entries (k * 16 + g) 0 ≡ codeAt kept holds after guard-of states regions k g)
+    × ((k g : ℕ) → g < 16 → (k < regions → g < guards → ⊥) → getD entries (k * 16 + g) 0 ≡ getD entries₀ (k * 16 + g) 0)
 
 abbrev μ-loop2 : tie.MeasureT-loop2
 μ-loop2 kept holds after guard-of states regions guards entries₀ sweeps wide r₀ entries r = regions - r
@@ -57,7 +59,12 @@ loop-again c =
     )
 
 loop2-holds : tie.Need-loop2-holds Inv-loop μ-loop Inv-loop2 μ-loop2
-loop2-holds c = (omega arith, c .before .before .before .pre .3, λ k h. absurd (omega arith))
+loop2-holds c = (
+  omega arith,
+  c .before .before .before .pre .3,
+  λ k h. absurd (omega arith),
+  λ k g h other. refl,
+)
 
 loop2-again : tie.Need-loop2-again Inv-loop μ-loop Inv-loop2 μ-loop2
 loop2-again c =
@@ -68,14 +75,19 @@ loop2-again c =
     let all : l .loop .r ≡ l .before .before .args .regions = omega arith in (
       omega arith,
       omega arith,
-      below-more _ _ (λ k h g hg. e .fill-region .ensures .1 (k * 16 + g) (omega arith) ∙ q .loop2 .inv .2 k h g hg)
+      below-more _ _ (λ k h g hg. e .fill-region .ensures .1 k g (omega arith) (λ p _. omega arith) ∙ q .loop2 .inv .2 k h g hg)
           (λ g hg. e .fill-region .ensures .0 g hg
           ∙ swept-code _ _ _ _ _ _ r _ g _ (l .loop .inv .2 r (omega arith)) (rw all at (l .loop .inv .3 g))
           (omega arith)),
+      λ k g hg other. e .fill-region .ensures .1 k g hg (λ p small. other (omega arith) small)
+          ∙ q .loop2 .inv .3 k g hg other,
     )
 
 returns : tie.Need-returns Inv-loop μ-loop Inv-loop2 μ-loop2
-returns c = λ r h g hg. c .before .loop2 .inv .2 r (omega arith) g hg
+returns c = record {
+  standing = λ r g h hg. c .before .loop2 .inv .2 r (omega arith) g hg;
+  others = c .before .loop2 .inv .3;
+}
 
 pub fill-regions-spec : {M : Type 1} → statement M
 fill-regions-spec =

@@ -7,8 +7,7 @@ use Rattle.meaning.specs.Decide.Table.{forEach}
 use Rattle.table.specs.Slices.{linesAt, tableAt}
 use Rattle.digits.specs.Written.{Writes}
 use Rattle.digits.proofs.Writing.{written-none, turn-length, turn-room, turn}
-use Rattle.table.proofs.Lines.{writes-short, writes-long}
-use Rattle.table.proofs.Monitors.{table-is}
+use Rattle.table.proofs.Lines.{writes-short, writes-long, put, not-put}
 use Rattle.table.proofs.write_table.Statement.{statement}
 use Rattle.table.proofs.write_table.Tie as tie
 
@@ -27,10 +26,10 @@ room :
 room q = let e = q .before .before .count .ensures .0 in let h = q .before .if3 .left in omega arith
 
 returns : tie.Need-returns Inv-loop μ-loop
-returns c = λ m er eg hr hg es. absurd (omega (arith, c .if1 .taken))
+returns c = not-put (λ hr hg. omega (arith, c .if1 .taken))
 
 returns-2 : tie.Need-returns-2 Inv-loop μ-loop
-returns-2 c = λ m er eg hr hg es. absurd (omega (arith, c .if2 .taken))
+returns-2 c = not-put (λ hr hg. omega (arith, c .if2 .taken))
 
 count-requires : tie.Need-count-requires Inv-loop μ-loop
 count-requires c κs = omega arith
@@ -39,7 +38,7 @@ mul-size : tie.Need-mul-size Inv-loop μ-loop
 mul-size c = omega arith
 
 returns-3 : tie.Need-returns-3 Inv-loop μ-loop
-returns-3 c = λ m er eg hr hg es. rw (table-is m _ _ _ er eg es) (writes-short _ _ (omega arith))
+returns-3 c = put (omega arith) (omega arith) (writes-short _ _ (omega arith))
 
 loop-holds : tie.Need-loop-holds Inv-loop μ-loop
 unfolding forEach
@@ -84,10 +83,9 @@ same-length c =
 returns-4 : tie.Need-returns-4 Inv-loop μ-loop
 unfolding tableAt
 returns-4 c =
-    λ m er eg hr hg es.
     let q = c .before in
     let e : q .loop .r ≡ q .before .before .before .before .before .before .args .regions = omega arith in
-    rw (table-is m _ _ _ er eg es)
+    put (omega arith) (omega arith)
     (writes-long _ _ _ _ (omega (arith, room q)) (q .before .before .count .ensures .0)
     (rw e at (q .loop .inv .0 .bytes)))
 
