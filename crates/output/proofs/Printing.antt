@@ -94,8 +94,8 @@ module _ (file buffer : List ℕ) {r : Placing} {after : List ℕ} (p : Places (
 -- ---- a machine's line
 
 module _ (r : Running) {before after : List ℕ} {at n : ℕ} (room : at + 47 ≤ length before) where
-  pub refusal-written : (r .answer .number ≡ 0 → ⊥)
-      → PutsAnswer (r .answer) before at n after → (x : calls.Running) → Runs x r → RunFits x → Writes (runLine x) before at n after
+  pub refusal-written : (r .answer .number ≡ 0 → ⊥) → PutsAnswer (r .answer) before at n after
+      → (x : calls.Running) → Runs x r → RunFits x → Writes (runLine x) before at n after
   unfolding Runs RunFits runLine
   refusal-written other put (ran rec) s f = absurd (other (s .0 .number))
   refusal-written other put (refused-file a) s f = answer-written (r .answer) put (s .0) f (omega arith)

@@ -6,14 +6,15 @@ use mathlib.Core.List.{List, [], _∷_, _++_, map, append-nil, append-assoc}
 use native.Mathlib.Nat.{add-zero}
 use native.Mathlib.Omega.{arith}
 use lib.ListN.{length, take, drop, getD, set, length-append, length-drop, drop-of-length-le}
-use lib.Seq.{drop-drop, take-suc-set}
+use lib.Seq.{drop-drop, take-suc-set, drop-set-lt}
 use borrow.Author.Tests.{lt-ltb, le-ltb}
 use Rattle.syntax.specs.Bytes.{blank}
 use Rattle.syntax.specs.Decide.Leading.{leading}
 use Rattle.syntax.specs.Token.{Lexeme, Token}
 use Rattle.syntax.specs.Decide.Scan.{Scan, nothing, found, scan, Tokens, tokens, none-at, prepend, tokensFrom, tokenize}
 use Rattle.scanner.specs.Step.{stepOf, stepAt}
-use Rattle.scanner.specs.Coded.{lexemeCode, codeOf, Within, Coded, scannedAs, scannedOf, Scans}
+use Rattle.scanner.specs.Coded.{lexemeCode, codeOf, Within, Coded, scannedAs, scannedOf, SameBehind}
+use Rattle.scanner.specs.Coded.{TokensWritten, Scans}
 use Rattle.syntax.specs.Held.Kind.{kindOf, valueOf}
 use Rattle.scanner.specs.declared.Step.{Step}
 use Rattle.scanner.specs.declared.Scanned.the-variants as scanned
@@ -134,6 +135,15 @@ module _ (file : List ℕ) (at : ℕ) where
       rw (q .1) (to-start ∙ tokens-none start (drop start file) (omega (arith, length-drop start file))
       (no-blank-there i) (q .0))
 
+  -- it stands at or behind the place from which it was looked for
+  pub ended-behind : at ≤ stepAt file at .start
+  unfolding stepAt start stepOf
+  ended-behind = go (scan (drop start file))
+    where
+      go : (c : Scan) → at ≤ stepOf start c .start
+      go nothing = omega arith
+      go (found l n) = omega arith
+
   pub ended-all : stepAt file at .next .at ≡ stepAt file at .start → length file ≤ stepAt file at .start
       → tokensFrom at 0 (drop at file) ≡ tokens []
   unfolding stepAt start
@@ -167,21 +177,33 @@ held-more f ts t xs e h =
     let n : length (ts ++ t ∷ []) ≡ suc (length ts) = omega (arith, length-append ts (t ∷ [])) in
     rw (n, take-suc-set xs (length ts) (f t) h, e) (sym (map-more f ts t))
 
--- the tokens so far: their numbers are held, and with those of what is left they are the file's
-pub record Held (file kinds values places : List ℕ) (n at : ℕ) : Type 0 where
+-- one more number, written at the place behind those that are written
+kept-more : (n v : ℕ) (xs₀ xs : List ℕ) → drop n xs ≡ drop n xs₀ → drop (n + 1) (set xs n v) ≡ drop (n + 1) xs₀
+kept-more n v xs₀ xs e =
+    drop-set-lt (n + 1) xs n v (omega arith) ∙ sym (drop-drop 1 n xs) ∙ ap (λ (r : List ℕ). drop 1 r) e
+    ∙ drop-drop 1 n xs₀
+
+-- the tokens so far: their numbers are held, those behind are as they were lent, and with the tokens of what is left
+-- they are the file's
+pub record Held (file kinds₀ values₀ places₀ kinds values places : List ℕ) (n at : ℕ) : Type 0 where
   pub held : List Token
   pub count : length held ≡ n
   pub coded : Coded held kinds values places
+  pub kept : SameBehind n kinds₀ values₀ places₀ kinds values places
   pub whole : tokenize file ≡ after held (tokensFrom at 0 (drop at file))
   pub behind : n ≤ at
 
-pub held-none : (file kinds values places : List ℕ) → Held file kinds values places 0 0
+same : {kinds values places : List ℕ} (n : ℕ) → SameBehind n kinds values places kinds values places
+same n = record { in-kinds = refl; in-values = refl; in-places = refl }
+
+pub held-none : (file kinds values places : List ℕ) → Held file kinds values places kinds values places 0 0
 unfolding tokenize
 held-none file kinds values places =
     record {
       held = [];
       count = refl;
       coded = record { by-kind = refl; by-value = refl; by-place = refl };
+      kept = same 0;
       whole = after-none (tokensFrom 0 0 file);
       behind = omega arith;
     }
@@ -190,10 +212,11 @@ in-bounds : (file : List ℕ) → length file ≤ 8192 → scannedOf file ≡ sc
 unfolding scannedOf
 in-bounds file h = rw (scannedOf, le-ltb 8192 (length file) h)
 
-module _ (file kinds values places : List ℕ) (n at : ℕ) (h : Held file kinds values places n at) where
+module _ (file kinds₀ values₀ places₀ kinds values places : List ℕ) (n at : ℕ)
+    (h : Held file kinds₀ values₀ places₀ kinds values places n at) where
   pub held-one : (st : Step) → Taken file at st → n < length kinds → n < length values → n < length places
-      → Held file (set kinds n (codeOf file (st .token) .kind)) (set values n (codeOf file (st .token) .value))
-      (set places n (st .start)) (n + 1) (st .next .at)
+      → Held file kinds₀ values₀ places₀ (set kinds n (codeOf file (st .token) .kind))
+      (set values n (codeOf file (st .token) .value)) (set places n (st .start)) (n + 1) (st .next .at)
   held-one st t lk lv lp =
       let new : Token = record { at = st .start; lexeme = t .lexeme } in
       record {
@@ -210,37 +233,53 @@ module _ (file kinds values places : List ℕ) (n at : ℕ) (h : Held file kinds
               by-place =
                   rw (← (h .count)) (held-more (λ t. t .at) (h .held) new places (h .coded .by-place) (omega arith));
             };
+        kept =
+            record {
+              in-kinds = kept-more n _ kinds₀ kinds (h .kept .in-kinds);
+              in-values = kept-more n _ values₀ values (h .kept .in-values);
+              in-places = kept-more n _ places₀ places (h .kept .in-places);
+            };
         whole = h .whole ∙ ap (after (h .held)) (t .rest) ∙ after-more (h .held) (st .start) (t .lexeme) _;
         behind = omega (arith, h .behind, t .ahead);
       }
 
   module _ (short : length file ≤ 8192) where
-    pub scans-all : tokensFrom at 0 (drop at file) ≡ tokens [] → Scans file (scanned.Tokens n) kinds values places
-    unfolding after scannedAs
+    pub scans-all : tokensFrom at 0 (drop at file) ≡ tokens []
+        → Scans file (scanned.Tokens n) kinds₀ values₀ places₀ kinds values places
+    unfolding after scannedAs TokensWritten
     scans-all e =
         let whole : tokenize file ≡ tokens (h .held) = h .whole ∙ ap (after (h .held)) e
         ∙ ap tokens (append-nil (h .held)) in
         record {
           answer = sym (in-bounds file short ∙ ap scannedAs whole ∙ ap scanned.Tokens (h .count));
           coded = λ ts _ q. let same : h .held ≡ ts = cc in rw same at (h .coded);
+          written = n;
+          how-many = refl;
+          kept = h .kept;
         }
 
-    pub scans-bad : (k : ℕ) → tokensFrom at 0 (drop at file) ≡ none-at k
-        → Scans file (scanned.Bad k) kinds values places
-    unfolding after scannedAs
-    scans-bad k e =
+    pub scans-bad : (k : ℕ) → at ≤ k → tokensFrom at 0 (drop at file) ≡ none-at k
+        → Scans file (scanned.Bad k) kinds₀ values₀ places₀ kinds values places
+    unfolding after scannedAs TokensWritten
+    scans-bad k l e =
         let whole : tokenize file ≡ none-at k = h .whole ∙ ap (after (h .held)) e in
         record {
           answer = sym (in-bounds file short ∙ ap scannedAs whole);
           coded = λ ts _ q. let z : _≡_ {A = ℕ} 0 1 = cc in absurd (omega arith);
+          written = n;
+          how-many = omega (arith, h .behind);
+          kept = h .kept;
         }
 
 pub scans-long : (file kinds values places : List ℕ) → 8192 < length file
-    → Scans file scanned.TooLong kinds values places
-unfolding scannedOf
+    → Scans file scanned.TooLong kinds values places kinds values places
+unfolding scannedOf TokensWritten
 scans-long file kinds values places h =
     let long : scannedOf file ≡ scanned.TooLong = rw (scannedOf, lt-ltb 8192 (length file) h) in
     record {
       answer = sym long;
       coded = λ ts q _. let z : _≡_ {A = ℕ} 0 1 = cc in absurd (omega arith);
+      written = 0;
+      how-many = refl;
+      kept = same 0;
     }

@@ -45,8 +45,24 @@ scannedAs (none-at k) = scanned.Bad k
 unfoldable pub scannedOf : List ℕ → Scanned
 scannedOf file = elim (ltb mostBytes (length file)) [ true ↦ scanned.TooLong | false ↦ scannedAs (tokenize file) ]
 
--- the whole promise of a scan: its answer, and the tokens where it answers with their count
-pub record Scans (file : List ℕ) (r : Scanned) (kinds values places : List ℕ) : Type 0 where
+-- behind their first n numbers the slices are as they were lent
+pub record SameBehind (n : ℕ) (kinds₀ values₀ places₀ kinds values places : List ℕ) : Type 0 where
+  pub in-kinds : drop n kinds ≡ drop n kinds₀
+  pub in-values : drop n values ≡ drop n values₀
+  pub in-places : drop n places ≡ drop n places₀
+
+-- how many tokens a scan writes: as many as it counts; at most one for each byte before one that begins none; of a file
+-- that is too long, none
+unfoldable pub TokensWritten : Scanned → ℕ → Type 0
+TokensWritten (scanned.Tokens m) n = n ≡ m
+TokensWritten (scanned.Bad k) n = n ≤ k
+TokensWritten scanned.TooLong n = n ≡ 0
+
+-- the whole promise of a scan: its answer, the tokens where it answers with their count, and what is left as it was
+pub record Scans (file : List ℕ) (r : Scanned) (kinds₀ values₀ places₀ kinds values places : List ℕ) : Type 0 where
   pub answer : r ≡ scannedOf file
   pub coded : (ts : List Token) → scannedOf file ≡ scanned.Tokens (length ts) → tokenize file ≡ tokens ts
       → Coded ts kinds values places
+  pub written : ℕ
+  pub how-many : TokensWritten r written
+  pub kept : SameBehind written kinds₀ values₀ places₀ kinds values places

@@ -392,7 +392,8 @@ fn code_of(file: &[u8], token: Token) -> Code
 fn scan_into(file: &[u8], kinds: &mut [u8], values: &mut [u16], places: &mut [u16]) -> Scanned
     requires { ⌜ (length (now kinds) ≡ mostBytes) × (length (now values) ≡ mostBytes) × (length (now places)
         ≡ mostBytes) ⌝ }
-    ensures { λ r. ⌜ Scans (now (file .entry)) r (now (kinds .exit)) (now (values .exit)) (now (places .exit)) ⌝ }
+    ensures { λ r. ⌜ Scans (now (file .entry)) r (now (kinds .entry)) (now (values .entry)) (now (places .entry))
+        (now (kinds .exit)) (now (values .exit)) (now (places .exit)) ⌝ }
 {
     if syntax::FILE_BYTES < file.len() {
         return Scanned::TooLong;
@@ -428,7 +429,8 @@ pub fn scan(
     values: &mut [u16; syntax::FILE_BYTES],
     places: &mut [u16; syntax::FILE_BYTES],
 ) -> Scanned
-    ensures { λ r. ⌜ Scans (now (file .entry)) r (now (kinds .exit)) (now (values .exit)) (now (places .exit)) ⌝ }
+    ensures { λ r. ⌜ Scans (now (file .entry)) r (now (kinds .entry)) (now (values .entry)) (now (places .entry))
+        (now (kinds .exit)) (now (values .exit)) (now (places .exit)) ⌝ }
 {
     scan_into(file, kinds, values, places)
 }

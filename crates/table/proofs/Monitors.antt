@@ -107,8 +107,8 @@ module _ (m : Monitor) (kept holds after guardOf : List ℕ) (states regions gua
   )
 
   -- the entries that are filled are the monitor's
-  pub entries-held : {before entries : List ℕ} → FillsEntries kept holds after guardOf states regions guards before entries
-      → HeldEntries m entries
+  pub entries-held : {before entries : List ℕ}
+      → FillsEntries kept holds after guardOf states regions guards before entries → HeldEntries m entries
   unfolding HeldEntries
   entries-held fills r g hr hg =
       let few-s = held .few-states in

@@ -25,5 +25,6 @@ pub record WritesTable (table before : List ℕ) (r : Placed) (after : List ℕ)
 -- what writing entries says: the lines of so many regions and guards; where a count is too large, nothing is written
 pub record PutsTable (entries : List ℕ) (regions guards : ℕ) (before : List ℕ) (r : Placed) (after : List ℕ) : Type 0
   where
-    pub written : regions ≤ mostRegions → guards ≤ mostRegions → WritesTable (tableAt entries regions guards) before r after
+    pub written : regions ≤ mostRegions → guards ≤ mostRegions
+        → WritesTable (tableAt entries regions guards) before r after
     pub refused : (regions ≤ mostRegions → guards ≤ mostRegions → ⊥) → (r ≡ Short) × (after ≡ before)

@@ -143,8 +143,8 @@ fn fill_regions(
 )
     requires { ⌜ (states ≤ mostStates) × (regions ≤ mostRegions) × (guards ≤ mostRegions)
         × (length (now entries) ≡ mostEntries) ⌝ }
-    ensures { λ _. ⌜ Filled (now (kept .entry)) (now (holds .entry)) (now (after .entry)) (now («guard_of» .entry)) states
-        regions guards (now (entries .entry)) (now (entries .exit)) ⌝ }
+    ensures { λ _. ⌜ Filled (now (kept .entry)) (now (holds .entry)) (now (after .entry)) (now («guard_of» .entry))
+        states regions guards (now (entries .entry)) (now (entries .exit)) ⌝ }
 {
     let mut sweeps = [Sweep {
         raised: 0,
@@ -180,8 +180,8 @@ pub fn fill_entries(
     guards: usize,
     entries: &mut [u8; machine::ENTRIES],
 )
-    ensures { λ _. ⌜ FillsEntries (now (kept .entry)) (now (holds .entry)) (now (after .entry)) (now («guard_of» .entry))
-        states regions guards (now (entries .entry)) (now (entries .exit)) ⌝ }
+    ensures { λ _. ⌜ FillsEntries (now (kept .entry)) (now (holds .entry)) (now (after .entry))
+        (now («guard_of» .entry)) states regions guards (now (entries .entry)) (now (entries .exit)) ⌝ }
 {
     if states > machine::STATES {
         return;
@@ -291,9 +291,9 @@ fn write_region(
     next
 }
 
-// The lines of the entries, by region and then guard. A buffer that is too short is left as it is, and so is one for more
-// regions or guards than there can be. `proofs/Monitors.antt` shows that they are the table's of a monitor whose entries
-// these are.
+// The lines of the entries, by region and then guard. A buffer that is too short is left as it is, and so is one for
+// more regions or guards than there can be. `proofs/Monitors.antt` shows that the lines are the table's of a monitor
+// that has these entries.
 pub fn write_table(
     entries: &[u8; machine::ENTRIES],
     regions: usize,

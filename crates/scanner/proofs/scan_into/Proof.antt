@@ -1,6 +1,6 @@
 -- `scanner::scan_into` meets its contract. The loop's invariant, `Held`: the numbers of the tokens so far are in the
--- slices, and those tokens in front of the tokens of what is left are the file's. Each token has a byte of its own, so
--- that 8,192 of them end the file.
+-- slices, behind them these are as they were lent, and those tokens in front of the tokens of what is left are the
+-- file's. Each token has a byte of its own, so that 8,192 of them end the file.
 use Prim.Native.Nat.{ℕ, _-_, _<_}
 use mathlib.Core.Path.{_≡_}
 use mathlib.Core.List.{List}
@@ -9,14 +9,14 @@ use borrow.Author.Needs.{needs}
 use denote.Ref.{now}
 use lib.ListN.{length, length-set}
 use Rattle.scanner.specs.Step.{stepAt}
-use Rattle.scanner.proofs.Tokens.{Held, Taken, held-none, held-one, taken, ended-bad, ended-all, tokens-end}
-use Rattle.scanner.proofs.Tokens.{scans-all, scans-bad, scans-long}
+use Rattle.scanner.proofs.Tokens.{Held, Taken, held-none, held-one, taken, ended-bad, ended-all, ended-behind}
+use Rattle.scanner.proofs.Tokens.{tokens-end, scans-all, scans-bad, scans-long}
 use Rattle.scanner.proofs.scan_into.Statement.{statement}
 use Rattle.scanner.proofs.scan_into.Tie as tie
 
 abbrev Inv-loop : tie.InvT-loop
 Inv-loop file kinds₀ values₀ places₀ cursor₀ n₀ kinds values places cursor n =
-    Held file kinds values places n (cursor .at) × (length kinds ≡ 8192) × (length values ≡ 8192)
+    Held file kinds₀ values₀ places₀ kinds values places n (cursor .at) × (length kinds ≡ 8192) × (length values ≡ 8192)
     × (length places ≡ 8192)
 
 abbrev μ-loop : tie.MeasureT-loop
@@ -68,7 +68,8 @@ returns-2 c =
     let file = file-of g in
     let e = c .before .before .before .before .read-token .ensures in
     rw e
-    (scans-bad file _ _ _ _ _ (g .loop .inv .0) (g .before .before .if1 .left) _
+    (scans-bad file _ _ _ _ _ _ _ _ (g .loop .inv .0) (g .before .before .if1 .left) _
+    (ended-behind file (g .loop .cursor .at))
     (ended-bad file (g .loop .cursor .at) (rw e at (c .before .if2 .taken)) (rw e at (c .if3 .taken))))
 
 same-length-4 : tie.Need-same-length-4 Inv-loop μ-loop
@@ -85,7 +86,7 @@ returns-3 c =
     let g = c .before .before .before .before .before .before in
     let file = file-of g in
     let e = c .before .before .before .before .read-token .ensures in
-    scans-all file _ _ _ _ _ (g .loop .inv .0) (g .before .before .if1 .left)
+    scans-all file _ _ _ _ _ _ _ _ (g .loop .inv .0) (g .before .before .if1 .left)
     (ended-all file (g .loop .cursor .at) (rw e at (c .before .if2 .taken)) (rw e at (c .if3 .left)))
 
 code-of-requires : tie.Need-code-of-requires Inv-loop μ-loop
@@ -124,7 +125,7 @@ loop-again c =
     let g = c .before .before .before .before .before .before in
     let file = file-of g in (
       rw (c .code-of .ensures, c .before .before .before .before .read-token .ensures)
-          (held-one file _ _ _ _ _ (g .loop .inv .0) _ (token-taken (c .before)) (omega arith) (omega arith)
+          (held-one file _ _ _ _ _ _ _ _ (g .loop .inv .0) _ (token-taken (c .before)) (omega arith) (omega arith)
           (omega arith)),
       simp length-set (g .loop .inv .1),
       simp length-set (g .loop .inv .2),
@@ -143,7 +144,7 @@ same-length-9 c = search needs
 returns-4 : tie.Need-returns-4 Inv-loop μ-loop
 returns-4 c =
     let file = file-of (c .before) in
-    scans-all file _ _ _ _ _ (c .before .loop .inv .0) (c .before .before .before .if1 .left)
+    scans-all file _ _ _ _ _ _ _ _ (c .before .loop .inv .0) (c .before .before .before .if1 .left)
     (tokens-end file (c .before .loop .cursor .at) (omega (arith, c .before .loop .inv .0 .behind)))
 
 pub scan-into-spec : {M : Type 1} → statement M

@@ -75,7 +75,8 @@ loop2-again c =
     let all : l .loop .r ≡ l .before .before .args .regions = omega arith in (
       omega arith,
       omega arith,
-      below-more _ _ (λ k h g hg. e .fill-region .ensures .1 k g (omega arith) (λ p _. omega arith) ∙ q .loop2 .inv .2 k h g hg)
+      below-more _ _ (λ k h g hg. e .fill-region .ensures .1 k g (omega arith) (λ p _. omega arith)
+          ∙ q .loop2 .inv .2 k h g hg)
           (λ g hg. e .fill-region .ensures .0 g (omega arith)
           ∙ swept-code _ _ _ _ _ _ r _ g _ (l .loop .inv .2 r (omega arith)) (rw all at (l .loop .inv .3 g))
           (omega arith)),
