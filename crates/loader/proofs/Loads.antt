@@ -1,4 +1,5 @@
--- What a loaded file says of its check: of a refused one nothing more, of an accepted one all that the slices hold.
+-- What a loaded file says of its check: of a refused one nothing more, of an accepted one all that the slices hold; and
+-- slices that are left as they were.
 use Prim.Native.Nat.{ℕ, zero, suc, _≤_}
 use native.Mathlib.Omega.{arith}
 use mathlib.Core.Path.{_≡_, refl, sym, subst, ap, _∙_}
@@ -31,11 +32,15 @@ use Rattle.loader.proofs.Counts.{few-tokens, few-parts}
 use Rattle.loader.proofs.Names.{codes}
 use Rattle.loader.proofs.TokensStand.{keep-stands}
 use Rattle.loader.proofs.Flags.{held-places}
-use Rattle.loader.specs.Loading.{Past7, JudgedBy, Judges, Monitored, Loads}
+use Rattle.loader.specs.Loading.{Past7, JudgedBy, Judges, Monitored, Loads, Leaves}
 use Rattle.loader.specs.Filling.{Filling, Filled}
 use Rattle.loader.specs.declared.Judged.{Judged}
 use Rattle.loader.specs.declared.Loaded.{Loaded}
 use Rattle.loader.proofs.Fills.{numbers-of}
+
+-- nothing was lent on
+pub left-all : (n : ℕ) (kept holds after : List ℕ) → Leaves n kept holds after kept holds after
+left-all n kept holds after = record { untouched = λ _ _. (refl, refl, refl); as-long = (refl, refl, refl) }
 
 -- an answer other than 0 is that of no accepted file
 loads-refused : (file : List ℕ) (l : Loaded) (kept holds after : List ℕ) → (l .answer .number ≡ 0 → ⊥)

@@ -74,7 +74,8 @@ pub record Counted (n : ℕ) (kinds values places : List ℕ) : Type 0 where
   pub in-values : Part n values
   pub in-places : Part n places
 
-module _ {file : List ℕ} {r : Scanned} {kinds values places : List ℕ} (s : Scans file r kinds values places) where
+module _ {file : List ℕ} {r : Scanned} {kinds₀ values₀ places₀ kinds values places : List ℕ}
+    (s : Scans file r kinds₀ values₀ places₀ kinds values places) where
   outcome-of : {q : Scanned} → r ≡ q → Outcome file q
   outcome-of e = subst (Outcome file) (sym (s .answer) ∙ e) (outcome file)
 

@@ -1,6 +1,6 @@
 -- What the stages of loading a file say of its check: the answer, and of an accepted file all that the table and the
 -- machines look up.
-use Prim.Native.Nat.{ℕ, zero, suc}
+use Prim.Native.Nat.{ℕ, zero, suc, _≤_}
 use mathlib.Core.Path.{_≡_}
 use mathlib.Core.List.{List, [], _∷_}
 use mathlib.Core.Option.{none}
@@ -43,6 +43,13 @@ pub record Monitored (m : Monitor) (l : Loaded) (kept holds after : List ℕ) : 
   pub region-count : l .layout .regions ≡ length (regions m)
   pub guard-count : l .layout .guards ≡ length (guards m)
 
+-- the verdict, and of an accepted file its monitor
 pub record Loads (file : List ℕ) (l : Loaded) (kept holds after : List ℕ) : Type 0 where
   pub verdict : Is (l .answer) (check file)
   pub monitored : (m : Monitor) → check file ≡ accepted m → Monitored m l kept holds after
+
+-- what loading leaves in the slices that it is lent: those of a file refused with 1 to 8 are as they were, and none
+-- changes its length. Left free is what 9 leaves in them, and what stands behind the states of an accepted file.
+pub record Leaves (number : ℕ) (kept₀ holds₀ after₀ kept holds after : List ℕ) : Type 0 where
+  pub untouched : 1 ≤ number → number ≤ 8 → (kept ≡ kept₀) × (holds ≡ holds₀) × (after ≡ after₀)
+  pub as-long : (length kept ≡ length kept₀) × (length holds ≡ length holds₀) × (length after ≡ length after₀)

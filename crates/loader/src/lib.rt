@@ -14,7 +14,7 @@ ghost use Rattle.machine.specs.Limits.{mostRegions, mostStates, mostAfter};
 ghost use Rattle.syntax.specs.Held.Kind.{Words};
 ghost use Rattle.syntax.specs.Token.{Lexeme, Token};
 ghost use Rattle.syntax.specs.Tree.{Monitor};
-ghost use Rattle.loader.specs.Loading.{Judges, Past7, Loads};
+ghost use Rattle.loader.specs.Loading.{Judges, Past7, Loads, Leaves};
 ghost use Rattle.loader.specs.Filling.{Filling, Filled};
 
 // 3 to 7: the answer so far, and where it is 0 the token of `keep` and the variables.
@@ -122,6 +122,8 @@ fn fill(
         → mostStates ≤ length (now (kept .entry)) → mostStates ≤ length (now (holds .entry))
         → mostAfter ≤ length (now (after .entry))
         → Filled m place r (now (kept .exit)) (now (holds .exit)) (now (after .exit))) ⌝ }
+    ensures { λ r. ⌜ Leaves (r .number) (now (kept .entry)) (now (holds .entry)) (now (after .entry))
+        (now (kept .exit)) (now (holds .exit)) (now (after .exit)) ⌝ }
 {
     let starts = bounds.starts;
     let keep = layout.keep;
@@ -185,6 +187,8 @@ fn load_judged(
         → mostStates ≤ length (now (kept .entry)) → mostStates ≤ length (now (holds .entry))
         → mostAfter ≤ length (now (after .entry))
         → Loads (now (file .entry)) r (now (kept .exit)) (now (holds .exit)) (now (after .exit))) ⌝ }
+    ensures { λ r. ⌜ Leaves (r .answer .number) (now (kept .entry)) (now (holds .entry)) (now (after .entry))
+        (now (kept .exit)) (now (holds .exit)) (now (after .exit)) ⌝ }
 {
     let keep = judged.keep;
     let bounds = judged.bounds;
@@ -223,6 +227,8 @@ fn load_tokens(
         → mostStates ≤ length (now (kept .entry)) → mostStates ≤ length (now (holds .entry))
         → mostAfter ≤ length (now (after .entry))
         → Loads (now (file .entry)) r (now (kept .exit)) (now (holds .exit)) (now (after .exit))) ⌝ }
+    ensures { λ r. ⌜ Leaves (r .answer .number) (now (kept .entry)) (now (holds .entry)) (now (after .entry))
+        (now (kept .exit)) (now (holds .exit)) (now (after .exit)) ⌝ }
 {
     let judged = judge(file, kinds, values, places);
     let so_far = judged.answer;
@@ -252,6 +258,8 @@ pub fn load(file: &[u8], kept: &mut [u8], holds: &mut [u16], after: &mut [u16]) 
     ensures { λ r. ⌜ (mostStates ≤ length (now (kept .entry)) → mostStates ≤ length (now (holds .entry))
         → mostAfter ≤ length (now (after .entry))
         → Loads (now (file .entry)) r (now (kept .exit)) (now (holds .exit)) (now (after .exit))) ⌝ }
+    ensures { λ r. ⌜ Leaves (r .answer .number) (now (kept .entry)) (now (holds .entry)) (now (after .entry))
+        (now (kept .exit)) (now (holds .exit)) (now (after .exit)) ⌝ }
 {
     let mut kinds = [0u8; syntax::FILE_BYTES];
     let mut values = [0u16; syntax::FILE_BYTES];

@@ -1,8 +1,9 @@
 -- `loader::fill` meets its contract: 8 by the kept condition's truth at the start, 9 by what `first_broken` answers,
 -- and the slices as they are filled.
-use Prim.Native.Nat.{_≤_}
+use Prim.Native.Nat.{ℕ, _≤_}
 use native.Mathlib.Omega.{arith}
 use mathlib.Core.Path.{_≡_, _∙_}
+use mathlib.Core.Logic.{_⊎_, inl, inr, ⊎-elim}
 use mathlib.Core.List.{List}
 use lib.ListN.{length}
 use denote.Ref.{now}
@@ -17,6 +18,8 @@ use Rattle.meaning.specs.Model.{vars, regions}
 use Rattle.states.specs.Rows.{KeptAll, HoldsAll, Outcomes, BrokenAs}
 use Rattle.states.proofs.Holding.{row-of-kept}
 use Rattle.loader.specs.Filling.{Filling}
+use Rattle.loader.specs.Loading.{Leaves}
+use Rattle.loader.proofs.Loads.{left-all}
 use Rattle.loader.proofs.Fills.{keeping, keep-is-kept, kept-row, guarding, bodies-of, numbers-of}
 use Rattle.loader.proofs.Fills.{failed, filled-8, filled-9, filled-0}
 use Rattle.loader.proofs.fill.Statement.{statement}
@@ -87,25 +90,50 @@ module _ (c : Through) {m : Monitor} {ls : List Lexeme} (f : Given (start-of (fi
       (omega (arith, filled c .fill-after .kept .1 .1 .1 .1 .1 .1 .1 .1 .0)) (by-kept (filled c) f l₁ l₂ l₃)
       (by-holds (filled c) f l₁ l₂ l₃) (outcomes (filled c) f l₁ l₂ l₃)
 
+-- 8 is judged before anything is filled
 returns : tie.Need-returns
-returns c m ls f l₁ l₂ l₃ =
-    let h = c .before .before in
-    filled-8 m _ _ _ _ _ (holds-at-start h f) (not-true (c .before .if1 .taken)) (c .say .ensures)
+returns c =
+    let h = c .before .before in (
+      λ m ls f l₁ l₂ l₃.
+          filled-8 m _ _ _ _ _ (holds-at-start h f) (not-true (c .before .if1 .taken)) (c .say .ensures),
+      left-all _ _ _ _,
+    )
+
+-- once they are filled the answer is 9 or 0; each slice is as long as it was
+left : (c : At) (n : ℕ) → (n ≡ 9) ⊎ (n ≡ 0)
+    → Leaves n (now (entry-of c .args .kept)) (now (entry-of c .args .holds)) (now (entry-of c .args .after))
+    (row-of c .fill-row .last .1 .1 .1 .1 .0) (holds-of c .fill-holds .last .1 .1 .1 .1 .1 .0)
+    (c .fill-after .last .1 .1 .1 .1 .1 .1 .1 .1 .0)
+left c n ends =
+    record {
+      untouched = λ a b. absurd (⊎-elim (λ (nine : n ≡ 9). omega arith) (λ (zero : n ≡ 0). omega arith) ends);
+      as-long = (
+        omega (arith, row-of c .fill-row .kept .1 .1 .1 .1 .0),
+        omega (arith, holds-of c .fill-holds .kept .1 .1 .1 .1 .1 .0),
+        omega (arith, c .fill-after .kept .1 .1 .1 .1 .1 .1 .1 .1 .0),
+      );
+    }
 
 returns-2 : tie.Need-returns-2
-returns-2 c m ls f l₁ l₂ l₃ =
+returns-2 c =
     let g = c .before .before .before .before in
-    let row = row-of (filled g) in
-    filled-9 m _ _ _ _ _ (holds-at-start (start-of (filled g)) f) (failed (row .before .before .if1 .left))
-    (broken-as g f l₁ l₂ l₃) _ _ (c .before .before .r .given .1) (c .say2 .ensures)
+    let row = row-of (filled g) in (
+      λ m ls f l₁ l₂ l₃.
+          filled-9 m _ _ _ _ _ (holds-at-start (start-of (filled g)) f) (failed (row .before .before .if1 .left))
+          (broken-as g f l₁ l₂ l₃) _ _ (c .before .before .r .given .1) (c .say2 .ensures),
+      left (filled g) _ (inl (c .say2 .ensures .0)),
+    )
 
 returns-3 : tie.Need-returns-3
-returns-3 c m ls f l₁ l₂ l₃ =
+returns-3 c =
     let g = c .before .before .before in
-    let row = row-of (filled g) in
-    filled-0 m _ _ _ _ _ (holds-at-start (start-of (filled g)) f) (failed (row .before .before .if1 .left))
-    (broken-as g f l₁ l₂ l₃) (c .before .enum-told .given .1) (by-kept (filled g) f l₁ l₂ l₃)
-    (by-holds (filled g) f l₁ l₂ l₃) (outcomes (filled g) f l₁ l₂ l₃) (c .say3 .ensures)
+    let row = row-of (filled g) in (
+      λ m ls f l₁ l₂ l₃.
+          filled-0 m _ _ _ _ _ (holds-at-start (start-of (filled g)) f) (failed (row .before .before .if1 .left))
+          (broken-as g f l₁ l₂ l₃) (c .before .enum-told .given .1) (by-kept (filled g) f l₁ l₂ l₃)
+          (by-holds (filled g) f l₁ l₂ l₃) (outcomes (filled g) f l₁ l₂ l₃) (c .say3 .ensures),
+      left (filled g) _ (inr (c .say3 .ensures .0)),
+    )
 
 pub fill-spec : {M : Type 1} → statement M
 fill-spec =

@@ -3,7 +3,7 @@
 use Prim.Native.Nat.{ℕ}
 use borrow.Author.Needs.{needs}
 use Rattle.loader.proofs.Scanned.{Counted, scanned-long, scanned-bad, scanned-tokens, scanned-counted}
-use Rattle.loader.proofs.Loads.{loads-said}
+use Rattle.loader.proofs.Loads.{left-all, loads-said}
 use Rattle.loader.proofs.load.Statement.{statement}
 use Rattle.loader.proofs.load.Tie as tie
 
@@ -17,21 +17,28 @@ counted : (c : tie.After-n)
 counted c = scanned-counted (c .before .before .scan .ensures) (N c) (c .n .given .1)
 
 returns : tie.Need-returns
-returns c l₁ l₂ l₃ =
-    loads-said _ (c .not-loaded .result) _ _ _ 0 (c .not-loaded .ensures) (c .before .say .ensures)
-    (scanned-long (c .before .before .before .before .scan .ensures) (c .before .before .enum-told .given .1))
+returns c = (
+  λ l₁ l₂ l₃.
+      loads-said _ (c .not-loaded .result) _ _ _ 0 (c .not-loaded .ensures) (c .before .say .ensures)
+      (scanned-long (c .before .before .before .before .scan .ensures) (c .before .before .enum-told .given .1)),
+  left-all _ _ _ _,
+)
 
 returns-2 : tie.Need-returns-2
-returns-2 c l₁ l₂ l₃ =
-    loads-said _ (c .not-loaded2 .result) _ _ _ 1 (c .not-loaded2 .ensures) (c .before .say2 .ensures)
-    (scanned-bad (c .before .before .before .before .before .scan .ensures) _ (c .before .before .before .k .given .1))
+returns-2 c = (
+  λ l₁ l₂ l₃.
+      loads-said _ (c .not-loaded2 .result) _ _ _ 1 (c .not-loaded2 .ensures) (c .before .say2 .ensures)
+      (scanned-bad (c .before .before .before .before .before .scan .ensures) _
+      (c .before .before .before .k .given .1)),
+  left-all _ _ _ _,
+)
 
 returns-3 : tie.Need-returns-3
-returns-3 c l₁ l₂ l₃ =
+returns-3 c =
     let r = c .before .before .before .before .before .before in
     let n = r .before .before .before .before .before .before .before .before in
     let t = scanned-tokens (n .before .before .scan .ensures) (N n) (n .n .given .1) in
-    r .load-tokens .ensures (t .0) (t .3) l₁ l₂ l₃
+    (λ l₁ l₂ l₃. r .load-tokens .ensures .0 (t .0) (t .3) l₁ l₂ l₃, r .load-tokens .ensures .1)
 
 pub load-spec : {M : Type 1} → statement M
 load-spec =

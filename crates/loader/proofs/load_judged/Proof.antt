@@ -7,20 +7,24 @@ use Rattle.loader.proofs.load_judged.Statement.{statement}
 use Rattle.loader.proofs.load_judged.Tie as tie
 
 returns : tie.Need-returns
-returns c ts m w p o l₁ l₂ l₃ =
+returns c =
     let filled = c .before .before .before .before .before .before in
     let placed = filled .before .before .before .before in
     let linked = placed .before .before .before .before in
     let resolved = linked .before .before .before .before in
     let laid = resolved .before .before in
     let j = laid .before .before .before .before .before .before .before .before .before .before .args .judged in
-    let l = laid .lay-out .result in
-    let lays = laid .lay-out .ensures m ts w (p .grammar) (sizes w m j p .regions) (few w m j p) (is-keep w m j p) in
-    let resolves = resolved .resolve .ensures ts w (p .counts) o in
-    let links = linked .link-braces .ensures (lexemes ts) (kinds-held w m j p) (resolved-long w m j p _ resolves)
-    (few-lexemes w m j p) in
-    let f = filling w m j p l _ _ lays resolves links in
-    loads w m j p l _ _ _ _ f (placed .place-of .ensures) (filled .fill .ensures m (lexemes ts) f l₁ l₂ l₃)
+    let l = laid .lay-out .result in (
+      λ ts m w p o l₁ l₂ l₃.
+          let lays = laid .lay-out .ensures m ts w (p .grammar) (sizes w m j p .regions) (few w m j p) (is-keep w m j p)
+          in
+          let resolves = resolved .resolve .ensures ts w (p .counts) o in
+          let links = linked .link-braces .ensures (lexemes ts) (kinds-held w m j p) (resolved-long w m j p _ resolves)
+          (few-lexemes w m j p) in
+          let f = filling w m j p l _ _ lays resolves links in
+          loads w m j p l _ _ _ _ f (placed .place-of .ensures) (filled .fill .ensures .0 m (lexemes ts) f l₁ l₂ l₃),
+      filled .fill .ensures .1,
+    )
 
 pub load-judged-spec : {M : Type 1} → statement M
 load-judged-spec =

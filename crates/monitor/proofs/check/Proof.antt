@@ -5,7 +5,7 @@ use Rattle.monitor.proofs.check.Statement.{statement}
 use Rattle.monitor.proofs.check.Tie as tie
 
 returns : tie.Need-returns
-returns c = c .before .before .before .before .load .ensures (long 4096 0) (long 4096 0) (long 65536 0) .verdict
+returns c = c .before .before .before .before .load .ensures .0 (long 4096 0) (long 4096 0) (long 65536 0) .verdict
 
 pub check-spec : {M : Type 1} → statement M
 check-spec =

@@ -8,7 +8,7 @@ use Rattle.monitor.proofs.place.Tie as tie
 
 returns : tie.Need-returns
 returns c =
-    not-placed (c .before .before .before .before .before .before .load .ensures (long 4096 0) (long 4096 0)
+    not-placed (c .before .before .before .before .before .before .load .ensures .0 (long 4096 0) (long 4096 0)
     (long 65536 0)) _ (c .if1 .taken)
 
 returns-2 : tie.Need-returns-2
@@ -16,7 +16,7 @@ returns-2 c =
     let w = c .before .before .before .before .before in
     let e = w .before .before .before in
     let i = e .before .before .before .before .before in
-    let loads = i .before .before .before .before .before .before .load .ensures (long 4096 0) (long 4096 0)
+    let loads = i .before .before .before .before .before .before .load .ensures .0 (long 4096 0) (long 4096 0)
     (long 65536 0) in
     too-short loads (i .if1 .left) _ (e .entries-of .ensures _ loads) (w .write-table .ensures) _ (c .say .ensures)
     (c .before .enum-told .given .1)
@@ -26,7 +26,7 @@ returns-3 c =
     let w = c .before .before .before .before .before in
     let e = w .before .before .before in
     let i = e .before .before .before .before .before in
-    let loads = i .before .before .before .before .before .before .load .ensures (long 4096 0) (long 4096 0)
+    let loads = i .before .before .before .before .before .before .load .ensures .0 (long 4096 0) (long 4096 0)
     (long 65536 0) in
     placed loads (i .if1 .left) _ (e .entries-of .ensures _ loads) (w .write-table .ensures) _ (c .before .n .given .1)
 

@@ -7,7 +7,7 @@ use Rattle.monitor.proofs.run.Tie as tie
 returns : tie.Need-returns
 returns c =
     let e = c .before .before .before .before .before in
-    let loads = e .before .before .before .before .before .before .before .load .ensures (long 4096 0) (long 4096 0)
+    let loads = e .before .before .before .before .before .before .before .load .ensures .0 (long 4096 0) (long 4096 0)
     (long 65536 0) in
     c .run-loaded .ensures _ loads (e .entries-of .ensures _ loads)
 

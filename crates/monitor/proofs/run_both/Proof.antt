@@ -6,7 +6,7 @@ use Rattle.monitor.proofs.run_both.Tie as tie
 
 returns : tie.Need-returns
 returns c =
-    c .both-loaded .ensures _ (c .before .before .before .before .before .before .before .load .ensures (long 4096 0)
+    c .both-loaded .ensures _ (c .before .before .before .before .before .before .before .load .ensures .0 (long 4096 0)
     (long 4096 0) (long 65536 0))
 
 pub run-both-spec : {M : Type 1} → statement M
