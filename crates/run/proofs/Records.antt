@@ -173,16 +173,19 @@ module _ (m : Monitor) (table : Bool) (s : ℕ) (bytes : List ℕ) (r : Running)
         (sym (from-kept m (machineOf table) s bytes k ∙ ap (runFrames m (machineOf table) s) read
         ∙ ap (runningOf m) list-ends)) h
 
-    module _ (e : Ended) (ends : EndsAs e end) where
+    abbrev runs : List machine.Frame → Run
+    runs = run (model m) (toldOn (model m) table) 0 (allIdle s)
+
+    module _ (e : Ended) (ends : EndsAs runs fs e end) where
       -- a refusal
       pub ran-refused : (e .number ≡ 0 → ⊥) → Runs (not-run (answer (e .number) (e .frame) 0)) r → Ran
       unfolding EndsAs runningOf
       ran-refused other h = by-end (go end ends)
         where
-          go : (x : Run) → EndsAs e x → Runs (runningOf m x) r
-          go (accepted c) p = absurd (other (p .0))
-          go (stopped a j) p = subst (λ (n : ℕ). Runs (not-run (answer n j 0)) r) (p .0)
-              (subst (λ (i : ℕ). Runs (not-run (answer (e .number) i 0)) r) (p .1) h)
+          go : (x : Run) → EndsAs runs fs e x → Runs (runningOf m x) r
+          go (accepted c) p = absurd (other (p .number))
+          go (stopped a j) p = subst (λ (n : ℕ). Runs (not-run (answer n j 0)) r) (p .number)
+              (subst (λ (i : ℕ). Runs (not-run (answer (e .number) i 0)) r) (p .frame) h)
 
       -- an end
       pub ran-accepted : Checked (model m) → e .number ≡ 0
@@ -191,11 +194,11 @@ module _ (m : Monitor) (table : Bool) (s : ℕ) (bytes : List ℕ) (r : Running)
       unfolding EndsAs model
       ran-accepted ok zero-number h = by-end (go end refl ends)
         where
-          go : (x : Run) → end ≡ x → EndsAs e x → Runs (runningOf m x) r
+          go : (x : Run) → end ≡ x → EndsAs runs fs e x → Runs (runningOf m x) r
           go (accepted c) q p =
-              h c (p .1)
+              h c (p .shows)
               (kept-below m (c .state) (run-reached m ok s k fs (machineOf table) c (list-ends ∙ q) .is-kept))
           go (stopped a j) q p =
               let w = run-stops m (machineOf table) s fs a j (list-ends ∙ q) in
-              let same = p .0 in
+              let same = p .number in
               absurd (omega arith)

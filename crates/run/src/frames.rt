@@ -14,7 +14,8 @@ ghost use Rattle.meaning.specs.Decide.Frames.{framesOf, frames};
 ghost use Rattle.stepper.specs.Shown.{toldOn};
 ghost use Rattle.run.specs.Ended.{EndsAs};
 
-// The refusal's number and the frame, or 0 and the count of frames; and the run up to there.
+// The refusal's number and the frame, or 0 and the count of frames; and the run up to there: of a frame that is refused
+// the point before it.
 pub struct Ended {
     pub number: u8,
     pub frame: usize,
@@ -42,7 +43,7 @@ pub fn run_trace(
         → HeldPlaces m (now (begins .entry)) (now («goes_on» .entry))
         → (table ≡ true → HeldEntries m (now (entries .entry)))
         → Checked m → m .kept state ≡ true → framesOf (now (bytes .entry)) ≡ frames fs
-        → EndsAs r (step.run m (toldOn m table) 0 (allIdle state) fs)) ⌝ }
+        → (let runs = step.run m (toldOn m table) 0 (allIdle state) in EndsAs runs fs r (runs fs))) ⌝ }
 {
     let mut run = stepper::start(state);
     let mut k: usize = 0;

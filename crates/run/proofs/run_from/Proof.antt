@@ -11,16 +11,14 @@ use mathlib.Core.List.{List}
 use lib.ListN.{length}
 use denote.Ref.{now}
 use Rattle.syntax.specs.Tree.{Monitor}
-use Rattle.machine.specs.Monitor.{Frame, allIdle}
-use Rattle.machine.specs.Decide.Step.{run}
+use Rattle.machine.specs.Monitor.{Frame}
 use Rattle.machine.specs.Agreement.{Checked}
 use Rattle.machine.specs.Held.{Held, HeldPlaces, HeldEntries}
 use Rattle.meaning.specs.Model.{vars, regions, kept, model}
 use Rattle.meaning.specs.State.{count}
 use Rattle.meaning.specs.Decide.Frames.{framesOf, frames}
 use Rattle.meaning.specs.Decide.Calls.{runningOf}
-use Rattle.stepper.specs.Shown.{toldOn}
-use Rattle.run.specs.Ended.{EndsAs}
+use Rattle.run.proofs.FrameByFrame.{Ends}
 use Rattle.variables.specs.Bounded.{Bounded}
 use Rattle.trace.proofs.FramesAt.{counted-frames, counted-bad}
 use Rattle.run.specs.Results.{Runs}
@@ -104,7 +102,7 @@ facts : (c : tie.After-run-trace) →
     → HeldPlaces (model m) (a .layout .begins) (a .layout .«goes_on»)
     → (a .table ≡ true → HeldEntries (model m) (now (a .entries))) → Checked (model m)
     → (fs : List Frame) × (kept m (a .start) ≡ true) × (framesOf (now (a .bytes)) ≡ frames fs)
-    × EndsAs (c .run-trace .result) (run (model m) (toldOn (model m) (a .table)) 0 (allIdle (a .start)) fs)
+    × Ends (model m) (a .table) (a .start) fs (c .run-trace .result)
 unfolding model
 facts c m b n h p t ok =
     let y = c .before .before .before .before .before .before .before in

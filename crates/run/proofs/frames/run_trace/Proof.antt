@@ -56,7 +56,7 @@ facts c m kept fs x =
 returns : tie.Need-returns Inv-loop μ-loop
 returns c = for-asked _ _ _ _ _ _ _ _ _ _ _
     (λ m kept fs a. ends-refused m _ _ fs _ _ _ (facts (c .before .before .before) m kept fs a) (c .if1 .taken) _ refl
-    refl)
+    refl refl)
 
 add-k : tie.Need-add-k Inv-loop μ-loop
 add-k c = omega arith
@@ -78,7 +78,8 @@ returns-2 : tie.Need-returns-2 Inv-loop μ-loop
 returns-2 c =
     let l = c .before .loop in
     for-asked _ _ _ _ _ _ _ _ _ _ _
-    (λ m kept fs a. ends-accepted m _ _ _ fs _ (l .k) (l .inv .1 m kept fs a) (a .read) (omega arith) _ refl refl)
+    (λ m kept fs a. ends-accepted m _ _ _ fs _ (l .k) (l .inv .1 m kept fs a) (a .read) (omega arith) _ refl refl
+    refl)
 
 pub run-trace-spec : {M : Type 1} → statement M
 run-trace-spec =
