@@ -29,7 +29,7 @@ use Rattle.run.specs.declared.Running.{Running}
 use Rattle.monitor.specs.Results.{Places, startOf}
 use Rattle.monitor.specs.declared.Placing.{Placing}
 use Rattle.digits.specs.Written.{over, Writes}
-use Rattle.lines.specs.Written.{heldLine, PutsLine}
+use Rattle.lines.specs.Written.{Fits, heldLine, PutsLine}
 use Rattle.lines.proofs.Writing.{held-line}
 use Rattle.digits.proofs.Writing.{written-length, written-more}
 use Rattle.output.specs.Printed.{Prints, outputBytes}
@@ -108,8 +108,9 @@ module _ (r : Running) {before after : List ℕ} {at n : ℕ} (room : at + 47 �
   unfolding Runs RunFits runLine
   record-written z put (ran rec) s f =
       let held = s .1 in
-      rw held-line (record { counted = held .vars; held = held .values; places = held .places; digits = f }) at
-      (put .written (omega (arith, held .vars, f .few), omega (arith, held .vars, f .few)))
+      let fits : Fits rec (r .record .vars) (r .record .values) (r .record .threads) =
+      record { counted = held .vars; held = held .values; places = held .places; digits = f } in
+      rw (held-line fits) at (put .written (omega (arith, held .vars, f .few), omega (arith, held .vars, f .few)))
   record-written z put (refused-file a) s f = absurd (omega (arith, s .0 .number, f .refuses))
   record-written z put (not-run a) s f = absurd (omega (arith, s .0 .number, f .refuses))
 
