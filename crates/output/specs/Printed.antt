@@ -8,16 +8,13 @@ use lib.ListN.{length, take, drop}
 abbrev pub outputBytes : ℕ
 outputBytes = 4096
 
--- the bytes of a buffer into which a file is read, one more than a file may have; and of one that most traces fit
-abbrev pub fileBytes : ℕ
-fileBytes = 8193
-
+-- the bytes of a buffer that most traces fit
 abbrev pub shortBytes : ℕ
 shortBytes = 4096
 
--- at a buffer's start stand the first bytes of what was handed in, at most so many: all of it, or as many as fit
-pub record Read (most : ℕ) (handed : List ℕ) (count : ℕ) (buffer : List ℕ) : Type 0 where
-  pub bytes : take most handed ≡ take count buffer
+-- so many bytes at a buffer's start are what was handed in: all of it, or as many as the buffer has
+pub record Read (handed : List ℕ) (count : ℕ) (buffer : List ℕ) : Type 0 where
+  pub bytes : take (length buffer) handed ≡ take count buffer
 
 -- the lines stand from byte 0 on, the bytes behind them are as they were, and the count is theirs
 pub record Prints (lines before : List ℕ) (n : ℕ) (after : List ℕ) : Type 0 where

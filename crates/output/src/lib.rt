@@ -12,7 +12,7 @@ ghost use Rattle.demands.specs.Demand1.{NeverEleven};
 ghost use Rattle.demands.specs.Widths.{RunFits};
 ghost use Rattle.run.specs.Results.{Runs};
 ghost use Rattle.digits.specs.Written.{Writes};
-ghost use Rattle.output.specs.Printed.{Prints, Read, outputBytes, fileBytes, shortBytes};
+ghost use Rattle.output.specs.Printed.{Prints, Read, outputBytes, shortBytes};
 
 // The bytes of a buffer that has room for all that the programs print.
 pub const OUTPUT_BYTES: usize = 4096;
@@ -47,7 +47,7 @@ pub fn runner_lines(file: &[u8], trace: &[u8], out: &mut [u8; OUTPUT_BYTES]) -> 
 // as the buffer takes.
 pub fn placer_read(file: &[u8; FILE_BYTES], count: usize, out: &mut [u8; OUTPUT_BYTES]) -> usize
     ensures { λ r. ⌜ Counts r (now (out .exit)) ⌝ }
-    ensures { λ r. ⌜ ((handed : List ℕ) → Read fileBytes handed count (now (file .entry))
+    ensures { λ r. ⌜ ((handed : List ℕ) → Read handed count (now (file .entry))
         → Prints (placer handed) (now (out .entry)) r (now (out .exit))) ⌝ }
 {
     put_table(front(file, count), out)
@@ -63,8 +63,8 @@ pub fn runner_short(
     out: &mut [u8; OUTPUT_BYTES],
 ) -> usize
     ensures { λ r. ⌜ Counts r (now (out .exit)) ⌝ }
-    ensures { λ r. ⌜ ((handed frames : List ℕ) → Read fileBytes handed count (now (file .entry))
-        → Read shortBytes frames begun (now (trace .entry)) → begun < shortBytes
+    ensures { λ r. ⌜ ((handed frames : List ℕ) → Read handed count (now (file .entry))
+        → Read frames begun (now (trace .entry)) → begun < shortBytes
         → Prints (runner handed frames) (now (out .entry)) r (now (out .exit))) ⌝ }
     ensures { λ r. ⌜ (shortBytes ≤ begun → (r ≡ 0) × (now (out .exit) ≡ now (out .entry))) ⌝ }
 {
@@ -83,8 +83,8 @@ pub fn runner_read(
     out: &mut [u8; OUTPUT_BYTES],
 ) -> usize
     ensures { λ r. ⌜ Counts r (now (out .exit)) ⌝ }
-    ensures { λ r. ⌜ ((handed frames : List ℕ) → Read fileBytes handed count (now (file .entry))
-        → Read traceBytes frames end (now (trace .entry))
+    ensures { λ r. ⌜ ((handed frames : List ℕ) → Read handed count (now (file .entry))
+        → Read frames end (now (trace .entry))
         → Prints (runner handed frames) (now (out .entry)) r (now (out .exit))) ⌝ }
 {
     put_runs(front(file, count), front(trace, end), out)

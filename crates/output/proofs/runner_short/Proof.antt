@@ -22,7 +22,7 @@ returns-2 c =
       counted p,
       (
         λ handed frames r q h.
-            both-parts r frames _ (λ file. ap (runner file) (short-whole q h (omega arith)))
+            both-parts r (omega arith) frames _ (λ file. ap (runner file) (short-whole q (omega arith)))
             (rw (f .front .ensures, t .front2 .ensures) at p),
         λ h. absurd (omega arith),
       ),
