@@ -7,8 +7,8 @@ use Rattle.monitor.proofs.start_state.Tie as tie
 
 returns : tie.Need-returns
 returns c =
-    starts _ (c .start-of .ensures _ _ _ _ (c .before .before .before .before .load .ensures .0 (long 4096 0) (long 4096 0)
-    (long 65536 0)))
+    starts _ (c .start-of .ensures _ _ _ _ (c .before .before .before .before .load .ensures .0 (long 4096 0)
+    (long 4096 0) (long 65536 0)))
 
 pub start-state-spec : {M : Type 1} → statement M
 start-state-spec =
