@@ -12,7 +12,7 @@ returns : tie.Need-returns
 returns c =
     let g = c .before .before .before .before in (
       λ ts w l₁ l₂ l₃. loads-judged _ ts (g .judge .result) (c .not-loaded .result) _ _ _ (c .not-loaded .ensures)
-          (c .before .if1 .taken) (g .judge .ensures ts w),
+          (λ zero. omega (arith, c .before .if1 .taken)) (g .judge .ensures ts w),
       left-all _ _ _ _,
     )
 
@@ -21,7 +21,7 @@ returns-2 c =
     let g = c .before .before .before .before .before in
     let j = g .judge .result in (
       λ ts w l₁ l₂ l₃.
-          let (m, p) = judged-tree _ ts j (c .before .before .if1 .left) (g .judge .ensures ts w) in
+          let (m, p) = judged-tree _ ts j (omega (arith, c .before .before .if1 .left)) (g .judge .ensures ts w) in
           absurd (omega (arith, c .before .if2 .taken, kinds-long w m j p, few w m j p)),
       left-all _ _ _ _,
     )
@@ -36,7 +36,7 @@ returns-3 c =
     let g = e .before .before .before .before in
     let j = g .judge .result in (
       λ ts w l₁ l₂ l₃.
-          let (m, p) = judged-tree _ ts j (e .before .if1 .left) (g .judge .ensures ts w) in
+          let (m, p) = judged-tree _ ts j (omega (arith, e .before .if1 .left)) (g .judge .ensures ts w) in
           k .load-judged .ensures .0 ts m w p (length-take-le _ _ (e .if2 .left) ∙ kinds-long w m j p) l₁ l₂ l₃,
       k .load-judged .ensures .1,
     )

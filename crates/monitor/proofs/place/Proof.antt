@@ -1,5 +1,6 @@
 -- `monitor::place` meets its contract: a refused file is answered as it was loaded, an accepted one by what writing its
 -- table says.
+use native.Mathlib.Omega.{arith}
 use borrow.Author.Needs.{needs}
 use Rattle.monitor.proofs.Loaded.{long}
 use Rattle.monitor.proofs.Places.{not-placed, too-short, placed}
@@ -9,7 +10,7 @@ use Rattle.monitor.proofs.place.Tie as tie
 returns : tie.Need-returns
 returns c =
     not-placed (c .before .before .before .before .before .before .load .ensures .0 (long 4096 0) (long 4096 0)
-    (long 65536 0)) _ (c .if1 .taken)
+    (long 65536 0)) _ (λ zero. omega (arith, c .if1 .taken))
 
 returns-2 : tie.Need-returns-2
 returns-2 c =
@@ -18,8 +19,8 @@ returns-2 c =
     let i = e .before .before .before .before .before in
     let loads = i .before .before .before .before .before .before .load .ensures .0 (long 4096 0) (long 4096 0)
     (long 65536 0) in
-    too-short loads (i .if1 .left) _ (e .entries-of .ensures _ loads) (w .write-table .ensures) _ (c .say .ensures)
-    (c .before .enum-told .given .1)
+    too-short loads (omega (arith, i .if1 .left)) _ (e .entries-of .ensures _ loads) (w .write-table .ensures) _
+    (c .say .ensures) (c .before .enum-told .given .1)
 
 returns-3 : tie.Need-returns-3
 returns-3 c =
@@ -28,7 +29,8 @@ returns-3 c =
     let i = e .before .before .before .before .before in
     let loads = i .before .before .before .before .before .before .load .ensures .0 (long 4096 0) (long 4096 0)
     (long 65536 0) in
-    placed loads (i .if1 .left) _ (e .entries-of .ensures _ loads) (w .write-table .ensures) _ (c .before .n .given .1)
+    placed loads (omega (arith, i .if1 .left)) _ (e .entries-of .ensures _ loads) (w .write-table .ensures) _
+    (c .before .n .given .1)
 
 pub place-spec : {M : Type 1} → statement M
 place-spec =
