@@ -1,0 +1,6 @@
+//! What the gate runs beside the kit. A command says whether all is as it should be, or
+//! why it could not be done.
+
+pub mod believe;
+pub mod edits;
+mod files;
