@@ -1,7 +1,12 @@
-//! Files, with their names in what is said of a failure.
+//! Files, with their names in what is said of a failure, and directories that are removed again.
 
 use std::path::{Path, PathBuf};
-use std::{fs, io};
+use std::sync::atomic::{AtomicUsize, Ordering};
+use std::{env, fs, io, process};
+
+pub fn read(path: &Path) -> io::Result<Vec<u8>> {
+    fs::read(path).map_err(|error| at(path, error))
+}
 
 pub fn read_text(path: &Path) -> io::Result<String> {
     fs::read_to_string(path).map_err(|error| at(path, error))
@@ -27,4 +32,30 @@ pub fn children(directory: &Path) -> io::Result<Vec<PathBuf>> {
     }
     paths.sort();
     Ok(paths)
+}
+
+/// A new directory, removed with all that it holds when it is dropped.
+pub struct Scratch {
+    pub at: PathBuf,
+}
+
+impl Scratch {
+    pub fn new() -> io::Result<Scratch> {
+        static COUNT: AtomicUsize = AtomicUsize::new(0);
+        loop {
+            let number = COUNT.fetch_add(1, Ordering::Relaxed);
+            let at = env::temp_dir().join(format!("gate-{}-{number}", process::id()));
+            match fs::create_dir(&at) {
+                Ok(()) => return Ok(Scratch { at }),
+                Err(error) if error.kind() == io::ErrorKind::AlreadyExists => continue,
+                Err(error) => return Err(self::at(&at, error)),
+            }
+        }
+    }
+}
+
+impl Drop for Scratch {
+    fn drop(&mut self) {
+        let _ = fs::remove_dir_all(&self.at);
+    }
 }

@@ -4,3 +4,6 @@
 pub mod believe;
 pub mod edits;
 mod files;
+pub mod replay_data;
+mod second;
+pub mod system;

@@ -4,16 +4,20 @@ use std::path::PathBuf;
 use std::process::ExitCode;
 use std::{env, io};
 
-use gate::{believe, edits};
+use gate::{believe, edits, replay_data, system};
 
 const USAGE: &str = "usage:
   gate edits
-  gate believe [--write]";
+  gate believe [--write]
+  gate replay-data [SEED] [COUNT] [HOSTILE] [TO]
+  gate replay-data --check";
 
 fn main() -> ExitCode {
     let arguments: Vec<String> = env::args().skip(1).collect();
     let arguments: Vec<&str> = arguments.iter().map(String::as_str).collect();
-    match run(&arguments) {
+    let done = run(&arguments);
+    system::end_if_interrupted();
+    match done {
         Ok(true) => ExitCode::SUCCESS,
         Ok(false) => ExitCode::FAILURE,
         Err(error) => {
@@ -27,6 +31,7 @@ fn run(arguments: &[&str]) -> io::Result<bool> {
     match arguments {
         ["edits"] => edits::edits(&root()?),
         ["believe", rest @ ..] => believe::believe(&root()?, rest),
+        ["replay-data", rest @ ..] => replay_data::replay_data(&root()?, rest),
         _ => Err(io::Error::other(USAGE)),
     }
 }

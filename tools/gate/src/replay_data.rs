@@ -1,0 +1,153 @@
+//! Makes what the program `replay` is run on: the bench examples of document 01, cases of the
+//! second program, and hostile input.
+//!
+//! TO/data/cases.bin has for each case the lengths of a monitor file and a trace, four bytes each,
+//! the lowest first, then both; TO/stdout what the second program prints for each as placer and
+//! then as runner.
+
+use std::path::{Path, PathBuf};
+use std::{fs, io};
+
+use crate::files::{children, read, write, Scratch};
+use crate::second::Second;
+use crate::system::clean_up_first;
+
+const USAGE: &str = "\
+usage: tools/replay-data [SEED] [COUNT] [HOSTILE] [TO]
+       tools/replay-data --check";
+
+/// What replay reads.
+const MOST_CASES: usize = 1000;
+const MOST_FILE: usize = 9000;
+const MOST_TRACE: usize = 65536;
+
+/// So many hostile traces may be long.
+const LONG: u64 = 10000;
+const MOST_LONG: usize = 3;
+
+const BOX: &str = "monitor box { var full = 0 in 0..1; keep true; \
+                   method put { waituntil (full == 0) { full := 1; } } \
+                   method get { waituntil (full == 1) { full := 0; } } }";
+
+const EQUAL: &str = "monitor m { var x = 0 in 0..63; var y = 0 in 0..63; keep true; \
+                     method a { waituntil (x == y) { if (x < 63) { x := x + 1; } } } }";
+
+pub fn replay_data(root: &Path, arguments: &[&str]) -> io::Result<bool> {
+    let is_check = arguments == ["--check"];
+    let given = if is_check { &[] } else { arguments };
+    if given.len() > 4 {
+        return Err(io::Error::other(USAGE));
+    }
+    let or = |at: usize, usual| given.get(at).copied().unwrap_or(usual);
+    let to = given.get(3).map_or(root.join("crates/replay"), PathBuf::from);
+    clean_up_first();
+    let second = Second::built(root)?;
+    let made = Made::by(&second, or(0, "31"), or(1, "300"), or(2, "600"))?;
+    for (name, bytes) in [("data/cases.bin", &made.data), ("stdout", &made.told)] {
+        let path = to.join(name);
+        if !is_check {
+            fs::create_dir_all(path.parent().expect("in a directory"))?;
+            write(&path, bytes)?;
+        } else if read(&path)? != *bytes {
+            let name = path.strip_prefix(root).unwrap_or(&path).display();
+            let what = "is not what the second program makes: run tools/replay-data";
+            return Err(io::Error::other(format!("replay-data: {name} {what}")));
+        }
+    }
+    println!("replay-data: {} cases, {} bytes", made.cases, made.data.len());
+    Ok(true)
+}
+
+/// Both files of replay.
+struct Made {
+    cases: usize,
+    data: Vec<u8>,
+    told: Vec<u8>,
+}
+
+impl Made {
+    /// From the bench examples and so many cases, or neither if there are to be 0, and from the
+    /// first hostile inputs.
+    fn by(second: &Second, seed: &str, count: &str, hostile: &str) -> io::Result<Made> {
+        let scratch = Scratch::new()?;
+        let [bench, drawn, damaged] =
+            ["bench", "cases", "hostile"].map(|name| scratch.at.join(name));
+        if count != "0" {
+            write_bench(second, &bench)?;
+        }
+        second.write("cases", seed, count, &drawn)?;
+        second.write("hostile-cases", seed, hostile, &damaged)?;
+        let cases = [children(&bench)?, children(&drawn)?, few_long(&damaged)?].concat();
+        if cases.len() > MOST_CASES {
+            let count = cases.len();
+            let what = format!("replay-data: {count} cases, and replay reads {MOST_CASES}");
+            return Err(io::Error::other(what));
+        }
+        let mut made = Made { cases: cases.len(), data: Vec::new(), told: Vec::new() };
+        for case in &cases {
+            made.add(case)?;
+        }
+        Ok(made)
+    }
+
+    fn add(&mut self, case: &Path) -> io::Result<()> {
+        // A longer file gets 1 all the same, and runner judges a longer trace by its first bytes.
+        let (mut file, mut trace) =
+            (read(&case.join("monitor.txt"))?, read(&case.join("trace.txt"))?);
+        file.truncate(MOST_FILE);
+        trace.truncate(MOST_TRACE);
+        for bytes in [&file, &trace] {
+            self.data.extend((bytes.len() as u32).to_le_bytes());
+        }
+        self.data.extend(file);
+        self.data.extend(trace);
+        self.told.extend(read(&case.join("placer.txt"))?);
+        self.told.extend(read(&case.join("runner.txt"))?);
+        Ok(())
+    }
+}
+
+/// The hostile inputs without most of the long ones.
+fn few_long(directory: &Path) -> io::Result<Vec<PathBuf>> {
+    let mut cases = Vec::new();
+    let mut long = 0;
+    for case in children(directory)? {
+        let is_long = fs::metadata(case.join("trace.txt"))?.len() > LONG;
+        long += usize::from(is_long);
+        if !is_long || long <= MOST_LONG {
+            cases.push(case);
+        }
+    }
+    Ok(cases)
+}
+
+/// Writes the bench examples as cases.
+fn write_bench(second: &Second, directory: &Path) -> io::Result<()> {
+    for (number, (file, trace)) in bench().iter().enumerate() {
+        let at = directory.join(format!("{number:02}"));
+        fs::create_dir_all(&at)?;
+        write(&at.join("monitor.txt"), file.as_bytes())?;
+        write(&at.join("trace.txt"), trace.as_bytes())?;
+        write(&at.join("placer.txt"), &second.placer(&at.join("monitor.txt"))?)?;
+        write(&at.join("runner.txt"), &second.runner(&at)?)?;
+    }
+    Ok(())
+}
+
+/// The bench examples: a file and a trace each.
+fn bench() -> Vec<(String, &'static str)> {
+    vec![
+        (BOX.into(), ""),
+        (BOX.into(), "000100\n010001\n000101\n"),
+        (BOX.into(), "000100\n000101\n"),
+        (BOX.into(), "000100\n000100\n"),
+        (BOX.into(), "010100\n000100\n020001\n010101\n"),
+        (BOX.into(), "000100\n010001\n020101\n000100\n"),
+        (BOX.into(), "000100\n010100\n020001\n030101\n010100\n"),
+        (String::new(), ""),
+        ("monitor m".into(), ""),
+        (" ".repeat(8193), ""),
+        (BOX.replace("keep true", "keep full == 1"), ""),
+        (EQUAL.into(), "000001\n000001\n"),
+    ]
+}
