@@ -4,6 +4,8 @@
 pub mod believe;
 pub mod edits;
 mod files;
+pub mod programs;
 pub mod replay_data;
 mod second;
+pub mod slip;
 pub mod system;
