@@ -3,7 +3,7 @@
 
 pub mod believe;
 pub mod edits;
-mod files;
+pub mod files;
 pub mod programs;
 pub mod replay_data;
 mod second;

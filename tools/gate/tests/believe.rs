@@ -1,9 +1,9 @@
 //! The page of what to believe, as it is read and mended.
 
 use std::fs;
-use std::path::Path;
 
 use gate::believe::{believe, grouped, row, totals, Row};
+use gate::files::Scratch;
 
 #[test]
 fn rows_are_read() {
@@ -25,18 +25,19 @@ fn totals_are_found() {
 
 #[test]
 fn a_damaged_page_is_found_and_mended() {
-    let root = Path::new(env!("CARGO_TARGET_TMPDIR")).join("believe");
-    let _ = fs::remove_dir_all(&root);
+    // Outside of the repository, in which `rt` refuses an .antt file that no crate has.
+    let scratch = Scratch::new().unwrap();
+    let root = &scratch.at;
     for directory in ["docs", "crates/syntax/specs/Decide"] {
         fs::create_dir_all(root.join(directory)).unwrap();
     }
     let put = |name: &str, text: &str| fs::write(root.join(name), text).unwrap();
-    let is_good = || believe(&root, &[]).unwrap();
+    let is_good = || believe(root, &[]).unwrap();
     put("crates/syntax/specs/A.antt", "use b\n\nx\n  use c\n");
     put("crates/syntax/specs/Decide/A.antt", "x\n");
     put("docs/BELIEVE.md", "**1 lines** in all\n| `crates/syntax/specs/A.antt` | 9 |\n");
     assert!(!is_good());
-    assert!(believe(&root, &["--write"]).unwrap());
+    assert!(believe(root, &["--write"]).unwrap());
     let page = "**2 lines** in all\n| `crates/syntax/specs/A.antt` | 2 |\n";
     assert_eq!(fs::read_to_string(root.join("docs/BELIEVE.md")).unwrap(), page);
     assert!(is_good());
