@@ -27,7 +27,8 @@ use Rattle.meaning.proofs.Verdicts.{refusal-number, accepted-iff, refused-iff, 
 use Rattle.meaning.proofs.ModelLaws.{startable-iff}
 use Rattle.meaning.proofs.StateLaws.{starts-state, number-below, state-at-number}
 use Rattle.machine.proofs.RulesDecided.{refuses-number}
-use Rattle.demands.specs.Demand1.{PlacesAs, file-refused, too-short, placed, RunsAs, no-monitor, no-start, bad-line, frame-refused, all-allowed, NeverEleven, Demand1}
+use Rattle.demands.specs.Demand1.{PlacesAs, file-refused, too-short, placed, RunsAs, no-monitor, no-start}
+use Rattle.demands.specs.Demand1.{bad-line, frame-refused, all-allowed, NeverEleven, Demand1}
 use Rattle.demands.proofs.Demand2.{follows-rules}
 use Rattle.meaning.proofs.Written.{written-short, written-fits}
 

@@ -38,7 +38,8 @@ pub fn read_on(fd: i32, buf: &mut [u8], from: usize) -> Got
 // One read behind the first `at` bytes of the buffer; where it fails or the input has ended, no more are counted.
 fn read_part(fd: i32, buf: &mut [u8], at: usize) -> Got
     requires { ⌜ at ≤ length (now buf) ⌝ }
-    ensures { λ r. ⌜ (r .count ≤ length (now (buf .exit))) × Keeps at (now (buf .entry)) (r .count) (now (buf .exit)) ⌝ }
+    ensures { λ r. ⌜ (r .count ≤ length (now (buf .exit)))
+        × Keeps at (now (buf .entry)) (r .count) (now (buf .exit)) ⌝ }
 {
     let got = libc::read(fd, &mut buf[at..]);
     Got {

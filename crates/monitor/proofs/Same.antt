@@ -1,26 +1,23 @@
 -- Demand 3 of the results of a call: from what each says of its run, and demand 3 of the runs.
-use Prim.Native.Nat.{ℕ, _≤_, _<_}
+use Prim.Native.Nat.{ℕ, _<_}
 use native.Mathlib.Omega.{arith}
-use mathlib.Core.Path.{_≡_, refl, sym, ap, _∙_}
-use mathlib.Core.Bool.{true, false}
+use mathlib.Core.Path.{_≡_, sym, ap, _∙_}
 use mathlib.Core.Logic.{inl, inr, ⊎-elim}
-use mathlib.Core.List.{List, map}
+use mathlib.Core.List.{List}
 use lib.ListN.{length, getD}
 use lib.Dec.{ltb}
-use lib.IntN.{ℤ, pos, natAbs, _+ℤ_, _-ℤ_, -ℤ-+ℤ-cancel}
+use lib.IntN.{ℤ, pos, natAbs, _+ℤ_, -ℤ-+ℤ-cancel}
 use borrow.Author.Tests.{ltb-true, ltb-false}
 use Rattle.logic.proofs.Bools.{split}
 use Rattle.syntax.specs.Limits.{mostVars}
-use Rattle.syntax.specs.Tree.{Monitor}
-use Rattle.stepper.specs.Shown.{placeOf}
 use Rattle.meaning.specs.Held.{Offset}
-use Rattle.meaning.specs.Answer.{Answer, answer, accepted}
+use Rattle.meaning.specs.Answer.{Answer, answer}
 use Rattle.meaning.specs.Decide.Check.{check}
-use Rattle.meaning.specs.Calls.{plain-machine, table-machine, Startable, Running, ran, refused-file, not-run}
+use Rattle.meaning.specs.Calls.{plain-machine, table-machine, Running, ran, refused-file, not-run}
 use Rattle.meaning.specs.Calls as calls
 use Rattle.meaning.specs.Decide.Calls.{running}
 use Rattle.meaning.proofs.ModelLaws.{startable-iff}
-use Rattle.demands.specs.Demand3.{runAnswer, SameRunning}
+use Rattle.demands.specs.Demand3.{runAnswer}
 use Rattle.demands.proofs.Demand1.{start-counts}
 use Rattle.demands.proofs.Demand3.{demand-3, same-running, zero-iff-ran}
 use Rattle.answers.specs.Says.{Says}

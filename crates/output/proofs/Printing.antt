@@ -5,8 +5,8 @@ use native.Mathlib.Nat.{zero-add, mod-eq-of-lt}
 use mathlib.Core.Path.{_≡_, refl, sym, ap, _∙_, subst}
 use mathlib.Core.Bool.{true, false}
 use mathlib.Core.List.{List, _++_}
-use lib.ListN.{length, take, drop, length-append}
-use lib.Seq.{length-take-le, take-all, take-take}
+use lib.ListN.{length, drop, length-append}
+use lib.Seq.{length-take-le, take-all}
 use Rattle.syntax.specs.Limits.{mostVars}
 use Rattle.meaning.specs.Answer.{Answer, answer, Verdict, accepted, refused}
 use Rattle.meaning.specs.Decide.Check.{check}

@@ -1,9 +1,9 @@
 -- What was read stands for what was handed in: by how much of an input decides.
-use Prim.Native.Nat.{ℕ, _≤_, _<_}
+use Prim.Native.Nat.{ℕ, _<_}
 use native.Mathlib.Omega.{arith}
 use mathlib.Core.Path.{_≡_, sym, ap, subst, _∙_}
 use mathlib.Core.List.{List}
-use lib.ListN.{length, take, length-take}
+use lib.ListN.{length, take}
 use lib.Dec.{ltb}
 use lib.Seq.{length-take-le, take-all}
 use borrow.Author.Tests.{ltb-true, ltb-false}
@@ -49,4 +49,5 @@ short-whole {frames} {buffer} {n} r h =
 -- a trace that is read as far as it is judged
 pub long-judged : {frames buffer : List ℕ} {n : ℕ} → Read frames n buffer → length buffer ≡ traceBytes → (file : List ℕ)
     → runner file (take n buffer) ≡ runner file frames
-long-judged {frames} r size file = ap (runner file) (sym (r .bytes) ∙ ap (λ k. take k frames) size) ∙ runner-cut file frames
+long-judged {frames} r size file =
+    ap (runner file) (sym (r .bytes) ∙ ap (λ k. take k frames) size) ∙ runner-cut file frames

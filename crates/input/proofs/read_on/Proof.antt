@@ -1,7 +1,7 @@
 -- `input::read_on` meets its contract: each turn keeps what stands before its place, and the place moves on.
 use native.Mathlib.Omega.{arith}
-use Prim.Native.Nat.{ℕ, _-_, _≤_, _<_, min}
-use mathlib.Core.Path.{_≡_, refl, sym, ap, _∙_}
+use Prim.Native.Nat.{ℕ, _-_, _≤_, _<_}
+use mathlib.Core.Path.{refl, sym, ap, _∙_}
 use mathlib.Core.List.{List}
 use lib.ListN.{length, take}
 use lib.Seq.{take-take, length-take-le}
@@ -17,7 +17,8 @@ Inv-loop fd buf₀ from done₀ buf done = Keeps from buf₀ done buf × (done �
 abbrev μ-loop : tie.MeasureT-loop
 μ-loop fd buf₀ from done₀ buf done = length buf - done
 
-keeps-on : {from done n : ℕ} {a b c : List ℕ} → Keeps from a done b → done < length b → Keeps done b n c → Keeps from a n c
+keeps-on : {from done n : ℕ} {a b c : List ℕ} → Keeps from a done b → done < length b → Keeps done b n c
+    → Keeps from a n c
 keeps-on {from} {done} {n} {a} {b} {c} k h l =
     let less : from ≤ done = omega (arith, k .size, k .counted) in
     record {

@@ -15,7 +15,9 @@ returns c =
     let t = c .before .before in
     let f = t .before .before in (
       counted p,
-      λ handed frames r q. both-parts r (omega arith) frames _ (long-judged q (omega arith)) (rw (f .front .ensures, t .front2 .ensures) at p),
+      λ handed frames r q.
+          both-parts r (omega arith) frames _ (long-judged q (omega arith))
+          (rw (f .front .ensures, t .front2 .ensures) at p),
     )
 
 pub runner-read-spec : {M : Type 1} → statement M
