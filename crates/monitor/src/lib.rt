@@ -3,6 +3,7 @@
 // complete result for every input.
 use answers::Answer;
 use loader::Loaded;
+use run::Both;
 use run::Running;
 use table::Placed;
 ghost use mathlib.Core.Path.{_≡_};
@@ -19,12 +20,6 @@ ghost use Rattle.monitor.specs.Results.{Places, Agrees, EntriesOf, start
 pub struct Placing {
     pub answer: Answer,
     pub length: usize,
-}
-
-// The results of both machines on one trace.
-pub struct Both {
-    pub plain: Running,
-    pub table: Running,
 }
 
 // The verdict of a file: 0, or a refusal from 1 to 9 with its places.
@@ -108,45 +103,7 @@ fn start_of(loaded: Loaded) -> usize
     variables::number_of(bounds, starts)
 }
 
-// A run over what was loaded of a file: its refusal, or the run of the trace from a start state on a machine.
-fn run_loaded(
-    loaded: Loaded,
-    bytes: &[u8],
-    start: usize,
-    table: bool,
-    kept: &[u8; machine::STATES],
-    holds: &[u16; machine::STATES],
-    after: &[u16; machine::AFTER],
-    entries: &[u8; machine::ENTRIES],
-) -> Running
-    ensures { λ r. ⌜ ((file : List ℕ) → Loads file loaded (now (kept .entry)) (now (holds .entry)) (now (after .entry))
-        → EntriesOf file (now (entries .entry))
-        → Runs (calls.running file (now (bytes .entry)) start (machineOf table)) r) ⌝ }
-{
-    let verdict = loaded.answer;
-    if verdict.number != 0 {
-        return Running {
-            answer: verdict,
-            record: run::no_record(),
-            of_file: true,
-        };
-    }
-    let bounds = loaded.bounds;
-    let layout = loaded.layout;
-    run::run_from(
-        bounds,
-        layout,
-        bytes,
-        start,
-        table,
-        kept,
-        holds,
-        after,
-        entries,
-    )
-}
-
-// Both machines over what was loaded of a file; the table's entries are worked out once.
+// Both machines over what was loaded of a file: its refusal, or the runs of the trace from a start state.
 fn both_loaded(
     loaded: Loaded,
     bytes: &[u8],
@@ -158,25 +115,30 @@ fn both_loaded(
     ensures { λ r. ⌜ ((file : List ℕ) → Loads file loaded (now (kept .entry)) (now (holds .entry)) (now (after .entry))
         → Agrees file (now (bytes .entry)) start (r .plain) (r .table)) ⌝ }
 {
-    let entries = entries_of(loaded, kept, holds, after);
-    let plain = run_loaded(loaded, bytes, start, false, kept, holds, after, &entries);
-    let table = run_loaded(loaded, bytes, start, true, kept, holds, after, &entries);
-    Both {
-        plain: plain,
-        table: table,
+    let verdict = loaded.answer;
+    if verdict.number != 0 {
+        let refused = Running {
+            answer: verdict,
+            record: run::no_record(),
+            of_file: true,
+        };
+        return Both {
+            plain: refused,
+            table: refused,
+        };
     }
+    let entries = entries_of(loaded, kept, holds, after);
+    let bounds = loaded.bounds;
+    let layout = loaded.layout;
+    run::run_from(bounds, layout, bytes, start, kept, holds, after, &entries)
 }
 
 // A run of a trace from a start state on the plain machine or, where `table` is true, on the table's.
 pub fn run(file: &[u8], bytes: &[u8], start: usize, table: bool) -> Running
     ensures { λ r. ⌜ Runs (calls.running (now (file .entry)) (now (bytes .entry)) start (machineOf table)) r ⌝ }
 {
-    let mut kept = [0u8; machine::STATES];
-    let mut holds = [0u16; machine::STATES];
-    let mut after = [0u16; machine::AFTER];
-    let loaded = loader::load(file, &mut kept, &mut holds, &mut after);
-    let entries = entries_of(loaded, &kept, &holds, &after);
-    run_loaded(loaded, bytes, start, table, &kept, &holds, &after, &entries)
+    let both = run_both(file, bytes, start);
+    if table { both.table } else { both.plain }
 }
 
 // Both machines on one trace, from the same start state.

@@ -74,7 +74,7 @@ fn print_machine(machine: u8, file: &[u8], sheet: Sheet, frame: Frame, run: Run,
     args.place = reason.place;
     args.values = values;
     args.threads = threads;
-    args.notified = run.notified;
+    args.notified = run.plain;
     words::say(
         file,
         sheet,
@@ -155,7 +155,7 @@ fn print_step(
     print_parting(file, sheet, then_plain.number, then_table.number);
 }
 
-// A machine after a frame; one that has stopped stays as it is.
+// A machine after a frame; one that has stopped stays as it is. Its own notices stand for both in its record.
 fn step(
     machine: Machine,
     frame: Frame,
@@ -177,7 +177,6 @@ fn step(
     let out = stepper::step(
         run,
         frame,
-        is_table,
         holds,
         after,
         &guard_of,
@@ -187,9 +186,17 @@ fn step(
         layout.regions,
     );
     let next = out.run;
+    let threads = next.threads;
+    let notified = if is_table { next.table } else { next.plain };
+    let number = if is_table { out.table } else { out.plain };
     Machine {
-        run: next,
-        number: out.number,
+        run: Run {
+            state: next.state,
+            threads: threads,
+            plain: notified,
+            table: notified,
+        },
+        number: number,
         frame: k,
     }
 }

@@ -136,7 +136,7 @@ fn is_called(sheet: Sheet, threads: [Thread; 16], notified: u16, guard: usize, t
 // The first thread that waits on a guard and is notified, or none.
 fn called(sheet: Sheet, run: Run, guard: usize) -> u8 {
     let threads = run.threads;
-    let notified = run.notified;
+    let notified = run.plain;
     let mut t: u8 = 0;
     while t < 16 {
         if is_called(sheet, threads, notified, guard, t) {
@@ -192,7 +192,7 @@ fn not_allowed(sheet: Sheet, run: Run, frame: Frame, holds: &[u16; 4096]) -> Rea
         }
         return because(NOT_TRUE, t, 0);
     }
-    if sets::has(run.notified, t as u32) {
+    if sets::has(run.plain, t as u32) {
         return because(BEHIND, called(sheet, run, guard), 0);
     }
     because(NO_NOTICE, t, 0)
@@ -231,7 +231,7 @@ pub(crate) fn same(a: Run, b: Run) -> bool {
     if a.state != b.state {
         return false;
     }
-    if a.notified != b.notified {
+    if a.plain != b.plain {
         return false;
     }
     same_places(these, those)

@@ -1,231 +1,324 @@
--- A run of a list, frame by frame: what one frame does to what is left of the run, and what the code's record shows on
--- the way.
-use Prim.Native.Nat.{ℕ, suc, _+_, _*_, _<_, _≤_}
+-- A run of a list, frame by frame: what the runs of two lists make of the run of both, and what the code's record shows on
+-- the way. That the table's machine has stopped where the plain one does is demand 3.
+use Prim.Native.Nat.{ℕ, zero, suc, _+_, _*_, _<_, _≤_}
 use native.Mathlib.Omega.{arith}
 use native.Mathlib.Numerals.{add-one}
 use mathlib.Core.Path.{_≡_, refl, sym, ap, _∙_, subst}
-use mathlib.Core.Bool.{Bool, true, false}
+use mathlib.Core.Bool.{Bool, true, false, true≢false}
 use mathlib.Core.List.{List, [], _∷_, _++_}
-use lib.ListN.{length, take, drop, getD}
-use lib.Seq.{drop-cons, drop-length, take-add}
-use Rattle.machine.specs.Monitor.{Monitor, Config, allIdle}
+use lib.ListN.{length, take, drop, getD, length-take, take-append-drop}
+use lib.Seq.{drop-cons, take-suc, take-all}
+use Rattle.machine.specs.Monitor.{Monitor, Config, Run, accepted, stopped, allIdle}
 use Rattle.machine.specs.Decide.Step.{Outcome, moved, refused, Told, step, run}
 use Rattle.machine.specs.Monitor as machine
-use Rattle.machine.specs.Agreement.{Checked}
-use Rattle.machine.specs.Held.{Held, HeldPlaces, HeldEntries}
+use Rattle.machine.specs.Agreement.{Checked, AgreeOn, Agrees, plainRun, tableRun}
+use Rattle.machine.proofs.Agreement.{agrees}
 use Rattle.machine.proofs.RulesDecided.{run-on, run-stop, refused-number, told-decides}
 use Rattle.machine.proofs.Reached.{Reached, start-reached, step-reached}
 use Rattle.meaning.specs.Decide.Frames.{framesOf, frames}
 use Rattle.stepper.specs.declared.Run as code
 use Rattle.stepper.specs.declared.Frame.{Frame}
 use Rattle.stepper.specs.declared.Outcome as coded
-use Rattle.stepper.specs.Shown.{Shows, Steps, stepBy, toldOn, frameOf}
+use Rattle.stepper.specs.Shown.{ofMachine, Shows, Steps, stepBy, toldOn, frameOf, numberIn}
 use Rattle.trace.specs.Decoded.{numbersAt}
 use Rattle.trace.proofs.FramesAt.{frame-at, frames-end}
 use Rattle.trace.specs.declared.Numbers.{Numbers}
+use Rattle.run.specs.Way.{Asked, runOf, At, TableAt, goes-on, has-stopped, lostBy, Way, BothStop, Passes}
 use Rattle.run.specs.Ended.{EndsAs}
+use Rattle.run.specs.declared.frames.Stop.{Stop}
+use Rattle.run.specs.declared.frames.Going.{Going}
+use Rattle.run.specs.declared.frames.Passed.{Passed}
 use Rattle.run.specs.declared.frames.Ended.{Ended}
 
--- what the contract asks of a monitor and a list of frames
-pub record Asked (bytes : List ℕ) (state : ℕ) (table : Bool) (holds after guardOf begins goesOn entries : List ℕ)
-    (regions : ℕ)
-    (m : Monitor) (kept : List ℕ) (fs : List machine.Frame) : Type 0 where
-  pub count : m .regions ≡ regions
-  pub held : Held m kept holds after guardOf
-  pub places : HeldPlaces m begins goesOn
-  pub table-held : table ≡ true → HeldEntries m entries
-  pub checked : Checked m
-  pub start : m .kept state ≡ true
-  pub read : framesOf bytes ≡ frames fs
+-- ---- the run of one list behind another
 
--- what the end says of the run of the list
-abbrev pub Ends : (m : Monitor) (table : Bool) (state : ℕ) (fs : List machine.Frame) (e : Ended) → Type 0
-Ends m table state fs e = let runs = run m (toldOn m table) 0 (allIdle state) in EndsAs runs fs e (runs fs)
+module _ (m : Monitor) (told : Told) where
+  -- goes on where the first ends
+  pub run-append : (j : ℕ) (c p : Config) (fs gs : List machine.Frame) → run m told j c fs ≡ accepted p
+      → run m told j c (fs ++ gs) ≡ run m told (j + length fs) p gs
+  unfolding run
+  run-append j c p [] gs e =
+      let same : c ≡ p = cc in
+      let here : j ≡ j + length {A = machine.Frame} [] = omega arith in
+      ap (λ (x : Config). run m told j x gs) same ∙ ap (λ (n : ℕ). run m told n p gs) here
+  run-append j c p (g ∷ fs) gs e = go (step m told c g) refl
+      (λ b r. run-append (suc j) b p fs gs (sym (run-on m told j c b g fs r) ∙ e))
+    where
+      go : (y : Outcome) → step m told c g ≡ y
+          → ((b : Config) → step m told c g ≡ moved b → run m told (suc j) b (fs ++ gs)
+          ≡ run m told (suc j + length fs) p gs)
+          → run m told j c (g ∷ (fs ++ gs)) ≡ run m told (j + length (g ∷ fs)) p gs
+      go (moved b) r rec =
+          let here : suc j + length fs ≡ j + length (g ∷ fs) = omega arith in
+          run-on m told j c b g (fs ++ gs) r ∙ rec b r ∙ ap (λ (n : ℕ). run m told n p gs) here
+      go (refused a) r rec =
+          let z : _≡_ {A = ℕ} 0 1 = cc (run-stop m told j c g fs a r) in absurd (omega arith)
 
--- an end that is so for all that is asked is so as the contract says it
-pub for-asked :
-    (bytes : List ℕ) (state : ℕ) (table : Bool) (holds after guardOf begins goesOn entries : List ℕ) (regions : ℕ)
-    (e : Ended)
-    → ((m : Monitor) (kept : List ℕ) (fs : List machine.Frame)
-    → Asked bytes state table holds after guardOf begins goesOn entries regions m kept fs
-    → Ends m table state fs e)
-    → (m : Monitor) (kept : List ℕ) (fs : List machine.Frame) → m .regions ≡ regions → Held m kept holds after guardOf
-    → HeldPlaces m begins goesOn → (table ≡ true → HeldEntries m entries) → Checked m → m .kept state ≡ true
-    → framesOf bytes ≡ frames fs
-    → Ends m table state fs e
-for-asked bytes state table holds after guardOf begins goesOn entries regions e all m kept fs count held places
-    table-held checked start read =
-    all m kept fs
-    (record {
-      count = count;
-      held = held;
-      places = places;
-      table-held = table-held;
-      checked = checked;
-      start =
-          start;
-      read = read;
-    })
+  -- stops where the first stops
+  pub run-stopped : (j : ℕ) (c : Config) (a i : ℕ) (fs gs : List machine.Frame) → run m told j c fs ≡ stopped a i
+      → run m told j c (fs ++ gs) ≡ stopped a i
+  unfolding run
+  run-stopped j c a i [] gs e = let z : _≡_ {A = ℕ} 0 1 = cc in absurd (omega arith)
+  run-stopped j c a i (g ∷ fs) gs e = go (step m told c g) refl
+      (λ b r. run-stopped (suc j) b a i fs gs (sym (run-on m told j c b g fs r) ∙ e))
+    where
+      go : (y : Outcome) → step m told c g ≡ y
+          → ((b : Config) → step m told c g ≡ moved b → run m told (suc j) b (fs ++ gs) ≡ stopped a i)
+          → run m told j c (g ∷ (fs ++ gs)) ≡ stopped a i
+      go (moved b) r rec = run-on m told j c b g (fs ++ gs) r ∙ rec b r
+      go (refused n) r rec = run-stop m told j c g (fs ++ gs) n r ∙ sym (run-stop m told j c g fs n r) ∙ e
 
--- the run after k frames: a point that the record shows, at which these frames end, and from which the rest of the list
--- ends as the whole does
-pub record Point (m : Monitor) (table : Bool) (state : ℕ) (fs : List machine.Frame) (r : code.Run) (k : ℕ) : Type 0
-  where
-    pub point : Config
-    pub taken : run m (toldOn m table) 0 (allIdle state) (take k fs) ≡ machine.accepted point
-    pub rest : run m (toldOn m table) 0 (allIdle state) fs ≡ run m (toldOn m table) k point (drop k fs)
-    pub below : k ≤ length fs
-    pub shows : Shows r point
-    pub reached : Reached m point
+-- ---- the frame that is next
 
--- ---- the code's record on the way
-
-pub point-start : (m : Monitor) (table : Bool) (state : ℕ) (fs : List machine.Frame) (r : code.Run)
-    → Shows r (allIdle state) → m .kept state ≡ true → Point m table state fs r 0
-unfolding run
-point-start m table state fs r shows k =
-    record {
-      point = allIdle state;
-      taken = refl;
-      rest = refl;
-      below = omega arith;
-      shows = shows;
-      reached = start-reached m state k;
-    }
-
--- one frame more behind those that are taken
-take-next : {A : Type 0} {a : A} {rest : List A} (k : ℕ) (l : List A) → drop k l ≡ a ∷ rest
-    → take (suc k) l ≡ take k l ++ (a ∷ [])
-take-next k l e = rw (← add-one k) (take-add k 1 l ∙ ap (λ r. take k l ++ take 1 r) e)
-
-run-more :
-    (m : Monitor) (told : Told) (j : ℕ) (c p d : Config) (fs : List machine.Frame) (f : machine.Frame)
-    → run m told j c fs ≡ machine.accepted p → step m told p f ≡ moved d
-    → run m told j c (fs ++ (f ∷ [])) ≡ machine.accepted d
-unfolding run
-run-more m told j c p d [] f e q =
-    let same : c ≡ p = cc in
-    run-on m told j c d f [] (rw same q)
-run-more m told j c p d (g ∷ fs) f e q = go (step m told c g) refl
-    (λ b r. run-more m told (suc j) b p d fs f (sym (run-on m told j c b g fs r) ∙ e) q)
-  where
-    go : (y : Outcome) → step m told c g ≡ y
-        → ((b : Config) → step m told c g ≡ moved b → run m told (suc j) b (fs ++ (f ∷ [])) ≡ machine.accepted d)
-        → run m told j c (g ∷ (fs ++ (f ∷ []))) ≡ machine.accepted d
-    go (moved b) r rec = run-on m told j c b g (fs ++ (f ∷ [])) r ∙ rec b r
-    go (refused a) r rec =
-        let z : _≡_ {A = ℕ} 0 1 = cc (run-stop m told j c g fs a r) in absurd (omega arith)
-
--- before the end of the bytes there is a frame: its line, and the list from it on
-pub record Here (bytes : List ℕ) (fs : List machine.Frame) (k : ℕ) : Type 0 where
-  pub frame : machine.Frame
-  pub numbers : numbersAt bytes (7 * k) ≡ record { thread = frame .thread; region = frame .region; flag = frame .flag }
-  pub thread : frame .thread < 16
-  pub rest : drop k fs ≡ frame ∷ drop (suc k) fs
+-- before the end of the bytes there is a frame: its line, and the list up to it and from it on
+pub record Here (bytes : List ℕ) (fs : List machine.Frame) (k : ℕ) (f : machine.Frame) : Type 0 where
+  pub thread : f .thread < 16
   pub more : k < length fs
+  pub front : take (suc k) fs ≡ take k fs ++ (f ∷ [])
+  pub whole : fs ≡ take k fs ++ (f ∷ drop (suc k) fs)
 
 pub frame-here : (bytes : List ℕ) (fs : List machine.Frame) (k at : ℕ) → framesOf bytes ≡ frames fs → at ≡ 7 * k
-    → at < length bytes
-    → Here bytes fs k
-frame-here bytes fs k at e s h =
+    → at < length bytes → (f : Frame) (n : Numbers) → n ≡ numbersAt bytes at
+    → f ≡ record { thread = n .thread; region = n .region; flag = n .flag } → Here bytes fs k (frameOf f)
+unfolding frameOf
+frame-here bytes fs k at e s h f n l i =
     let d : machine.Frame = record { thread = 0; region = 0; flag = false } in
     let w = frames-end e .whole in
-    let l : k < length fs = omega arith in
-    let a = frame-at e d k l in
-    record { frame = getD fs k d; numbers = a .numbers; thread = a .thread; rest = drop-cons fs k d l; more = l }
-
--- a step of the code on the frame that is next in the list
-pub record Stepped (m : Monitor) (table : Bool) (state : ℕ) (fs : List machine.Frame) (before : code.Run) (k : ℕ)
-    (o : coded.Outcome) : Type 0 where
-  pub from : Point m table state fs before k
-  pub frame : Frame
-  pub rest : drop k fs ≡ frameOf frame ∷ drop (suc k) fs
-  pub more : k < length fs
-  pub steps : Steps before o (stepBy m table (from .point) frame)
-
-pub stepped :
-    (m : Monitor) (table : Bool) (state : ℕ) (bytes : List ℕ) (fs : List machine.Frame) (before : code.Run) (k at : ℕ)
-    (o : coded.Outcome)
-    (p : Point m table state fs before k) → framesOf bytes ≡ frames fs → at ≡ 7 * k → at < length bytes
-    → (f : Frame) (n : Numbers) → n ≡ numbersAt bytes at
-    → f ≡ record { thread = n .thread; region = n .region; flag = n .flag }
-    → (f .thread < 16 → Steps before o (stepBy m table (p .point) f)) → Stepped m table state fs before k o
-unfolding frameOf
-stepped m table state bytes fs before k at o p e s h f n l i steps =
-    let x = frame-here bytes fs k at e s h in
-    let q : n ≡ record { thread = x .frame .thread; region = x .frame .region; flag = x .frame .flag } =
+    let more : k < length fs = omega arith in
+    let x = frame-at e d k more in
+    let g = getD fs k d in
+    let q : n ≡ record { thread = g .thread; region = g .region; flag = g .flag } =
     l ∙ ap (numbersAt bytes) s ∙ x .numbers in
-    let t : f .thread ≡ x .frame .thread = ap (λ (y : Frame). y .thread) i ∙ ap (λ (y : Numbers). y .thread) q in
-    let r : f .region ≡ x .frame .region = ap (λ (y : Frame). y .region) i ∙ ap (λ (y : Numbers). y .region) q in
-    let b : f .flag ≡ x .frame .flag = ap (λ (y : Frame). y .flag) i ∙ ap (λ (y : Numbers). y .flag) q in
-    let y = x .thread in
-    record { from = p; frame = f; rest = rw (t, r, b) (x .rest); more = x .more; steps = steps (omega arith) }
+    let t : f .thread ≡ g .thread = ap (λ (y : Frame). y .thread) i ∙ ap (λ (y : Numbers). y .thread) q in
+    let r : f .region ≡ g .region = ap (λ (y : Frame). y .region) i ∙ ap (λ (y : Numbers). y .region) q in
+    let b : f .flag ≡ g .flag = ap (λ (y : Frame). y .flag) i ∙ ap (λ (y : Numbers). y .flag) q in
+    let same : record { thread = f .thread; region = f .region; flag = f .flag } ≡ g =
+    λ j. record { thread = t j; region = r j; flag = b j } in
+    let low = x .thread in
+    record {
+      thread = omega arith;
+      more = more;
+      front = rw same (take-suc fs k d more);
+      whole = rw same (sym (take-append-drop k fs) ∙ ap (λ r. take k fs ++ r) (drop-cons fs k d more));
+    }
 
-module _ (m : Monitor) (table : Bool) (state : ℕ) (fs : List machine.Frame) (before : code.Run) (k : ℕ)
-    (o : coded.Outcome)
-    (x : Stepped m table state fs before k o) where
-  abbrev now : Config
-  now = x .from .point
+-- ---- a machine at a point
 
-  abbrev next : machine.Frame
-  next = frameOf (x .frame)
+pub at-start : (m : Monitor) (w : Bool) (s : ℕ) (fs : List machine.Frame) (r : code.Run) → Shows w r (allIdle s)
+    → m .kept s ≡ true → At m w s fs r 0
+unfolding run
+at-start m w s fs r shows k =
+    record { point = allIdle s; taken = refl; shows = shows; reached = start-reached m s k }
 
-  here : run m (toldOn m table) 0 (allIdle state) fs ≡ run m (toldOn m table) k now (next ∷ drop (suc k) fs)
-  here = x .from .rest ∙ ap (run m (toldOn m table) k now) (x .rest)
+module _ (m : Monitor) (w : Bool) (s : ℕ) (fs : List machine.Frame) {r : code.Run} {k : ℕ} (x : At m w s fs r k)
+    (below : k ≤ length fs) where
+  -- from which it goes on
+  on-from : (gs : List machine.Frame) → runOf m w s (take k fs ++ gs) ≡ run m (toldOn m w) k (x .point) gs
+  on-from gs =
+      let here : 0 + length (take k fs) ≡ k = simp length-take (omega arith) in
+      run-append m (toldOn m w) 0 (allIdle s) (x .point) (take k fs) gs (x .taken)
+      ∙ ap (λ (n : ℕ). run m (toldOn m w) n (x .point) gs) here
 
-  -- a frame that is refused ends the run
-  pub ends-refused : (o .number ≡ 0 → ⊥) → (e : Ended) → e .number ≡ o .number → e .frame ≡ k → e .run ≡ o .run
-      → Ends m table state fs e
-  unfolding stepBy Steps EndsAs
-  ends-refused other e number frame same = go (step m (toldOn m table) now next) refl (x .steps)
-    where
-      go : (y : Outcome) → step m (toldOn m table) now next ≡ y → Steps before o y
-          → Ends m table state fs e
-      go (moved d) q s = absurd (other (s .0))
-      go (refused a) q s =
-          subst (EndsAs (run m (toldOn m table) 0 (allIdle state)) fs e)
-          (sym (here ∙ run-stop m (toldOn m table) k now next (drop (suc k) fs) a q)) (record {
-            number = number ∙ s .0;
-            frame = frame;
-            point = now;
-            before = x .from .taken;
-            shows = subst (λ (r : code.Run). Shows r now) (sym (same ∙ s .1)) (x .from .shows);
-          })
+  module _ {bytes : List ℕ} {f : machine.Frame} (h : Here bytes fs k f) where
+    -- a frame that is taken leads to the next point
+    next-taken : (d : Config) → step m (toldOn m w) (x .point) f ≡ moved d → runOf m w s (take (suc k) fs) ≡ accepted d
+    unfolding run
+    next-taken d e =
+        ap (runOf m w s) (h .front) ∙ on-from (f ∷ []) ∙ run-on m (toldOn m w) k (x .point) d f [] e
 
-  -- a frame that is taken leads to the next point
-  pub point-next : Checked m → o .number ≡ 0 → Point m table state fs (o .run) (k + 1)
+    at-next : Checked m → (d : Config) → step m (toldOn m w) (x .point) f ≡ moved d → (r′ : code.Run) → Shows w r′ d
+        → At m w s fs r′ (suc k)
+    at-next ok d e r′ shows =
+        record {
+          point = d;
+          taken = next-taken d e;
+          shows = shows;
+          reached = step-reached m ok (toldOn m w) (x .point) d f e (x .reached);
+        }
+
+    -- a frame that is refused ends the run, of the whole list too
+    next-stops : (a : ℕ) → step m (toldOn m w) (x .point) f ≡ refused a → runOf m w s (take (suc k) fs) ≡ stopped a k
+    next-stops a e =
+        ap (runOf m w s) (h .front) ∙ on-from (f ∷ []) ∙ run-stop m (toldOn m w) k (x .point) f [] a e
+
+    all-stop : (a : ℕ) → step m (toldOn m w) (x .point) f ≡ refused a → runOf m w s fs ≡ stopped a k
+    all-stop a e =
+        ap (runOf m w s) (h .whole) ∙ on-from (f ∷ drop (suc k) fs)
+        ∙ run-stop m (toldOn m w) k (x .point) f (drop (suc k) fs) a e
+
+-- demand 3: the table's machine takes no frame that the plain one refuses
+not-alone : (m : Monitor) → Checked m → (s : ℕ) → m .kept s ≡ true → (fs : List machine.Frame) (k : ℕ) → k < length fs
+    → (d : Config) → runOf m true s (take (suc k) fs) ≡ accepted d
+    → (a j : ℕ) → runOf m false s (take (suc k) fs) ≡ stopped a j → ⊥
+unfolding Agrees plainRun tableRun toldOn
+not-alone m ok s kept fs k l d e a j q =
+    let x = agrees m ok s kept fs .every-point (suc k) l d e in
+    let y = x .1 in
+    let z : _≡_ {A = ℕ} 0 1 = cc in
+    omega arith
+
+-- ---- the table's refusal
+
+pub lost-first : (lost : Stop) (n k : ℕ) → lost .number ≡ 0 → (n ≡ 0 → ⊥) → lostBy lost n k ≡ record { number = n; frame = k }
+unfolding lostBy
+lost-first lost zero k e h = absurd (h refl)
+lost-first lost (suc n) k e h = rw (lostBy, e)
+
+pub lost-kept : (lost : Stop) (n k : ℕ) → (lost .number ≡ 0 → ⊥) → lostBy lost n k ≡ lost
+unfolding lostBy
+lost-kept lost zero k h = refl
+lost-kept lost (suc n) k h = go (lost .number) h
+  where
+    go : (j : ℕ) → (j ≡ 0 → ⊥)
+        → _≡_ {A = Stop} (elim j [ zero ↦ record { number = suc n; frame = k } | suc i ↦ lost ]) lost
+    go zero e = absurd (e refl)
+    go (suc j) e = refl
+
+-- ---- one frame more on both machines
+
+module _ (m : Monitor) (ok : Checked m) (s : ℕ) (kept : m .kept s ≡ true) (fs : List machine.Frame) (g : Going) (k : ℕ)
+    (way : Way m s fs g k) {bytes : List ℕ} (f : Frame) (h : Here bytes fs k (frameOf f)) (o : coded.Outcome)
+    (steps : (w : Bool) (x : At m w s fs (g .run) k) → Steps w o (stepBy m w (x .point) f)) (p : Passed)
+    (number : p .number ≡ o .plain) (same-run : p .going .run ≡ o .run)
+    (same-lost : p .going .lost ≡ lostBy (g .lost) (o .table) k) where
+  -- what a machine makes of the frame
+  data Took (w : Bool) (x : At m w s fs (g .run) k) : Type 0 where
+    took : numberIn w o ≡ 0 → (d : Config) → step m (toldOn m w) (x .point) (frameOf f) ≡ moved d → Shows w (o .run) d
+        → Took w x
+    stops : (numberIn w o ≡ 0 → ⊥) → step m (toldOn m w) (x .point) (frameOf f) ≡ refused (numberIn w o) → Took w x
+
+  took-by : (w : Bool) (x : At m w s fs (g .run) k) → Took w x
   unfolding stepBy Steps
-  point-next ok taken = go (step m (toldOn m table) now next) refl (x .steps)
+  took-by w x = go (step m (toldOn m w) (x .point) (frameOf f)) refl (steps w x)
     where
-      go : (y : Outcome) → step m (toldOn m table) now next ≡ y → Steps before o y
-          → Point m table state fs (o .run) (k + 1)
-      go (moved d) q s = rw add-one (record {
-        point = d;
-        taken =
-            ap (run m (toldOn m table) 0 (allIdle state)) (take-next k fs (x .rest))
-            ∙ run-more m (toldOn m table) 0 (allIdle state) now d (take k fs) next (x .from .taken) q;
-        rest = here ∙ run-on m (toldOn m table) k now d next (drop (suc k) fs) q;
-        below = let l = x .more in omega arith;
-        shows = s .1;
-        reached = step-reached m ok (toldOn m table) now d next q (x .from .reached);
-      })
-      go (refused a) q s = let n = refused-number (told-decides m (toldOn m table)) now next a q in
-          absurd (omega (arith, s .0))
+      go : (y : Outcome) → step m (toldOn m w) (x .point) (frameOf f) ≡ y → Steps w o y → Took w x
+      go (moved d) e q = took (q .0) d e (q .1)
+      go (refused a) e q =
+          let n = refused-number (told-decides m (toldOn m w)) (x .point) (frameOf f) a e in
+          stops (λ z. omega arith) (e ∙ ap refused (sym q))
 
--- past the last frame the run is accepted
-pub ends-accepted : (m : Monitor) (table : Bool) (state : ℕ) (bytes : List ℕ) (fs : List machine.Frame) (r : code.Run)
-    (k : ℕ)
-    → Point m table state fs r k → framesOf bytes ≡ frames fs → length bytes ≤ 7 * k
-    → (e : Ended) → e .number ≡ 0 → e .frame ≡ k → e .run ≡ r → Ends m table state fs e
-unfolding EndsAs run
-ends-accepted m table state bytes fs r k p e h end number frame same =
-    let w = frames-end e .whole in
-    let b = p .below in
-    let l : k ≡ length fs = omega arith in
-    let q : drop k fs ≡ [] = ap (λ (n : ℕ). drop n fs) l ∙ drop-length fs in
-    subst (EndsAs (run m (toldOn m table) 0 (allIdle state)) fs end)
-    (sym (p .rest ∙ ap (run m (toldOn m table) k (p .point)) q)) (record {
-      number = number;
-      frame = frame ∙ l;
-      shows = subst (λ (x : code.Run). Shows x (p .point)) (sym same) (p .shows);
-    })
+  -- the table's machine behind the frame
+  table-next : TableAt m s fs (g .run) (g .lost) k → TableAt m s fs (o .run) (lostBy (g .lost) (o .table) k) (suc k)
+  unfolding ofMachine lostBy
+  table-next (goes-on z i x) = go (took-by true x)
+    where
+      go : Took true x → TableAt m s fs (o .run) (lostBy (g .lost) (o .table) k) (suc k)
+      go (took n d e q) =
+          subst (λ (j : ℕ). TableAt m s fs (o .run) (lostBy (g .lost) j k) (suc k)) (sym n)
+          (goes-on z i (at-next m true s fs x (way .below) h ok d e (o .run) q))
+      go (stops n e) =
+          subst (λ (l : Stop). TableAt m s fs (o .run) l (suc k)) (sym (lost-first (g .lost) (o .table) k z n))
+          (has-stopped n (next-stops m true s fs x (way .below) h (o .table) e))
+  table-next (has-stopped n e) =
+      subst (λ (l : Stop). TableAt m s fs (o .run) l (suc k)) (sym (lost-kept (g .lost) (o .table) k n))
+      (has-stopped n
+      (ap (runOf m true s) (h .front)
+      ∙ run-stopped m (toldOn m true) 0 (allIdle s) (g .lost .number) (g .lost .frame) (take k fs) (frameOf f ∷ []) e))
+
+  way-next : o .plain ≡ 0 → Way m s fs (p .going) (suc k)
+  unfolding ofMachine
+  way-next zero-number = go (took-by false (way .plain))
+    where
+      go : Took false (way .plain) → Way m s fs (p .going) (suc k)
+      go (took n d e q) = record {
+        below = let l = h .more in omega arith;
+        plain = rw same-run (at-next m false s fs (way .plain) (way .below) h ok d e (o .run) q);
+        table = rw (same-run, same-lost) (table-next (way .table));
+      }
+      go (stops n e) = absurd (n zero-number)
+
+  -- the plain machine refuses the frame, and the table's has stopped
+  table-stops : (o .plain ≡ 0 → ⊥) → runOf m false s (take (suc k) fs) ≡ stopped (o .plain) k
+      → TableAt m s fs (g .run) (g .lost) k
+      → (runOf m true s fs ≡ stopped (lostBy (g .lost) (o .table) k .number) (lostBy (g .lost) (o .table) k .frame))
+      × (lostBy (g .lost) (o .table) k .number ≡ 0 → ⊥)
+  unfolding ofMachine
+  table-stops other ends (goes-on z i x) = go (took-by true x)
+    where
+      go : Took true x
+          → (runOf m true s fs ≡ stopped (lostBy (g .lost) (o .table) k .number) (lostBy (g .lost) (o .table) k .frame))
+          × (lostBy (g .lost) (o .table) k .number ≡ 0 → ⊥)
+      go (took n d e q) =
+          absurd
+          (not-alone m ok s kept fs k (h .more) d (next-taken m true s fs x (way .below) h d e) (o .plain) k ends)
+      go (stops n e) =
+          subst (λ (l : Stop). (runOf m true s fs ≡ stopped (l .number) (l .frame)) × (l .number ≡ 0 → ⊥))
+          (sym (lost-first (g .lost) (o .table) k z n)) (all-stop m true s fs x (way .below) h (o .table) e, n)
+  table-stops other ends (has-stopped n e) =
+      subst (λ (l : Stop). (runOf m true s fs ≡ stopped (l .number) (l .frame)) × (l .number ≡ 0 → ⊥))
+      (sym (lost-kept (g .lost) (o .table) k n)) (
+        ap (runOf m true s) (h .whole)
+            ∙ run-stopped m (toldOn m true) 0 (allIdle s) (g .lost .number) (g .lost .frame) (take k fs)
+            (frameOf f ∷ drop (suc k) fs) e,
+        n,
+      )
+
+  both-stop : (o .plain ≡ 0 → ⊥) → BothStop m s fs p k
+  unfolding ofMachine
+  both-stop other = go (took-by false (way .plain))
+    where
+      go : Took false (way .plain) → BothStop m s fs p k
+      go (took n d e q) = absurd (other n)
+      go (stops n e) =
+          let t = table-stops other (next-stops m false s fs (way .plain) (way .below) h (o .plain) e) (way .table) in
+          record {
+            plain = rw number (all-stop m false s fs (way .plain) (way .below) h (o .plain) e);
+            table = rw same-lost (t .0);
+            refused = rw same-lost (t .1);
+          }
+
+  pub passed : Passes m s fs p k
+  passed = record {
+    taken = λ z. rw add-one (way-next (sym number ∙ z));
+    refused = λ z. both-stop (λ n. z (number ∙ n));
+  }
+
+-- ---- the end
+
+module _ (m : Monitor) (s : ℕ) (fs : List machine.Frame) where
+  -- past the last frame every machine that goes on has taken all
+  pub ends-all : (bytes : List ℕ) (g : Going) (k : ℕ) → Way m s fs g k → framesOf bytes ≡ frames fs
+      → length bytes ≤ 7 * k
+      → (e : Ended) → e .plain .number ≡ 0 → e .plain .frame ≡ 0 → e .table ≡ g .lost → e .run ≡ g .run
+      → (w : Bool) → EndsAs w (runOf m w s) fs e (runOf m w s fs)
+  unfolding ofMachine EndsAs
+  ends-all bytes g k way read l e number frame lost same = each
+    where
+      all : take k fs ≡ fs
+      all = let w = frames-end read .whole in take-all k fs (omega arith)
+
+      each : (w : Bool) → EndsAs w (runOf m w s) fs e (runOf m w s fs)
+      each false =
+          let x = way .plain in
+          subst (EndsAs false (runOf m false s) fs e) (sym (x .taken) ∙ ap (runOf m false s) all)
+          (record { number = number; frame = frame; shows = rw same (x .shows) })
+      each true = go (way .table)
+        where
+          go : TableAt m s fs (g .run) (g .lost) k → EndsAs true (runOf m true s) fs e (runOf m true s fs)
+          go (goes-on z i x) =
+              subst (EndsAs true (runOf m true s) fs e) (sym (x .taken) ∙ ap (runOf m true s) all)
+              (record { number = rw lost z; frame = rw lost i; shows = rw same (x .shows) })
+          go (has-stopped n q) =
+              subst (EndsAs true (runOf m true s) fs e) (sym q ∙ ap (runOf m true s) all)
+              (record {
+                number = ap (λ (x : Stop). x .number) lost;
+                frame = ap (λ (x : Stop). x .frame) lost;
+                last = λ z. absurd (true≢false z);
+              })
+
+  -- the plain machine refuses frame k
+  pub ends-stopped : (g : Going) (p : Passed) (k : ℕ) → Way m s fs g k → BothStop m s fs p k
+      → (e : Ended) → e .plain .number ≡ p .number → e .plain .frame ≡ k → e .table ≡ p .going .lost → e .run ≡ g .run
+      → (w : Bool) → EndsAs w (runOf m w s) fs e (runOf m w s fs)
+  unfolding ofMachine EndsAs
+  ends-stopped g p k way stop e number frame lost same false =
+      let x = way .plain in
+      subst (EndsAs false (runOf m false s) fs e) (sym (stop .plain))
+      (record { number = number; frame = frame; last = λ z. (x .point, x .taken, rw same (x .shows)) })
+  ends-stopped g p k way stop e number frame lost same true =
+      subst (EndsAs true (runOf m true s) fs e) (sym (stop .table))
+      (record {
+        number = ap (λ (x : Stop). x .number) lost;
+        frame = ap (λ (x : Stop). x .frame) lost;
+        last = λ z. absurd (true≢false z);
+      })

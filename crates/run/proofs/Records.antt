@@ -33,11 +33,12 @@ use Rattle.meaning.specs.Calls.{Machine, eachThread, bits, ones, not-run, recor
 use Rattle.meaning.specs.Decide.Calls.{toldBy, runningOf, runList, runFrames, runFrom}
 use Rattle.stepper.specs.declared.Thread.{Thread}
 use Rattle.stepper.specs.declared.Run as code
-use Rattle.stepper.specs.Shown.{Shows, placeOf, placesOf, threadsOf, idleThread, toldOn}
+use Rattle.stepper.specs.Shown.{noticesIn, Shows, placeOf, placesOf, threadsOf, idleThread, toldOn}
 use Rattle.demands.proofs.Demand2.{run-reached, run-stops}
 use Rattle.demands.proofs.Demand3.{each-read}
 use Rattle.demands.proofs.Widths.{each-length}
-use Rattle.run.specs.Ended.{EndsAs}
+use Rattle.run.specs.Way.{runOf}
+use Rattle.run.specs.Ended.{EndsAs, StopsAs, stopIn}
 use Rattle.run.specs.declared.frames.Ended.{Ended}
 use Rattle.run.specs.Results.{Runs, Records, machineOf}
 use Rattle.run.specs.declared.Running.{Running}
@@ -83,36 +84,35 @@ set-shown (suc n) t s f h e =
         (omega arith, omega arith)
 
 -- the record of a run that shows a point, with the values of its state
-pub recorded : (m : Monitor) (c : Config) (end : code.Run) (vs : List ℕ) (vars-held many : ℕ) → Shows end c
-    → length (end .threads) ≡ 16
-    → end .notified < 2 ^ 16 → vars-held ≡ length (vars m) → Biased (vars m) (stateAt (vars m) (end .state)) vs
-    → many ≡ size (end .notified) 16
+pub recorded : (m : Monitor) (w : Bool) (c : Config) (end : code.Run) (vs : List ℕ) (vars-held set many : ℕ)
+    → set ≡ noticesIn w end → Shows w end c → length (end .threads) ≡ 16 → set < 2 ^ 16 → vars-held ≡ length (vars m)
+    → Biased (vars m) (stateAt (vars m) (end .state)) vs → many ≡ size set 16
     → Records (recordOf m c) (record {
       vars = vars-held;
       values = vs;
       threads = end .threads;
-      notified =
-          end .notified;
+      notified = set;
       «how_many» = many;
     })
 unfolding recordOf threads
-recorded m c end vs vars-held many s l small counted values sized =
+recorded m w c end vs vars-held set many own s l small counted values sized =
     let v = subst (λ (n : ℕ). Biased (vars m) (stateAt (vars m) n) vs) (s .state) values in
     let n = v .each-value in
-    let set =
-    set-shown 16 0 (end .notified) (c .notified) small (λ u h. s .notices u h ∙ ap (c .notified) (omega arith)) in
+    let same =
+    set-shown 16 0 set (c .notified) small
+    (λ u h. ap (λ (n : ℕ). member n u) own ∙ s .notices u h ∙ ap (c .notified) (omega arith)) in
     record {
       vars = counted ∙ sym n;
       values = λ k h. v .held k (omega arith);
       unused = λ k h b. v .unused k h (omega arith);
       places = places-shown (end .threads) c l (s .threads);
-      notified = set .0;
-      how-many = sized ∙ size-ones 16 (end .notified) small ∙ set .1;
+      notified = same .0;
+      how-many = sized ∙ size-ones 16 set small ∙ same .1;
     }
 
 -- ---- the start of a run
 
-told-same : (m : machine.Monitor) (table : Bool) → toldBy m (machineOf table) ≡ toldOn m table
+told-same : (m : machine.Monitor) (w : Bool) → toldBy m (machineOf w) ≡ toldOn m w
 unfolding toldBy machineOf toldOn
 told-same m true = refl
 told-same m false = refl
@@ -146,59 +146,48 @@ from-kept : (m : Monitor) (w : Machine) (s : ℕ) (bytes : List ℕ) → kept m 
 unfolding runFrom
 from-kept m w s bytes k = rw (runFrom, k)
 
-module _ (m : Monitor) (table : Bool) (s : ℕ) (bytes : List ℕ) (r : Running) where
+-- a run of a list, as the meaning has it and as the code's promises do
+pub list-run : (m : Monitor) (w : Bool) (s : ℕ) (fs : List machine.Frame)
+    → runList m (machineOf w) s fs ≡ runOf (model m) w s fs
+unfolding runList
+list-run m w s fs = ap (λ (t : Told). run (model m) t 0 (allIdle s) fs) (told-same (model m) w)
+
+module _ (m : Monitor) (w : Bool) (s : ℕ) (bytes : List ℕ) (r : Running) where
   abbrev pub Ran : Type 0
-  Ran = Runs (runFrom m (machineOf table) s bytes) r
+  Ran = Runs (runFrom m (machineOf w) s bytes) r
 
   pub not-started : kept m s ≡ false → Runs (not-run (answer 11 0 0)) r → Ran
-  not-started k h = subst (λ x. Runs x r) (sym (from-other m (machineOf table) s bytes k)) h
+  not-started k h = subst (λ x. Runs x r) (sym (from-other m (machineOf w) s bytes k)) h
 
   pub not-framed : (j : ℕ) → kept m s ≡ true → framesOf bytes ≡ none-at j → Runs (not-run (answer 12 j 0)) r → Ran
   unfolding runFrames
   not-framed j k e h =
-      subst (λ x. Runs x r) (sym (from-kept m (machineOf table) s bytes k ∙ ap (runFrames m (machineOf table) s) e)) h
+      subst (λ x. Runs x r) (sym (from-kept m (machineOf w) s bytes k ∙ ap (runFrames m (machineOf w) s) e)) h
 
-  module _ (fs : List machine.Frame) (k : kept m s ≡ true) (read : framesOf bytes ≡ frames fs) where
-    abbrev pub end : Run
-    end = run (model m) (toldOn (model m) table) 0 (allIdle s) fs
+  pub by-end : (fs : List machine.Frame) → kept m s ≡ true → framesOf bytes ≡ frames fs
+      → Runs (runningOf m (runOf (model m) w s fs)) r → Ran
+  unfolding runFrames
+  by-end fs k read h =
+      subst (λ x. Runs x r)
+      (sym (from-kept m (machineOf w) s bytes k ∙ ap (runFrames m (machineOf w) s) read
+      ∙ ap (runningOf m) (list-run m w s fs))) h
 
-    list-ends : runList m (machineOf table) s fs ≡ end
-    unfolding runList
-    list-ends = ap (λ (t : Told). run (model m) t 0 (allIdle s) fs) (told-same (model m) table)
-
-    by-end : Runs (runningOf m end) r → Ran
-    unfolding runFrames
-    by-end h =
-        subst (λ x. Runs x r)
-        (sym (from-kept m (machineOf table) s bytes k ∙ ap (runFrames m (machineOf table) s) read
-        ∙ ap (runningOf m) list-ends)) h
-
-    abbrev runs : List machine.Frame → Run
-    runs = run (model m) (toldOn (model m) table) 0 (allIdle s)
-
-    module _ (e : Ended) (ends : EndsAs runs fs e end) where
-      -- a refusal
-      pub ran-refused : (e .number ≡ 0 → ⊥) → Runs (not-run (answer (e .number) (e .frame) 0)) r → Ran
-      unfolding EndsAs runningOf
-      ran-refused other h = by-end (go end ends)
-        where
-          go : (x : Run) → EndsAs runs fs e x → Runs (runningOf m x) r
-          go (accepted c) p = absurd (other (p .number))
-          go (stopped a j) p = subst (λ (n : ℕ). Runs (not-run (answer n j 0)) r) (p .number)
-              (subst (λ (i : ℕ). Runs (not-run (answer (e .number) i 0)) r) (p .frame) h)
-
-      -- an end
-      pub ran-accepted : Checked (model m) → e .number ≡ 0
-          → ((c : Config) → Shows (e .run) c → c .state < state.count (vars m) → Runs (runningOf m (accepted c)) r)
-          → Ran
-      unfolding EndsAs model
-      ran-accepted ok zero-number h = by-end (go end refl ends)
-        where
-          go : (x : Run) → end ≡ x → EndsAs runs fs e x → Runs (runningOf m x) r
-          go (accepted c) q p =
-              h c (p .shows)
-              (kept-below m (c .state) (run-reached m ok s k fs (machineOf table) c (list-ends ∙ q) .is-kept))
-          go (stopped a j) q p =
-              let w = run-stops m (machineOf table) s fs a j (list-ends ∙ q) in
-              let same = p .number in
-              absurd (omega arith)
+-- the end of the code's run by its parts: the state is one of the file's, and a refusal has a number
+pub stops-as : (m : Monitor) → Checked (model m) → (w : Bool) (s : ℕ) → kept m s ≡ true → (fs : List machine.Frame) (e : Ended)
+    → EndsAs w (runOf (model m) w s) fs e (runOf (model m) w s fs)
+    → StopsAs w (state.count (vars m)) (stopIn w e) (e .run) (runOf (model m) w s fs)
+unfolding EndsAs StopsAs model
+stops-as m ok w s k fs e ends = go (runOf (model m) w s fs) refl ends
+  where
+    go : (x : Run) → runOf (model m) w s fs ≡ x → EndsAs w (runOf (model m) w s) fs e x
+        → StopsAs w (state.count (vars m)) (stopIn w e) (e .run) x
+    go (accepted c) q p = (
+      p .number,
+      p .shows,
+      kept-below m (c .state) (run-reached m ok s k fs (machineOf w) c (list-run m w s fs ∙ q) .is-kept),
+    )
+    go (stopped a j) q p = (
+      p .number,
+      p .frame,
+      λ z. let x = run-stops m (machineOf w) s fs a j (list-run m w s fs ∙ q) in omega arith,
+    )

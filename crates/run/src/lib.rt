@@ -1,8 +1,9 @@
-// Runs a trace over an accepted file's slices, from a start state, on either machine: 11 to 14, or the record of the
+// Runs a trace over an accepted file's slices, from a start state, on both machines: of each 11 to 14, or the record of its
 // run.
-mod frames;
+pub mod frames;
 
 use answers::Answer;
+use frames::Stop;
 use layout::Layout;
 use stepper::Place;
 use stepper::Run;
@@ -10,11 +11,12 @@ use stepper::Thread;
 use trace::Counted;
 use variables::Bounds;
 ghost use mathlib.Core.Path.{_≡_};
-ghost use mathlib.Core.Bool.{true};
+ghost use mathlib.Core.Bool.{Bool};
 ghost use Prim.Native.Nat.{_<_};
 ghost use lib.ListN.{length};
 ghost use Rattle.syntax.specs.Tree.{Monitor};
 ghost use Rattle.machine.specs.Monitor.{Config};
+ghost use Rattle.machine.specs.Monitor as machine;
 ghost use Rattle.machine.specs.Agreement.{Checked};
 ghost use Rattle.machine.specs.Held.{Held, HeldPlaces, HeldEntries};
 ghost use Rattle.meaning.specs.Model.{vars, regions, model};
@@ -22,8 +24,9 @@ ghost use Rattle.meaning.specs.Answer.{answer};
 ghost use Rattle.meaning.specs.State.{count};
 ghost use Rattle.meaning.specs.Calls as calls;
 ghost use Rattle.meaning.specs.Decide.Calls as decided;
-ghost use Rattle.stepper.specs.Shown.{Shows};
+ghost use Rattle.stepper.specs.Shown.{ofMachine, noticesIn, Shows};
 ghost use Rattle.variables.specs.Bounded.{Bounded};
+ghost use Rattle.run.specs.Ended.{StopsAs};
 ghost use Rattle.run.specs.Results.{Runs, Records, NoRecord, machineOf};
 
 // The record of a run: how many variables there are and each value with 128 added, the place of each of sixteen
@@ -74,11 +77,10 @@ fn no_start() -> Running
 }
 
 // The record of a run's end.
-fn record_of(bounds: Bounds, run: Run) -> Record
-    ensures { λ r. ⌜ ((m : Monitor) (c : Config) → Bounded (vars m) bounds → Shows run c → c .state < count (vars m)
-        → Records (calls.recordOf m c) r) ⌝ }
+fn record_of(bounds: Bounds, run: Run, notified: u16) -> Record
+    ensures { λ r. ⌜ ((m : Monitor) (w : Bool) (c : Config) → Bounded (vars m) bounds → notified ≡ noticesIn w run
+        → Shows w run c → c .state < count (vars m) → Records (calls.recordOf m c) r) ⌝ }
 {
-    let notified = run.notified;
     let threads = run.threads;
     Record {
         vars: bounds.count,
@@ -89,32 +91,63 @@ fn record_of(bounds: Bounds, run: Run) -> Record
     }
 }
 
-// 11 to 14: a run of a trace over an accepted file's slices.
+// The results of both machines on one trace.
+pub struct Both {
+    pub plain: Running,
+    pub table: Running,
+}
+
+// One result for both machines.
+fn alike(running: Running) -> Both
+    ensures { λ r. ⌜ ((w : Bool) → ofMachine w (r .plain) (r .table) ≡ running) ⌝ }
+{
+    Both {
+        plain: running,
+        table: running,
+    }
+}
+
+// What a machine's run gives: its refusal, or its record.
+fn running_of(bounds: Bounds, stop: Stop, run: Run, notified: u16) -> Running
+    ensures { λ r. ⌜ ((m : Monitor) (w : Bool) (x : machine.Run) → Bounded (vars m) bounds → notified ≡ noticesIn w run
+        → StopsAs w (count (vars m)) stop run x → Runs (decided.runningOf m x) r) ⌝ }
+{
+    let number = stop.number;
+    if number != 0 {
+        return not_run(number, stop.frame, 0);
+    }
+    Running {
+        answer: answers::say(0, 0, 0),
+        record: record_of(bounds, run, notified),
+        of_file: false,
+    }
+}
+
+// 11 to 14: a run of a trace over an accepted file's slices, on both machines.
 pub fn run_from(
     bounds: Bounds,
     layout: Layout,
     bytes: &[u8],
     start: usize,
-    table: bool,
     kept: &[u8; machine::STATES],
     holds: &[u16; machine::STATES],
     after: &[u16; machine::AFTER],
     entries: &[u8; machine::ENTRIES],
-) -> Running
+) -> Both
     ensures { λ r. ⌜ ((m : Monitor) → Bounded (vars m) bounds → layout .regions ≡ length (regions m)
         → Held (model m) (now (kept .entry)) (now (holds .entry)) (now (after .entry)) (layout .«guard_of»)
         → HeldPlaces (model m) (layout .begins) (layout .«goes_on»)
-        → (table ≡ true → HeldEntries (model m) (now (entries .entry)))
-        → Checked (model m) → Runs (decided.runFrom m (machineOf table) start (now (bytes .entry))) r) ⌝ }
+        → HeldEntries (model m) (now (entries .entry)) → Checked (model m)
+        → (w : Bool) → Runs (decided.runFrom m (machineOf w) start (now (bytes .entry))) (ofMachine w (r .plain) (r .table))) ⌝ }
 {
     if bounds.states <= start || machine::STATES <= start {
-        return no_start();
+        return alike(no_start());
     }
     if kept[start] != 1 {
-        return no_start();
+        return alike(no_start());
     }
     if let Counted::BadAt(k) = trace::count(bytes) {
-        return not_run(12, k, 0);
+        return alike(not_run(12, k, 0));
     }
     let guard_of = layout.guard_of;
     let begins = layout.begins;
@@ -122,7 +155,6 @@ pub fn run_from(
     let ended = frames::run_trace(
         bytes,
         start as u16,
-        table,
         holds,
         after,
         &guard_of,
@@ -131,14 +163,11 @@ pub fn run_from(
         entries,
         layout.regions,
     );
-    let number = ended.number;
-    if number != 0 {
-        return not_run(number, ended.frame, 0);
-    }
+    let plain = ended.plain;
+    let table = ended.table;
     let last = ended.run;
-    Running {
-        answer: answers::say(0, 0, 0),
-        record: record_of(bounds, last),
-        of_file: false,
+    Both {
+        plain: running_of(bounds, plain, last, last.plain),
+        table: running_of(bounds, table, last, last.table),
     }
 }

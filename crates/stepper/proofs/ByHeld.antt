@@ -19,7 +19,8 @@ use Rattle.machine.specs.Decide.Table.{runs, entryOf}
 use Rattle.logic.specs.Tests.{bit}
 use Rattle.machine.specs.Held.{followsBy, codeOf, Held, HeldPlaces, HeldEntries}
 use Rattle.stepper.specs.declared.Run.{Run}
-use Rattle.stepper.specs.Shown.{Shows, Steps, toldOn}
+use Rattle.stepper.specs.declared.Outcome as code
+use Rattle.stepper.specs.Shown.{Shows, Steps, numberIn, toldOn}
 use Rattle.stepper.specs.Slices.{guardAt, holdsAt, afterAt, beginsAt, followsAt, entryBy, entryAt}
 use Rattle.stepper.specs.Slices.{slices, truths, toldAt, configOf}
 use Rattle.stepper.specs.Parts.{verdictOf, nextBy, nextOf, outcome, step-parts}
@@ -37,25 +38,19 @@ pub record Alike (d c : Config) : Type 0 where
   pub threads : SameThreads (d .threads) (c .threads)
   pub notices : (u : ℕ) → u < 16 → d .notified u ≡ c .notified u
 
-pub shows-alike : (r : Run) (d c : Config) → Alike d c → Shows r d → Shows r c
-shows-alike r d c a h = record {
+pub shows-alike : (w : Bool) (r : Run) (d c : Config) → Alike d c → Shows w r d → Shows w r c
+shows-alike w r d c a h = record {
   state = h .state ∙ a .state;
   threads = same-trans (h .threads) (a .threads);
   notices = λ u l. h .notices u l ∙ a .notices u l;
 }
 
--- an outcome of the code, where the number that answers the frame is known
-steps-refused : (r : Run) (k n : ℕ) (d : Config) → k ≡ n → (k ≡ 0 → ⊥)
-    → Steps r (record { number = k; run = r }) (outcome n d)
+-- an outcome of the code: its number is what answers the frame, and its record shows the next point where that is 0
+steps-by : (w : Bool) (o : code.Outcome) (n : ℕ) (d : Config) → numberIn w o ≡ n → (n ≡ 0 → Shows w (o .run) d)
+    → Steps w o (outcome n d)
 unfolding Steps outcome
-steps-refused r k zero d e l = absurd (l e)
-steps-refused r k (suc n) d e l = (e, refl)
-
-steps-moved : (r next : Run) (n : ℕ) (d : Config) → n ≡ 0 → Shows next d
-    → Steps r (record { number = 0; run = next }) (outcome n d)
-unfolding Steps outcome
-steps-moved r next zero d e s = (refl, s)
-steps-moved r next (suc n) d e s = absurd (omega arith)
+steps-by w o zero d e s = (e, s refl)
+steps-by w o (suc n) d e s = e
 
 -- ---- one look-up each
 
@@ -129,24 +124,24 @@ module _ (m : Monitor) (kept hs as′ gs : List ℕ) (held : Held m kept hs as�
     at-same n e (due w) r = refl
 
     -- ---- a whole frame
-    module _ (c : Config) (f : Frame) (run : Run) (thread : f .thread < 16) (reached : Reached m c)
-        (shows : Shows run c) where
+    module _ (w : Bool) (c : Config) (f : Frame) (run : Run) (thread : f .thread < 16) (reached : Reached m c)
+        (shows : Shows w run c) where
       state-below : c .state < m .states
       state-below = held .kept-below (c .state) (reached .is-kept)
 
-      threads-same : SameThreads (configOf run .threads) (c .threads)
+      threads-same : SameThreads (configOf w run .threads) (c .threads)
       unfolding configOf
       threads-same = shows .threads
 
-      place-same : (u : ℕ) → u < 16 → configOf run .threads .place u ≡ c .threads .place u
+      place-same : (u : ℕ) → u < 16 → configOf w run .threads .place u ≡ c .threads .place u
       unfolding threads
       place-same = threads-same .same-place
 
-      notice-same : (u : ℕ) → u < 16 → configOf run .notified u ≡ c .notified u
+      notice-same : (u : ℕ) → u < 16 → configOf w run .notified u ≡ c .notified u
       unfolding configOf
       notice-same u h = shows .notices u h
 
-      state-same : configOf run .state ≡ c .state
+      state-same : configOf w run .state ≡ c .state
       unfolding configOf
       state-same = shows .state
 
@@ -158,140 +153,131 @@ module _ (m : Monitor) (kept hs as′ gs : List ℕ) (held : Held m kept hs as�
         abbrev read : Monitor
         read = slices hs [] gs bs [] n
 
-        there-same : may read (configOf run .threads) f ≡ may m (c .threads) f
+        there-same : may read (configOf w run .threads) f ≡ may m (c .threads) f
         unfolding may threads
         there-same =
             ap₂ (λ (x y : Bool). not x && y)
-            (any-same 16 (λ u. not (eqb u (f .thread)) && isDue (configOf run .threads .place u))
+            (any-same 16 (λ u. not (eqb u (f .thread)) && isDue (configOf w run .threads .place u))
             (λ u. not (eqb u (f .thread)) && isDue (c .threads .place u))
             (λ u h. ap (λ (q : Place). not (eqb u (f .thread)) && isDue q) (place-same u h)))
             (ap (λ (q : Place). mayBeAt read q (f .region)) (place-same (f .thread) thread)
             ∙ at-same n e (c .threads .place (f .thread)) (f .region))
 
-        taken-alike : f .region < m .regions → verdictOf read (configOf run) f ≡ verdictOf m c f
+        taken-alike : f .region < m .regions → verdictOf read (configOf w run) f ≡ verdictOf m c f
         unfolding verdictOf
         taken-alike below =
             let guard : guardAt gs (f .region) ≡ m .guardOf (f .region) = guard-held (f .region) below in
-            let truth : holdsAt hs (guardAt gs (f .region)) (configOf run .state)
+            let truth : holdsAt hs (guardAt gs (f .region)) (configOf w run .state)
             ≡ m .holds (m .guardOf (f .region)) (c .state) =
             ap₂ (λ (g s : ℕ). holdsAt hs g s) guard state-same
             ∙ holds-held (m .guardOf (f .region)) (c .state) (held .guard-below (f .region) below) state-below in
             same-verdict there-same (ap (Bool·beq (f .flag)) truth) (ap isWaiting (place-same (f .thread) thread)) refl
             (notice-same (f .thread) thread)
-            (ap (λ (g : ℕ). firstNotified read (configOf run .threads) (configOf run .notified) g (f .thread)) guard
-            ∙ first-same read m (configOf run .threads) (c .threads) threads-same
-            (λ u w h q. guard-held w (waiter-below u w q)) (configOf run .notified) (c .notified) notice-same
+            (ap (λ (g : ℕ). firstNotified read (configOf w run .threads) (configOf w run .notified) g (f .thread)) guard
+            ∙ first-same read m (configOf w run .threads) (c .threads) threads-same
+            (λ u w h q. guard-held w (waiter-below u w q)) (configOf w run .notified) (c .notified) notice-same
             (m .guardOf (f .region)) (f .thread) thread)
 
-        pub verdict-held : verdictOf read (configOf run) f ≡ verdictOf m c f
+        pub verdict-held : verdictOf read (configOf w run) f ≡ verdictOf m c f
         verdict-held = go (may m (c .threads) f) refl
           where
-            go : (b : Bool) → may m (c .threads) f ≡ b → verdictOf read (configOf run) f ≡ verdictOf m c f
+            go : (b : Bool) → may m (c .threads) f ≡ b → verdictOf read (configOf w run) f ≡ verdictOf m c f
             go true q = taken-alike (there-below m c f reached q)
-            go false q = absent read (configOf run) f (there-same ∙ q) ∙ sym (absent m c f q)
+            go false q = absent read (configOf w run) f (there-same ∙ q) ∙ sym (absent m c f q)
 
-      module _ (es : List ℕ) (table : Bool) (entries : table ≡ true → HeldEntries m es) (taken : verdictOf m c f ≡ 0)
-        where
-          abbrev moves : Monitor
-          moves = slices hs as′ gs [] os 0
+      module _ (es : List ℕ) (entries : w ≡ true → HeldEntries m es) (taken : verdictOf m c f ≡ 0) where
+        abbrev moves : Monitor
+        moves = slices hs as′ gs [] os 0
 
-          below : f .region < m .regions
-          below = there-below m c f reached (taken-there m c f taken)
+        below : f .region < m .regions
+        below = there-below m c f reached (taken-there m c f taken)
 
-          -- the threads after a body
-          abbrev left-of : Threads
-          left-of = leave (c .threads) (f .thread) (m .follows (f .region))
+        -- the threads after a body
+        abbrev left-of : Threads
+        left-of = leave (c .threads) (f .thread) (m .follows (f .region))
 
-          abbrev left-read : Threads
-          left-read = leave (configOf run .threads) (f .thread) (followsAt os (f .region))
+        abbrev left-read : Threads
+        left-read = leave (configOf w run .threads) (f .thread) (followsAt os (f .region))
 
-          left-alike : SameThreads left-read left-of
-          left-alike =
-              subst (λ (q : Place). SameThreads (leave (configOf run .threads) (f .thread) q) left-of)
-              (sym (follows-held (f .region) below)) (left-same m threads-same (f .thread) (m .follows (f .region)))
+        left-alike : SameThreads left-read left-of
+        left-alike =
+            subst (λ (q : Place). SameThreads (leave (configOf w run .threads) (f .thread) q) left-of)
+            (sym (follows-held (f .region) below)) (left-same m threads-same (f .thread) (m .follows (f .region)))
 
-          left-below : (u w : ℕ) → left-of .place u ≡ waiting w → w < m .regions
-          left-below = taken-frame.left-below m c f reached bs os places below
+        left-below : (u w : ℕ) → left-of .place u ≡ waiting w → w < m .regions
+        left-below = taken-frame.left-below m c f reached bs os places below
 
-          module _ (flag : f .flag ≡ true) where
-            runs-now : runs m (f .region) (c .state) ≡ true
-            runs-now = taken-runs m c f taken (reached .is-kept) flag
+        module _ (flag : f .flag ≡ true) where
+          runs-now : runs m (f .region) (c .state) ≡ true
+          runs-now = taken-runs m c f taken (reached .is-kept) flag
 
-            abbrev to : ℕ
-            to = m .after (f .region) (c .state)
+          abbrev to : ℕ
+          to = m .after (f .region) (c .state)
 
-            to-below : to < m .states
-            to-below = held .after-below (f .region) (c .state) below runs-now
+          to-below : to < m .states
+          to-below = held .after-below (f .region) (c .state) below runs-now
 
-            to-same : afterAt as′ (f .region) (configOf run .state) ≡ to
-            to-same = ap (afterAt as′ (f .region)) state-same ∙ after-held (f .region) (c .state) below state-below
-                runs-now
+          to-same : afterAt as′ (f .region) (configOf w run .state) ≡ to
+          to-same = ap (afterAt as′ (f .region)) state-same ∙ after-held (f .region) (c .state) below state-below
+              runs-now
 
-            told-on : (t : Bool) → (t ≡ true → HeldEntries m es) → (u : ℕ) → u < 16
-                → toldAt hs gs es t to left-read (f .region) u ≡ toldOn m t to left-of (f .region) u
-            unfolding toldAt toldOn
-            told-on true all u h =
-                table-same (truths hs gs) m left-read left-of left-alike (λ v w l q. guard-held w (left-below v w q)) to
-                (λ v w l q. holds-held (m .guardOf w) to (held .guard-below w (left-below v w q)) to-below) (entryAt es)
-                (entryOf m) (f .region)
-                (λ v w l q. entry-held es (all refl) (f .region) (m .guardOf w) below
-                (held .guard-below w (left-below v w q))) u h
-            told-on false all u h =
-                plain-same (truths hs gs) m left-read left-of left-alike (λ v w l q. guard-held w (left-below v w q)) to
-                (λ v w l q. holds-held (m .guardOf w) to (held .guard-below w (left-below v w q)) to-below) (f .region)
-                u
-                h
+          told-on : (t : Bool) → (t ≡ true → HeldEntries m es) → (u : ℕ) → u < 16
+              → toldAt hs gs es t to left-read (f .region) u ≡ toldOn m t to left-of (f .region) u
+          unfolding toldAt toldOn
+          told-on true all u h =
+              table-same (truths hs gs) m left-read left-of left-alike (λ v w l q. guard-held w (left-below v w q)) to
+              (λ v w l q. holds-held (m .guardOf w) to (held .guard-below w (left-below v w q)) to-below) (entryAt es)
+              (entryOf m) (f .region)
+              (λ v w l q. entry-held es (all refl) (f .region) (m .guardOf w) below
+              (held .guard-below w (left-below v w q))) u h
+          told-on false all u h =
+              plain-same (truths hs gs) m left-read left-of left-alike (λ v w l q. guard-held w (left-below v w q)) to
+              (λ v w l q. holds-held (m .guardOf w) to (held .guard-below w (left-below v w q)) to-below) (f .region)
+              u
+              h
 
-            ran-alike : Alike (ran moves (toldAt hs gs es table) (configOf run) f) (ran m (toldOn m table) c f)
-            unfolding ran without
-            ran-alike = record {
-              state = to-same;
-              threads = left-alike;
-              notices = λ u h.
-                  ap₂ (λ (x y : Bool). (not (eqb u (f .thread)) && x) || y) (notice-same u h)
-                  (ap (λ (s : ℕ). toldAt hs gs es table s left-read (f .region) u) to-same ∙ told-on table entries u h);
-            }
-
-          alike : (flag waits : Bool) → f .flag ≡ flag
-              → Alike (nextBy moves (toldAt hs gs es table) (configOf run) f flag waits)
-              (nextBy m (toldOn m table) c f flag waits)
-          unfolding nextBy rechecked waited without
-          alike true waits q = ran-alike q
-          alike false true q = record {
-            state = state-same;
-            threads = threads-same;
-            notices = λ u h. ap (λ (x : Bool). not (eqb u (f .thread)) && x) (notice-same u h);
-          }
-          alike false false q = record {
-            state = state-same;
-            threads = began-same m threads-same (f .thread) (f .region);
-            notices = notice-same;
+          ran-alike : Alike (ran moves (toldAt hs gs es w) (configOf w run) f) (ran m (toldOn m w) c f)
+          unfolding ran without
+          ran-alike = record {
+            state = to-same;
+            threads = left-alike;
+            notices = λ u h.
+                ap₂ (λ (x y : Bool). (not (eqb u (f .thread)) && x) || y) (notice-same u h)
+                (ap (λ (s : ℕ). toldAt hs gs es w s left-read (f .region) u) to-same ∙ told-on w entries u h);
           }
 
-          pub next-held : Alike (nextOf moves (toldAt hs gs es table) (configOf run) f) (nextOf m (toldOn m table) c f)
-          unfolding nextOf
-          next-held =
-              subst (λ (w : Bool). Alike (nextBy moves (toldAt hs gs es table) (configOf run) f (f .flag) w)
-              (nextOf m (toldOn m table) c f))
-              (sym (ap isWaiting (place-same (f .thread) thread)))
-              (alike (f .flag) (isWaiting (c .threads .place (f .thread))) refl)
+        alike : (flag waits : Bool) → f .flag ≡ flag
+            → Alike (nextBy moves (toldAt hs gs es w) (configOf w run) f flag waits)
+            (nextBy m (toldOn m w) c f flag waits)
+        unfolding nextBy rechecked waited without
+        alike true waits q = ran-alike q
+        alike false true q = record {
+          state = state-same;
+          threads = threads-same;
+          notices = λ u h. ap (λ (x : Bool). not (eqb u (f .thread)) && x) (notice-same u h);
+        }
+        alike false false q = record {
+          state = state-same;
+          threads = began-same m threads-same (f .thread) (f .region);
+          notices = notice-same;
+        }
 
-      -- ---- the code's two answers against the machine's step
-      module _ (n : ℕ) (e : m .regions ≡ n) (es : List ℕ) (table : Bool) (entries : table ≡ true → HeldEntries m es)
-        where
-          pub refuses : (k : ℕ) → k ≡ verdictOf (slices hs [] gs bs [] n) (configOf run) f → (k ≡ 0 → ⊥)
-              → Steps run (record { number = k; run = run }) (step m (toldOn m table) c f)
-          refuses k q l =
-              subst (λ (o : Outcome). Steps run (record { number = k; run = run }) o)
-              (sym (step-parts m (toldOn m table) c f))
-              (steps-refused run k (verdictOf m c f) (nextOf m (toldOn m table) c f) (q ∙ verdict-held n e) l)
+        pub next-held : Alike (nextOf moves (toldAt hs gs es w) (configOf w run) f) (nextOf m (toldOn m w) c f)
+        unfolding nextOf
+        next-held =
+            subst (λ (b : Bool). Alike (nextBy moves (toldAt hs gs es w) (configOf w run) f (f .flag) b)
+            (nextOf m (toldOn m w) c f))
+            (sym (ap isWaiting (place-same (f .thread) thread)))
+            (alike (f .flag) (isWaiting (c .threads .place (f .thread))) refl)
 
-          pub takes : (k : ℕ) (next : Run) → k ≡ verdictOf (slices hs [] gs bs [] n) (configOf run) f → k ≡ 0
-              → Shows next (nextOf (slices hs as′ gs [] os 0) (toldAt hs gs es table) (configOf run) f)
-              → Steps run (record { number = 0; run = next }) (step m (toldOn m table) c f)
-          takes k next q l shown =
-              let taken : verdictOf m c f ≡ 0 = sym (q ∙ verdict-held n e) ∙ l in
-              subst (λ (o : Outcome). Steps run (record { number = 0; run = next }) o)
-              (sym (step-parts m (toldOn m table) c f))
-              (steps-moved run next (verdictOf m c f) (nextOf m (toldOn m table) c f) taken
-              (shows-alike next _ (nextOf m (toldOn m table) c f) (next-held es table entries taken) shown))
+      -- ---- the code's outcome against the machine's step
+      pub steps-held : (n : ℕ) → m .regions ≡ n → (es : List ℕ) → (w ≡ true → HeldEntries m es) → (o : code.Outcome)
+          → numberIn w o ≡ verdictOf (slices hs [] gs bs [] n) (configOf w run) f
+          → (numberIn w o ≡ 0 → Shows w (o .run) (nextOf (slices hs as′ gs [] os 0) (toldAt hs gs es w) (configOf w run) f))
+          → Steps w o (step m (toldOn m w) c f)
+      steps-held n e es entries o number shown =
+          let same = number ∙ verdict-held n e in
+          subst (Steps w o) (sym (step-parts m (toldOn m w) c f))
+          (steps-by w o (verdictOf m c f) (nextOf m (toldOn m w) c f) same
+          (λ taken. shows-alike w (o .run) _ (nextOf m (toldOn m w) c f) (next-held es entries taken)
+          (shown (same ∙ taken))))

@@ -70,20 +70,13 @@ module _ (m : Monitor) (c : Config) (f : Frame) where
   unfolding verdictOf verdict
   not-waiting t s w = same-verdict t s w (as-is (f .flag)) (as-is notice) (as-is first)
 
-  pub no-notice : there ≡ true → same ≡ true → waits ≡ true → notice ≡ false → verdictOf m c f ≡ 14
-  unfolding verdictOf verdict
-  no-notice t s w n = same-verdict t s w (as-is (f .flag)) n (as-is first)
+  -- what is left to ask of a waiting thread: its notice, and with 01 those ahead of it
+  pub waits-here : there ≡ true → same ≡ true → waits ≡ true → verdictOf m c f ≡ verdict true true true (f .flag) notice first
+  unfolding verdictOf
+  waits-here t s w = same-verdict t s w (as-is (f .flag)) (as-is notice) (as-is first)
 
-  pub recheck : there ≡ true → same ≡ true → waits ≡ true → notice ≡ true → f .flag ≡ false → verdictOf m c f ≡ 0
-  unfolding verdictOf verdict
-  recheck t s w n l = same-verdict t s w l n (as-is first)
-
-  pub resumes : there ≡ true → same ≡ true → waits ≡ true → notice ≡ true → f .flag ≡ true → first ≡ true
-      → verdictOf m c f ≡ 0
-  unfolding verdictOf verdict
-  resumes t s w n l p = same-verdict t s w l n p
-
-  pub not-first : there ≡ true → same ≡ true → waits ≡ true → notice ≡ true → f .flag ≡ true → first ≡ false
-      → verdictOf m c f ≡ 14
-  unfolding verdictOf verdict
-  not-first t s w n l p = same-verdict t s w l n p
+-- of a recheck nobody asks who stands ahead
+pub none-ahead : (notice first : Bool) → verdict true true true false notice true ≡ verdict true true true false notice first
+unfolding verdict
+none-ahead true first = refl
+none-ahead false first = refl

@@ -1,3 +1,4 @@
+pub mod Machines
 pub mod Loops
 pub mod Front
 pub mod Judged

@@ -13,7 +13,7 @@ use Rattle.machine.specs.Algorithm1.{Entry, none, entry}
 use Rattle.machine.specs.Decide.Table.{acts, tableTold}
 use Rattle.machine.specs.Held.{followsBy}
 use Rattle.stepper.specs.declared.Run.{Run}
-use Rattle.stepper.specs.Shown.{threadsOf}
+use Rattle.stepper.specs.Shown.{threadsOf, noticesIn}
 
 unfoldable pub guardAt : List ℕ → ℕ → ℕ
 guardAt gs r = getD gs (r % mostRegions) 0 % mostRegions
@@ -62,9 +62,9 @@ unfoldable pub toldAt : List ℕ → List ℕ → List ℕ → Bool → Told
 toldAt hs gs es true = tableTold (truths hs gs) (entryAt es)
 toldAt hs gs es false = plainTold (truths hs gs)
 
--- the point of a run that a record holds
-unfoldable pub configOf : Run → Config
-configOf r = record { state = r .state; threads = threadsOf (r .threads); notified = member (r .notified) }
+-- the point of a machine's run that a record holds
+unfoldable pub configOf : Bool → Run → Config
+configOf w r = record { state = r .state; threads = threadsOf (r .threads); notified = member (noticesIn w r) }
 
 -- an entry acts on the waiter at a place, where the guards that some thread ahead waits on are those of a set
 module _ (hs gs es : List ℕ) (s r met : ℕ) where

@@ -1,22 +1,23 @@
-// One frame on either machine: a record of a run by value, and the step that the rules give or the refusal's number.
-// Each promise cites the step of `machine`, for every monitor that the lent slices hold.
+// One frame on both machines: a record of their runs by value, and of each machine the step that the rules give or the
+// refusal's number. What both have in common is held and judged once. Each promise cites the step of `machine`, for every
+// monitor that the lent slices hold, and for either machine.
 ghost use mathlib.Core.Path.{_≡_};
-ghost use mathlib.Core.Bool.{true, false, not, _&&_, _||_};
+ghost use mathlib.Core.Bool.{Bool, true, false, not, _&&_, _||_};
 ghost use mathlib.Core.List.{List, []};
 ghost use Prim.Native.Nat.{ℕ, _<_};
 ghost use lib.Dec.{eqb};
 ghost use Rattle.sets.specs.Set.{member};
-ghost use Rattle.machine.specs.Monitor.{SameThreads, Monitor, Config, allIdle};
+ghost use Rattle.machine.specs.Monitor.{SameThreads, Threads, Monitor, Config, allIdle};
 ghost use Rattle.logic.specs.Tests.{any};
 ghost use Rattle.machine.specs.Decide.Step.{Told, isDue, isWaiting, mayBeAt, onGuard, waitsOn, firstNotified, own};
 ghost use Rattle.machine.specs.Decide.Step.{put as putAt, beginWait, leave as leaveTo, ran as ranTo};
 ghost use Rattle.machine.specs.Decide.Table.{acts as actsOf, tableTold};
 ghost use Rattle.machine.specs.Held.{Held, HeldPlaces, HeldEntries};
 ghost use Rattle.machine.proofs.Reached.{Reached};
-ghost use Rattle.stepper.specs.Shown.{Shows, Steps, stepBy, placeOf, placesOf, threadsOf, frameOf};
+ghost use Rattle.stepper.specs.Shown.{ofMachine, Shows, Steps, Stays, stepBy, placeOf, placesOf, threadsOf, frameOf};
 ghost use Rattle.stepper.specs.Slices.{guardAt, holdsAt, followsAt, entryBy, entryAt, slices, guardsOnly, truths};
 ghost use Rattle.stepper.specs.Slices.{toldAt, toldBehind, configOf};
-ghost use Rattle.stepper.specs.Parts.{verdictOf, nextBy};
+ghost use Rattle.stepper.specs.Parts.{verdict, verdictOf, nextBy};
 
 // Where a thread is: idle, waiting at a region, or due at a region.
 pub enum Place {
@@ -29,11 +30,13 @@ pub struct Thread {
     pub place: Place,
 }
 
-// The record of a run: the state's number, the place of each of sixteen threads, and the notified set.
+// The record of both machines' runs: the state's number, the place of each of sixteen threads, and each machine's
+// notified set.
 pub struct Run {
     pub state: u16,
     pub threads: [Thread; machine::THREADS],
-    pub notified: u16,
+    pub plain: u16,
+    pub table: u16,
 }
 
 pub struct Frame {
@@ -42,10 +45,24 @@ pub struct Frame {
     pub flag: bool,
 }
 
-// The refusal's number, or 0, and the run afterwards: as it was where the frame is refused.
+// Of each machine the refusal's number, or 0 where it takes the frame; and the record afterwards, which shows the next
+// point of a machine that takes it, and is as it was where neither does.
 pub struct Outcome {
-    pub number: u8,
+    pub plain: u8,
+    pub table: u8,
     pub run: Run,
+}
+
+// What answers a frame on each machine.
+struct Numbers {
+    plain: u8,
+    table: u8,
+}
+
+// A set of threads for each machine.
+struct Notices {
+    plain: u16,
+    table: u16,
 }
 
 const ACCEPTED: u8 = 0;
@@ -56,12 +73,13 @@ const NOT_ALLOWED: u8 = 14;
 
 // A run at its start: all idle, none notified.
 pub fn start(state: u16) -> Run
-    ensures { λ r. ⌜ Shows r (allIdle state) ⌝ }
+    ensures { λ r. ⌜ ((w : Bool) → Shows w r (allIdle state)) ⌝ }
 {
     Run {
         state: state,
         threads: [Thread { place: Place::Idle }; machine::THREADS],
-        notified: 0,
+        plain: 0,
+        table: 0,
     }
 }
 
@@ -102,18 +120,15 @@ fn is_waiting(place: Place) -> bool
 fn other_due(threads: [Thread; machine::THREADS], t: usize) -> bool
     ensures { λ r. ⌜ r ≡ any 16 (λ u. not (eqb u t) && isDue (placesOf threads u)) ⌝ }
 {
+    let mut found = false;
     let mut u: usize = 0;
     while u < machine::THREADS {
         let thread = threads[u];
         let place = thread.place;
-        if u != t {
-            if is_due(place) {
-                return true;
-            }
-        }
+        found = (u != t) & is_due(place) | found;
         u += 1;
     }
-    false
+    found
 }
 
 // Whether a thread at a place may be at a region next.
@@ -157,14 +172,29 @@ fn waiters(threads: [Thread; machine::THREADS], guard_of: &[u8; machine::REGIONS
     set
 }
 
-// Whether none of those notified on a guard stands ahead of thread t.
-fn is_first(threads: [Thread; 16], guard_of: &[u8; 16], guard: u8, notified: u16, t: u8) -> bool
-    ensures { λ r. ⌜ (t < 16 → r
-        ≡ firstNotified (guardsOnly (now («guard_of» .entry))) (threadsOf threads) (member notified) guard t) ⌝ }
+// What answers a waiting thread t whose flag is 00, by a machine's notices: it must have one.
+fn rechecks(notified: u16, t: u8) -> u8
+    ensures { λ r. ⌜ r ≡ verdict true true true false (member notified t) true ⌝ }
 {
-    let waiting = waiters(threads, guard_of, guard);
-    let ahead = sets::both(waiting, notified);
-    t as u32 <= sets::lowest(ahead)
+    if sets::has(notified, t as u32) {
+        return ACCEPTED;
+    }
+    NOT_ALLOWED
+}
+
+// What answers a waiting thread t whose flag is 01: it must have a notice, and none of those in its guard's line that have
+// one may stand ahead of it.
+fn resumes(notified: u16, line: u16, t: u8) -> u8
+    ensures { λ r. ⌜ ((m : Monitor) (p : Threads) (g : ℕ) → t < 16 → ((v : ℕ) → v < 16 → member line v ≡ waitsOn m p g v)
+        → r ≡ verdict true true true true (member notified t) (firstNotified m p (member notified) g t)) ⌝ }
+{
+    if !sets::has(notified, t as u32) {
+        return NOT_ALLOWED;
+    }
+    if t as u32 <= sets::lowest(sets::both(line, notified)) {
+        return ACCEPTED;
+    }
+    NOT_ALLOWED
 }
 
 // Whether the plain machine notifies a thread at a place: it waits and its guard holds.
@@ -181,29 +211,6 @@ fn own_holds(
         Place::Waiting(w) => holds_at(holds, guard_at(guard_of, w), state),
         Place::Due(_) => false,
     }
-}
-
-// Every waiter whose guard holds.
-fn told_plain(
-    threads: [Thread; machine::THREADS],
-    guard_of: &[u8; machine::REGIONS],
-    holds: &[u16; machine::STATES],
-    state: u16,
-) -> u16
-    ensures { λ r. ⌜ ((u : ℕ) → u < 16 → member r u
-        ≡ own (truths (now (holds .entry)) (now («guard_of» .entry))) state (placesOf threads u)) ⌝ }
-{
-    let mut set: u16 = 0;
-    let mut u: usize = 0;
-    while u < machine::THREADS {
-        let thread = threads[u];
-        let place = thread.place;
-        if own_holds(place, guard_of, holds, state) {
-            set = sets::with(set, u as u32);
-        }
-        u += 1;
-    }
-    set
 }
 
 // Whether an entry acts on a waiter: does its guard hold, and is it next in line.
@@ -266,32 +273,39 @@ fn met_with(met: u16, place: Place, guard_of: &[u8; machine::REGIONS]) -> u16
     }
 }
 
-// Those whom the entries of a region notify; the first waiter on each guard is the first that is met.
-fn told_table(
+// Whom a body notifies: on the plain machine every waiter whose guard holds, on the table's those whom the entries of the
+// region do; the first waiter on each guard is the first that is met.
+fn told(
     threads: [Thread; machine::THREADS],
     guard_of: &[u8; machine::REGIONS],
     holds: &[u16; machine::STATES],
     state: u16,
     entries: &[u8; machine::ENTRIES],
     region: u8,
-) -> u16
-    ensures { λ r. ⌜ ((u : ℕ) → u < 16 → member r u
-        ≡ tableTold (truths (now (holds .entry)) (now («guard_of» .entry))) (entryAt (now (entries .entry))) state
-        (threadsOf threads) region u) ⌝ }
+) -> Notices
+    ensures { λ r. ⌜ ((w : Bool) (u : ℕ) → u < 16 → member (ofMachine w (r .plain) (r .table)) u
+        ≡ toldAt (now (holds .entry)) (now («guard_of» .entry)) (now (entries .entry)) w state (threadsOf threads) region u) ⌝ }
 {
-    let mut set: u16 = 0;
+    let mut plain: u16 = 0;
+    let mut table: u16 = 0;
     let mut met: u16 = 0;
     let mut u: usize = 0;
     while u < machine::THREADS {
         let thread = threads[u];
         let place = thread.place;
+        if own_holds(place, guard_of, holds, state) {
+            plain = sets::with(plain, u as u32);
+        }
         if entry_acts(place, guard_of, holds, state, entries, region, met) {
-            set = sets::with(set, u as u32);
+            table = sets::with(table, u as u32);
         }
         met = met_with(met, place, guard_of);
         u += 1;
     }
-    set
+    Notices {
+        plain: plain,
+        table: table,
+    }
 }
 
 // The places with that of thread t replaced.
@@ -328,8 +342,8 @@ fn behind(region: u8, goes_on: &[u8; machine::REGIONS]) -> Place
     }
 }
 
-// The number that answers a frame: 0 where it is taken, 13 where the thread may not be at the region, 14 where the
-// rules do not allow it.
+// What answers a frame on each machine: 0 where it is taken, 13 where the thread may not be at the region, 14 where the
+// rules do not allow it. Only what a waiting thread's notice asks is asked of each machine.
 fn judge(
     run: Run,
     frame: Frame,
@@ -337,49 +351,59 @@ fn judge(
     guard_of: &[u8; machine::REGIONS],
     begins: &[u8; machine::REGIONS],
     regions: usize,
-) -> u8
+) -> Numbers
     requires { ⌜ frame .thread < 16 ⌝ }
-    ensures { λ r. ⌜ r
+    ensures { λ r. ⌜ ((w : Bool) → ofMachine w (r .plain) (r .table)
         ≡ verdictOf (slices (now (holds .entry)) [] (now («guard_of» .entry)) (now (begins .entry)) [] regions)
-        (configOf run) (frameOf frame) ⌝ }
+        (configOf w run) (frameOf frame)) ⌝ }
 {
     let t = frame.thread;
     let region = frame.region;
     let threads = run.threads;
     if other_due(threads, t as usize) {
-        return MISPLACED;
+        return alike(MISPLACED);
     }
     let thread = threads[t as usize];
     let place = thread.place;
     if !may_be_at(place, region, begins, regions) {
-        return MISPLACED;
+        return alike(MISPLACED);
     }
     let guard = guard_at(guard_of, region);
     let flag = frame.flag;
     let holding = holds_at(holds, guard, run.state);
     if flag != holding {
-        return NOT_ALLOWED;
+        return alike(NOT_ALLOWED);
     }
     if !is_waiting(place) {
-        return ACCEPTED;
-    }
-    let notified = run.notified;
-    if !sets::has(notified, t as u32) {
-        return NOT_ALLOWED;
+        return alike(ACCEPTED);
     }
     if flag {
-        if !is_first(threads, guard_of, guard, notified, t) {
-            return NOT_ALLOWED;
-        }
+        let line = waiters(threads, guard_of, guard);
+        return Numbers {
+            plain: resumes(run.plain, line, t),
+            table: resumes(run.table, line, t),
+        };
     }
-    ACCEPTED
+    Numbers {
+        plain: rechecks(run.plain, t),
+        table: rechecks(run.table, t),
+    }
 }
 
-// The run after a region's body.
+// One number for both machines.
+fn alike(number: u8) -> Numbers
+    ensures { λ r. ⌜ ((w : Bool) → ofMachine w (r .plain) (r .table) ≡ number) ⌝ }
+{
+    Numbers {
+        plain: number,
+        table: number,
+    }
+}
+
+// The record after a region's body.
 fn ran(
     run: Run,
     frame: Frame,
-    table: bool,
     holds: &[u16; machine::STATES],
     after: &[u16; machine::AFTER],
     guard_of: &[u8; machine::REGIONS],
@@ -387,11 +411,11 @@ fn ran(
     entries: &[u8; machine::ENTRIES],
 ) -> Run
     requires { ⌜ frame .thread < 16 ⌝ }
-    ensures { λ r. ⌜ Shows r
+    ensures { λ r. ⌜ ((w : Bool) → Shows w r
         (ranTo (slices (now (holds .entry)) (now (after .entry)) (now («guard_of» .entry)) [] (now («goes_on» .entry))
         0)
-        (toldAt (now (holds .entry)) (now («guard_of» .entry)) (now (entries .entry)) table) (configOf run)
-        (frameOf frame)) ⌝ }
+        (toldAt (now (holds .entry)) (now («guard_of» .entry)) (now (entries .entry)) w) (configOf w run)
+        (frameOf frame))) ⌝ }
 {
     let t = frame.thread;
     let region = frame.region;
@@ -399,53 +423,47 @@ fn ran(
     let places = leave(threads, t as usize, behind(region, goes_on));
     let to = after[(region % machine::REGION_END) as usize * machine::STATES
         + (run.state % machine::STATE_END) as usize];
-    let notified = run.notified;
-    let told = if table {
-        told_table(places, guard_of, holds, to, entries, region)
-    } else {
-        told_plain(places, guard_of, holds, to)
-    };
-    let rest = sets::without(notified, t as u32);
+    let more = told(places, guard_of, holds, to, entries, region);
     Run {
         state: to,
         threads: places,
-        notified: sets::union(rest, told),
+        plain: sets::union(sets::without(run.plain, t as u32), more.plain),
+        table: sets::union(sets::without(run.table, t as u32), more.table),
     }
 }
 
-// The run after a frame with 00 that is taken: a recheck, or a thread that begins to wait. No monitor is asked.
+// The record after a frame with 00 that is taken: a recheck, or a thread that begins to wait. No monitor is asked.
 fn paused(run: Run, frame: Frame) -> Run
     requires { ⌜ frame .thread < 16 ⌝ }
-    ensures { λ r. ⌜ ((m : Monitor) (told : Told) → Shows r
-        (nextBy m told (configOf run) (frameOf frame) false (isWaiting (placesOf (run .threads) (frame .thread))))) ⌝ }
+    ensures { λ r. ⌜ ((w : Bool) (m : Monitor) (told : Told) → Shows w r
+        (nextBy m told (configOf w run) (frameOf frame) false (isWaiting (placesOf (run .threads) (frame .thread))))) ⌝ }
 {
     let t = frame.thread;
     let state = run.state;
     let threads = run.threads;
-    let notified = run.notified;
     let thread = threads[t as usize];
     let place = thread.place;
     if is_waiting(place) {
-        let rest = sets::without(notified, t as u32);
         return Run {
             state: state,
             threads: threads,
-            notified: rest,
+            plain: sets::without(run.plain, t as u32),
+            table: sets::without(run.table, t as u32),
         };
     }
     let places = begin_wait(threads, t as usize, frame.region);
     Run {
         state: state,
         threads: places,
-        notified: notified,
+        plain: run.plain,
+        table: run.table,
     }
 }
 
-// One frame on the plain machine, or on the table's.
+// One frame on both machines.
 pub fn step(
     run: Run,
     frame: Frame,
-    table: bool,
     holds: &[u16; machine::STATES],
     after: &[u16; machine::AFTER],
     guard_of: &[u8; machine::REGIONS],
@@ -454,12 +472,13 @@ pub fn step(
     entries: &[u8; machine::ENTRIES],
     regions: usize,
 ) -> Outcome
-    ensures { λ r. ⌜ ((m : Monitor) (c : Config) (kept : List ℕ) → m .regions ≡ regions
+    ensures { λ r. ⌜ ((w : Bool) (m : Monitor) (c : Config) (kept : List ℕ) → m .regions ≡ regions
         → Held m kept (now (holds .entry)) (now (after .entry)) (now («guard_of» .entry))
         → HeldPlaces m (now (begins .entry)) (now («goes_on» .entry))
-        → (table ≡ true → HeldEntries m (now (entries .entry)))
-        → frame .thread < 16 → Reached m c → Shows run c
-        → Steps run r (stepBy m table c frame)) ⌝ }
+        → (w ≡ true → HeldEntries m (now (entries .entry)))
+        → frame .thread < 16 → Reached m c → Shows w run c
+        → Steps w r (stepBy m w c frame)) ⌝ }
+    ensures { λ r. ⌜ Stays run r ⌝ }
 {
     let known = Frame {
         thread: frame.thread % machine::THREAD_END,
@@ -467,19 +486,23 @@ pub fn step(
         flag: frame.flag,
     };
     let number = judge(run, known, holds, guard_of, begins, regions);
-    if number != ACCEPTED {
-        return Outcome {
-            number: number,
-            run: run,
-        };
+    if number.plain != ACCEPTED {
+        if number.table != ACCEPTED {
+            return Outcome {
+                plain: number.plain,
+                table: number.table,
+                run: run,
+            };
+        }
     }
     let next = if known.flag {
-        ran(run, known, table, holds, after, guard_of, goes_on, entries)
+        ran(run, known, holds, after, guard_of, goes_on, entries)
     } else {
         paused(run, known)
     };
     Outcome {
-        number: ACCEPTED,
+        plain: number.plain,
+        table: number.table,
         run: next,
     }
 }

@@ -18,11 +18,11 @@ count-requires : tie.Need-count-requires
 count-requires c κs = search needs
 
 returns : tie.Need-returns
-returns c m d b s l =
+returns c m w d b own s l =
     let g = c .before .before .struct-known .given in
     let long = c .before .before .before .before .good .1 .0 .1 .1 .1 .0 .1 .0 .1 in
     let same = s .state in
-    recorded m d _ _ _ _ s (simp length-map at long) (omega arith) (b .counted)
+    recorded m w d _ _ _ _ _ own s (simp length-map at long) (omega arith) (b .counted)
     (c .before .values-of .ensures (vars m) b (omega arith))
     (c .count .ensures)
 

@@ -1,20 +1,21 @@
--- `stepper::step` meets its contract: the number and the next point of the slices' monitor are those of the monitor
--- that they hold, and the two parts make the machine's step.
+-- `stepper::step` meets its contract, for either machine: the number and the next point of the slices' monitor are those of
+-- the monitor that they hold, and the two parts make the machine's step.
 use Prim.Native.Nat.{ℕ, _%_, _<_}
-use mathlib.Core.Path.{_≡_, sym, ap, _∙_, subst}
+use mathlib.Core.Path.{_≡_, refl, sym, ap, _∙_, subst}
 use mathlib.Core.Bool.{Bool, true, false}
+use mathlib.Core.Logic.{⊎-elim}
 use mathlib.Core.List.{[]}
 use native.Mathlib.Nat.{mod-eq-of-lt}
-use native.Mathlib.Omega.{arith}
 use borrow.Author.Needs.{needs}
 use Rattle.machine.specs.Monitor.{Monitor, Config, Frame}
 use Rattle.machine.specs.Decide.Step.{Told, isWaiting, ran}
 use Rattle.stepper.specs.declared.Frame as code
 use Rattle.stepper.specs.declared.Run.{Run}
-use Rattle.stepper.specs.Shown.{Shows, stepBy, frameOf}
+use Rattle.stepper.specs.Shown.{ofMachine, Shows, Stays, stepBy, frameOf}
 use Rattle.stepper.specs.Slices.{slices, toldAt, configOf}
 use Rattle.stepper.specs.Parts.{verdictOf, nextBy, nextOf}
-use Rattle.stepper.proofs.ByHeld.{refuses, takes}
+use Rattle.stepper.proofs.Machines.{each-machine}
+use Rattle.stepper.proofs.ByHeld.{steps-held}
 use Rattle.stepper.proofs.step.Statement.{statement}
 use Rattle.stepper.proofs.step.Tie as tie
 
@@ -26,14 +27,15 @@ same-frame : (f : code.Frame) → f .thread < 16 → frameOf (known f) ≡ frame
 unfolding frameOf
 same-frame f h = ap (λ (t : ℕ). frameOf (record { thread = t; region = f .region; flag = f .flag })) (mod-eq-of-lt h)
 
-number : (c : tie.After-judge) → let a = c .before .before .args in a .frame .thread < 16
-    → c .judge .result
-    ≡ verdictOf (slices (a .holds .now) [] (a .guard-of .now) (a .begins .now) [] (a .regions)) (configOf (a .run))
+number : (c : tie.After-judge) (w : Bool) → let a = c .before .before .args in a .frame .thread < 16
+    → ofMachine w (c .judge .result .plain) (c .judge .result .table)
+    ≡ verdictOf (slices (a .holds .now) [] (a .guard-of .now) (a .begins .now) [] (a .regions)) (configOf w (a .run))
     (frameOf (a .frame))
-number c h =
+number c w h =
     let a = c .before .before .args in
-    c .judge .ensures
-    ∙ ap (verdictOf (slices (a .holds .now) [] (a .guard-of .now) (a .begins .now) [] (a .regions)) (configOf (a .run)))
+    c .judge .ensures w
+    ∙ ap
+    (verdictOf (slices (a .holds .now) [] (a .guard-of .now) (a .begins .now) [] (a .regions)) (configOf w (a .run)))
     (same-frame (a .frame) h)
 
 -- the next point is by the flag: a body ran, or the thread pauses
@@ -47,53 +49,71 @@ module _ (m : Monitor) (told : Told) (c : Config) (f : Frame) where
   unfolding nextOf
   next-paused e = sym (ap (λ (b : Bool). nextBy m told c f b (isWaiting (c .threads .place (f .thread)))) e)
 
--- the slices' monitor, whom it notifies, and the next point as the frame stands or with its thread's remainder
+-- the slices' monitor, whom a machine notifies, and the next point as the frame stands or with its thread's remainder
 abbrev moves : tie.Start → Monitor
 moves s = slices (s .args .holds .now) (s .args .after .now) (s .args .guard-of .now) [] (s .args .goes-on .now) 0
 
-abbrev telling : tie.Start → Told
-telling s = toldAt (s .args .holds .now) (s .args .guard-of .now) (s .args .entries .now) (s .args .table)
+abbrev telling : tie.Start → Bool → Told
+telling s w = toldAt (s .args .holds .now) (s .args .guard-of .now) (s .args .entries .now) w
 
-abbrev next-at : tie.Start → code.Frame → Config
-next-at s f = nextOf (moves s) (telling s) (configOf (s .args .run)) (frameOf f)
+abbrev next-at : tie.Start → Bool → code.Frame → Config
+next-at s w f = nextOf (moves s) (telling s w) (configOf w (s .args .run)) (frameOf f)
 
-shown : (s : tie.Start) (next : Run) {x : Config} → x ≡ next-at s (known (s .args .frame)) → Shows next x
-    → s .args .frame .thread < 16 → Shows next (next-at s (s .args .frame))
-shown s next e h thread =
-    subst (Shows next)
-    (e ∙ ap (nextOf (moves s) (telling s) (configOf (s .args .run))) (same-frame (s .args .frame) thread)) h
+shown : (s : tie.Start) (w : Bool) (next : Run) {x : Config} → x ≡ next-at s w (known (s .args .frame)) → Shows w next x
+    → s .args .frame .thread < 16 → Shows w next (next-at s w (s .args .frame))
+shown s w next e h thread =
+    subst (Shows w next)
+    (e ∙ ap (nextOf (moves s) (telling s w) (configOf w (s .args .run))) (same-frame (s .args .frame) thread)) h
+
+-- a machine that takes the frame is known at the test whether both refuse
+goes-on : (c : tie.Joined1) → let n = c .before .before .judge .result in
+    (n .plain ≡ 0 → ⊥) → (n .table ≡ 0 → ⊥) → ⊥
+goes-on c p t = ⊎-elim (λ x. t (x .2 .left)) (λ x. p (x .left)) (c .if1 .came)
 
 returns : tie.Need-returns
-unfolding stepBy frameOf configOf
-returns c m d kept e held places entries thread reached shows =
-    let a = c .before .before .before .args in
-    refuses m kept (a .holds .now) (a .after .now) (a .guard-of .now) held (a .begins .now) (a .goes-on .now) places
-    d (frameOf (a .frame)) (a .run) thread reached shows (a .regions) e (a .entries .now) (a .table) entries
-    (c .before .judge .result) (number (c .before) thread) (λ (z : c .before .judge .result ≡ 0). omega arith)
+unfolding stepBy frameOf configOf Stays
+returns c = (
+  λ w m d kept e held places entries thread reached shows.
+      let x = c .before .before .before .before in
+      let a = x .before .before .args in
+      let n = x .judge .result in
+      steps-held m kept (a .holds .now) (a .after .now) (a .guard-of .now) held (a .begins .now) (a .goes-on .now) places
+      w d (frameOf (a .frame)) (a .run) thread reached shows (a .regions) e (a .entries .now) entries _
+      (number x w thread)
+      (λ z. absurd (each-machine (λ _ k. k ≡ 0 → ⊥) {plain = n .plain} {table = n .table} (c .before .before .if1 .taken) (c .if2 .taken)
+      w z)),
+  λ p t. refl,
+)
 
 returns-2 : tie.Need-returns-2
-unfolding stepBy frameOf configOf
-returns-2 c m d kept e held places entries thread reached shows =
-    let s = c .before .before .before .before .before in
-    let a = s .args in
-    let from = configOf (a .run) in
-    let next = next-ran (moves s) (telling s) from (frameOf (known (a .frame))) (c .before .if2 .taken) in
-    takes m kept (a .holds .now) (a .after .now) (a .guard-of .now) held (a .begins .now) (a .goes-on .now) places
-    d (frameOf (a .frame)) (a .run) thread reached shows (a .regions) e (a .entries .now) (a .table) entries
-    (c .before .before .before .judge .result) (c .ran .result) (number (c .before .before .before) thread)
-    (c .before .before .if1 .left) (shown s (c .ran .result) next (c .ran .ensures) thread)
+unfolding stepBy frameOf configOf Stays
+returns-2 c = (
+  λ w m d kept e held places entries thread reached shows.
+      let x = c .before .before .before .before in
+      let s = x .before .before in
+      let a = s .args in
+      let next = next-ran (moves s) (telling s w) (configOf w (a .run)) (frameOf (known (a .frame))) (c .before .if3 .taken)
+      in
+      steps-held m kept (a .holds .now) (a .after .now) (a .guard-of .now) held (a .begins .now) (a .goes-on .now) places
+      w d (frameOf (a .frame)) (a .run) thread reached shows (a .regions) e (a .entries .now) entries _
+      (number x w thread) (λ z. shown s w (c .ran .result) next (c .ran .ensures w) thread),
+  λ p t. absurd (goes-on (c .before .before) p t),
+)
 
 returns-3 : tie.Need-returns-3
-unfolding stepBy frameOf configOf
-returns-3 c m d kept e held places entries thread reached shows =
-    let s = c .before .before .before .before .before in
-    let a = s .args in
-    let from = configOf (a .run) in
-    let next = next-paused (moves s) (telling s) from (frameOf (known (a .frame))) (c .before .if2 .left) in
-    takes m kept (a .holds .now) (a .after .now) (a .guard-of .now) held (a .begins .now) (a .goes-on .now) places
-    d (frameOf (a .frame)) (a .run) thread reached shows (a .regions) e (a .entries .now) (a .table) entries
-    (c .before .before .before .judge .result) (c .paused .result) (number (c .before .before .before) thread)
-    (c .before .before .if1 .left) (shown s (c .paused .result) next (c .paused .ensures (moves s) (telling s)) thread)
+unfolding stepBy frameOf configOf Stays
+returns-3 c = (
+  λ w m d kept e held places entries thread reached shows.
+      let x = c .before .before .before .before in
+      let s = x .before .before in
+      let a = s .args in
+      let next = next-paused (moves s) (telling s w) (configOf w (a .run)) (frameOf (known (a .frame))) (c .before .if3 .left)
+      in
+      steps-held m kept (a .holds .now) (a .after .now) (a .guard-of .now) held (a .begins .now) (a .goes-on .now) places
+      w d (frameOf (a .frame)) (a .run) thread reached shows (a .regions) e (a .entries .now) entries _
+      (number x w thread) (λ z. shown s w (c .paused .result) next (c .paused .ensures w (moves s) (telling s w)) thread),
+  λ p t. absurd (goes-on (c .before .before) p t),
+)
 
 pub step-spec : {M : Type 1} → statement M
 step-spec =
