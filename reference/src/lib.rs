@@ -1,8 +1,8 @@
 //! Panel monitors by brute force: the second program.
 //!
-//! Everything here is rendered from document 01 alone, as plainly as it goes,
-//! so that its results can be laid beside those of the first program. The
-//! modules stand in the order of the document.
+//! Everything here is rendered from document 01 alone (and `points` from the text
+//! at its head), as plainly as it goes, so that its results can be laid beside
+//! those of the first program. The modules stand in the order of the document.
 
 pub mod answer;
 
@@ -25,6 +25,9 @@ pub mod table;
 pub mod frames;
 pub mod machines;
 
+// Every point of a run.
+pub mod points;
+
 // What the programs print.
 pub mod lines;
 
@@ -39,4 +42,5 @@ pub use answer::Answer;
 pub use check::check;
 pub use machines::{run, Machine, Place, Record};
 pub use monitor::Monitor;
+pub use points::{points, Points};
 pub use table::place;

@@ -1,8 +1,9 @@
-//! What the programs print ("Program lines").
+//! What the programs print ("Program lines"), and lines about `points`.
 
 use crate::answer::Answer;
 use crate::check::check;
-use crate::machines::{Machine, Machines, Place, Record};
+use crate::machines::{Machine, Machines, Record};
+use crate::points::{needed, points, Points, POINT};
 use crate::table::place;
 
 /// `runner` judges a longer trace by this many first bytes.
@@ -32,6 +33,62 @@ pub fn runner(file: &[u8], trace: &[u8]) -> Vec<u8> {
     lines.into_bytes()
 }
 
+/// What `points` gives from the start values with a buffer that is just long enough:
+/// both machines' answers, then the points, each as 66 digits.
+pub fn points_lines(file: &[u8], trace: &[u8]) -> Vec<u8> {
+    let (given, buffer) = points_in(file, trace, needed(trace.len()));
+    let mut lines = answer_line(given.plain) + &answer_line(given.table);
+    for point in buffer.chunks(POINT).take(given.count) {
+        for byte in point {
+            lines += &format!("{byte:02X}");
+        }
+        lines += "\n";
+    }
+    lines.into_bytes()
+}
+
+/// The five lines that `replay` prints about `points`. With a buffer of one point more
+/// than must be: both answers, then the count and the buffer's checksum. With a buffer
+/// that is a byte too short: the plain machine's answer, then the same two.
+pub fn replay_points(file: &[u8], trace: &[u8]) -> Vec<u8> {
+    let (long, long_buffer) = points_in(file, trace, needed(trace.len()) + POINT);
+    let (short, short_buffer) = points_in(file, trace, needed(trace.len()) - 1);
+    let lines = [
+        answer_line(long.plain),
+        answer_line(long.table),
+        count_line(long, &long_buffer),
+        answer_line(short.plain),
+        count_line(short, &short_buffer),
+    ];
+    lines.concat().into_bytes()
+}
+
+/// What the buffers hold before the call.
+const UNWRITTEN: u8 = 0xA5;
+
+/// `points` from the start values' state (from state 0 where the file is refused), and
+/// its buffer of so many bytes afterwards.
+fn points_in(file: &[u8], trace: &[u8], length: usize) -> (Points, Vec<u8>) {
+    let start = check(file).map_or(0, |monitor| monitor.start_number());
+    let mut buffer = vec![UNWRITTEN; length];
+    let given = points(file, trace, start, &mut buffer);
+    (given, buffer)
+}
+
+/// 00, the count of points and the checksum of the buffer: two, four and four digits.
+fn count_line(given: Points, buffer: &[u8]) -> String {
+    format!("00{:04X}{:04X}\n", given.count, checksum(buffer))
+}
+
+fn checksum(bytes: &[u8]) -> u32 {
+    bytes.iter().fold(1, |sum, byte| (sum * 31 + u32::from(*byte)) % 65521)
+}
+
+/// A refusal's line; that of an acceptance has ten noughts.
+fn answer_line(answer: Result<(), Answer>) -> String {
+    refusal_line(answer.err().unwrap_or(Answer::at(0, 0)))
+}
+
 /// Two, four and four digits.
 fn refusal_line(answer: Answer) -> String {
     format!("{:02X}{:04X}{:04X}\n", answer.number, answer.first, answer.second)
@@ -44,12 +101,7 @@ fn record_line(record: &Record) -> String {
         line += &format!("{:02X}", value + 128);
     }
     for place in record.places {
-        let byte = match place {
-            Place::Idle => 0xFF,
-            Place::Waiting(region) => region,
-            Place::Due(region) => region + 0x10,
-        };
-        line += &format!("{byte:02X}");
+        line += &format!("{:02X}", place.byte());
     }
     line + "\n"
 }

@@ -20,6 +20,18 @@ pub enum Place {
     Due(usize),
 }
 
+impl Place {
+    /// As `runner` prints it: FF idle, 00 to 0F waiting at that region, 10 to 1F due
+    /// at that region plus 16.
+    pub fn byte(self) -> u8 {
+        match self {
+            Place::Idle => 0xFF,
+            Place::Waiting(region) => region as u8,
+            Place::Due(region) => region as u8 + 0x10,
+        }
+    }
+}
+
 /// Where a run stands: the values, each thread's place, and who is notified.
 #[derive(Clone, Debug, PartialEq, Eq)]
 pub struct Record {

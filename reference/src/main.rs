@@ -15,6 +15,8 @@ use reference::{lines, tally};
 const USAGE: &str = "usage:
   reference placer < FILE
   reference runner DIR
+  reference points DIR
+  reference replay-points DIR
   reference cases SEED COUNT DIR [small]
   reference tally DIR
   reference hostile-cases SEED COUNT DIR
@@ -25,7 +27,9 @@ fn main() -> ExitCode {
     let arguments: Vec<&str> = arguments.iter().map(String::as_str).collect();
     let done = match arguments.as_slice() {
         ["placer"] => placer(),
-        ["runner", directory] => runner(Path::new(directory)),
+        ["runner", directory] => on_case(directory, lines::runner),
+        ["points", directory] => on_case(directory, lines::points_lines),
+        ["replay-points", directory] => on_case(directory, lines::replay_points),
         ["cases", seed, count, directory] => cases(seed, count, directory, Size::FULL),
         ["cases", seed, count, directory, "small"] => cases(seed, count, directory, Size::SMALL),
         ["tally", directory] => tally(Path::new(directory)),
@@ -50,10 +54,12 @@ fn placer() -> io::Result<()> {
     io::stdout().write_all(&lines::placer(&file))
 }
 
-fn runner(directory: &Path) -> io::Result<()> {
+/// Prints the lines for the file and the trace in a directory.
+fn on_case(directory: &str, lines: fn(&[u8], &[u8]) -> Vec<u8>) -> io::Result<()> {
+    let directory = Path::new(directory);
     let monitor = read_or_empty(&directory.join("monitor.txt"))?;
     let trace = read_or_empty(&directory.join("trace.txt"))?;
-    io::stdout().write_all(&lines::runner(&monitor, &trace))
+    io::stdout().write_all(&lines(&monitor, &trace))
 }
 
 /// A missing file reads as an empty one.

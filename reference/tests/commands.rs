@@ -52,6 +52,30 @@ fn runner_reads_a_directory() {
 }
 
 #[test]
+fn points_read_a_directory() {
+    let at = directory("points");
+    let run = |name| command(&[name, at.to_str().unwrap()], b"");
+    assert_eq!(run("points"), "0400000000\n".repeat(2));
+    let kept = "000000F6D1\n0400000000\n000000A75A\n";
+    assert_eq!(run("replay-points"), "0400000000\n".repeat(2) + kept);
+    fs::write(at.join("monitor.txt"), BOX).unwrap();
+    fs::write(at.join("trace.txt"), "000100\n").unwrap();
+    let point = |places| format!("808080808080{places}0100000000000100000000\n");
+    let points = point("FF".repeat(16)) + &point("01".to_string() + &"FF".repeat(15));
+    assert_eq!(run("points"), "0000000000\n".repeat(2) + &points);
+    assert_eq!(run("replay-points").lines().nth(3), Some("0A00000000"));
+    // A trace that is longer than `runner` reads is judged whole.
+    let long = "000001\n000101\n".repeat(4682) + "zz";
+    fs::write(at.join("trace.txt"), &long[..65548]).unwrap();
+    assert_eq!(run("runner"), "0C24920000\n".repeat(2));
+    let lines = run("points");
+    assert!(lines.starts_with("0000000000\n0000000000\n80"));
+    assert_eq!(lines.lines().count(), 2 + 9365);
+    fs::write(at.join("trace.txt"), &long).unwrap();
+    assert_eq!(run("points"), "0C24940000\n".repeat(2));
+}
+
+#[test]
 fn cases_hold_what_the_programs_print() {
     let at = directory("cases");
     command(&["cases", "1", "40", at.to_str().unwrap(), "small"], b"");

@@ -2,8 +2,17 @@
 //! second program, and hostile input.
 //!
 //! TO/data/cases.bin has for each case the lengths of a monitor file and a trace, four bytes each,
-//! the lowest first, then both; TO/stdout what the second program prints for each as placer and
-//! then as runner.
+//! the lowest first, then both; TO/stdout what the second program prints for each as placer, then
+//! as runner, and then five lines of ten digits about its call `points`.
+//!
+//! That call is made twice, from the start values' state (from state 0 where the file is refused),
+//! with a buffer of bytes A5. Where N is 33 * (length of the trace / 7 + 1):
+//!
+//! - with N + 33 bytes: the plain machine's answer; the table's; 00, the count of points (four
+//!   digits) and a checksum of the whole buffer afterwards (four digits);
+//! - with N - 1 bytes: the plain machine's answer; 00, the count and the checksum again.
+//!
+//! The checksum begins with 1, and each byte b makes it (sum * 31 + b) % 65521.
 
 use std::path::{Path, PathBuf};
 use std::{fs, io};
@@ -85,12 +94,12 @@ impl Made {
         }
         let mut made = Made { cases: cases.len(), data: Vec::new(), told: Vec::new() };
         for case in &cases {
-            made.add(case)?;
+            made.add(second, case)?;
         }
         Ok(made)
     }
 
-    fn add(&mut self, case: &Path) -> io::Result<()> {
+    fn add(&mut self, second: &Second, case: &Path) -> io::Result<()> {
         // A longer file gets 1 all the same, and runner judges a longer trace by its first bytes.
         let (mut file, mut trace) =
             (read(&case.join("monitor.txt"))?, read(&case.join("trace.txt"))?);
@@ -99,10 +108,14 @@ impl Made {
         for bytes in [&file, &trace] {
             self.data.extend((bytes.len() as u32).to_le_bytes());
         }
-        self.data.extend(file);
-        self.data.extend(trace);
         self.told.extend(read(&case.join("placer.txt"))?);
         self.told.extend(read(&case.join("runner.txt"))?);
+        // `points` takes a trace of any length, so it gets what replay reads.
+        write(&case.join("monitor.txt"), &file)?;
+        write(&case.join("trace.txt"), &trace)?;
+        self.told.extend(second.replay_points(case)?);
+        self.data.extend(file);
+        self.data.extend(trace);
         Ok(())
     }
 }

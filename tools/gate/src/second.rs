@@ -30,6 +30,11 @@ impl Second {
         printed(Command::new(&self.program).arg("runner").arg(directory))
     }
 
+    /// The five lines that replay prints about `points` for the files of a directory.
+    pub fn replay_points(&self, directory: &Path) -> io::Result<Vec<u8>> {
+        printed(Command::new(&self.program).arg("replay-points").arg(directory))
+    }
+
     /// Writes cases, or hostile inputs, into a directory.
     pub fn write(&self, what: &str, seed: &str, count: &str, to: &Path) -> io::Result<()> {
         printed(Command::new(&self.program).args([what, seed, count]).arg(to)).map(drop)
