@@ -10,5 +10,6 @@ pub mod Table
 pub mod Trace
 pub mod Calls
 pub mod Lines
+pub mod Points
 pub mod Decide
 pub mod Held

@@ -22,7 +22,9 @@ use Rattle.machine.specs.Agreement.{Checked}
 use Rattle.machine.specs.Held.{Held}
 use Rattle.logic.specs.Tests.{bit}
 use Rattle.logic.proofs.Bools.{split}
-use Rattle.meaning.specs.Answer.{answer}
+use Rattle.meaning.specs.Answer.{Answer, answer}
+use Rattle.answers.specs.Says.{Says}
+use Rattle.answers.specs.declared.Answer as code-answer
 use Rattle.meaning.specs.Held.{Biased}
 use Rattle.meaning.specs.State.{stateAt}
 use Rattle.meaning.specs.State as state
@@ -38,7 +40,7 @@ use Rattle.demands.proofs.Demand2.{run-reached, run-stops}
 use Rattle.demands.proofs.Demand3.{each-read}
 use Rattle.demands.proofs.Widths.{each-length}
 use Rattle.run.specs.Way.{runOf}
-use Rattle.run.specs.Ended.{EndsAs, StopsAs, stopIn}
+use Rattle.run.specs.Ended.{Admits, not-kept, no-frame, all-frames, EndsAs, StopsAs, stopIn}
 use Rattle.run.specs.declared.frames.Ended.{Ended}
 use Rattle.run.specs.Results.{Runs, Records, machineOf}
 use Rattle.run.specs.declared.Running.{Running}
@@ -146,6 +148,12 @@ from-kept : (m : Monitor) (w : Machine) (s : ℕ) (bytes : List ℕ) → kept m 
 unfolding runFrom
 from-kept m w s bytes k = rw (runFrom, k)
 
+-- what an answer of the code says, in its parts
+says-subst : {r : code-answer.Answer} {a : Answer} → Says r a → (q : Running)
+    → Runs (not-run (answer (r .number) (r .first) (r .second))) q → Runs (not-run a) q
+says-subst e q h =
+    subst (λ x. Runs (not-run x) q) (λ i. answer (e .number i) (e .first i) (e .second i)) h
+
 -- a run of a list, as the meaning has it and as the code's promises do
 pub list-run : (m : Monitor) (w : Bool) (s : ℕ) (fs : List machine.Frame)
     → runList m (machineOf w) s fs ≡ runOf (model m) w s fs
@@ -171,6 +179,23 @@ module _ (m : Monitor) (w : Bool) (s : ℕ) (bytes : List ℕ) (r : Running) whe
       subst (λ x. Runs x r)
       (sym (from-kept m (machineOf w) s bytes k ∙ ap (runFrames m (machineOf w) s) read
       ∙ ap (runningOf m) (list-run m w s fs))) h
+
+-- ---- before the first frame
+
+module _ {m : Monitor} {s : ℕ} {bytes : List ℕ} {r : code-answer.Answer} where
+  -- a number other than 0 is the answer of either machine
+  pub refused-early : Admits m s bytes r → (r .number ≡ 0 → ⊥) → (q : Running)
+      → Runs (not-run (answer (r .number) (r .first) (r .second))) q → (w : Bool) → Runs (runFrom m (machineOf w) s bytes) q
+  refused-early (not-kept k e) other q h w = not-started m w s bytes q k (says-subst e q h)
+  refused-early (no-frame j k f e) other q h w = not-framed m w s bytes q j k f (says-subst e q h)
+  refused-early (all-frames fs k f e) other q h w = absurd (other (e .number))
+
+  -- with 0 there are the frames
+  pub admitted : Admits m s bytes r → r .number ≡ 0
+      → (fs : List machine.Frame) × (kept m s ≡ true) × (framesOf bytes ≡ frames fs)
+  admitted (not-kept k e) z = absurd (omega (arith, e .number))
+  admitted (no-frame j k f e) z = absurd (omega (arith, e .number))
+  admitted (all-frames fs k f e) z = (fs, k, f)
 
 -- the end of the code's run by its parts: the state is one of the file's, and a refusal has a number
 pub stops-as : (m : Monitor) → Checked (model m) → (w : Bool) (s : ℕ) → kept m s ≡ true → (fs : List machine.Frame) (e : Ended)

@@ -1,14 +1,27 @@
--- What the end of the code's run says of a machine's run of the list.
+-- What the code says of a run before its first frame, and what the end of its run says of a machine's run of the list.
 use Prim.Native.Nat.{ℕ, _<_}
 use mathlib.Core.Path.{_≡_}
-use mathlib.Core.Bool.{Bool, false}
+use mathlib.Core.Bool.{Bool, true, false}
 use mathlib.Core.List.{List}
 use lib.ListN.{take}
+use Rattle.syntax.specs.Tree.{Monitor}
+use Rattle.meaning.specs.Answer.{answer}
+use Rattle.meaning.specs.Model.{kept}
+use Rattle.meaning.specs.Decide.Frames.{framesOf, frames, none-at}
+use Rattle.answers.specs.Says.{Says}
+use Rattle.answers.specs.declared.Answer.{Answer}
 use Rattle.machine.specs.Monitor.{Config, Frame, Run, accepted, stopped}
 use Rattle.stepper.specs.declared.Run as code
 use Rattle.stepper.specs.Shown.{ofMachine, Shows}
 use Rattle.run.specs.declared.frames.Stop.{Stop}
 use Rattle.run.specs.declared.frames.Ended.{Ended}
+
+-- 11 and 12, before any frame is judged
+pub data Admits (m : Monitor) (s : ℕ) (bytes : List ℕ) (r : Answer) : Type 0 where
+  not-kept : kept m s ≡ false → Says r (answer 11 0 0) → Admits m s bytes r
+  no-frame : (k : ℕ) → kept m s ≡ true → framesOf bytes ≡ none-at k → Says r (answer 12 k 0) → Admits m s bytes r
+  all-frames : (fs : List Frame) → kept m s ≡ true → framesOf bytes ≡ frames fs → Says r (answer 0 0 0)
+      → Admits m s bytes r
 
 -- a machine's part of an end
 abbrev pub stopIn : Bool → Ended → Stop

@@ -12,11 +12,13 @@ use trace::Counted;
 use variables::Bounds;
 ghost use mathlib.Core.Path.{_≡_};
 ghost use mathlib.Core.Bool.{Bool};
-ghost use Prim.Native.Nat.{_<_};
+ghost use mathlib.Core.List.{List};
+ghost use Prim.Native.Nat.{ℕ, _<_};
 ghost use lib.ListN.{length};
 ghost use Rattle.syntax.specs.Tree.{Monitor};
 ghost use Rattle.machine.specs.Monitor.{Config};
 ghost use Rattle.machine.specs.Monitor as machine;
+ghost use Rattle.machine.specs.Limits.{mostStates};
 ghost use Rattle.machine.specs.Agreement.{Checked};
 ghost use Rattle.machine.specs.Held.{Held, HeldPlaces, HeldEntries};
 ghost use Rattle.meaning.specs.Model.{vars, regions, model};
@@ -26,7 +28,8 @@ ghost use Rattle.meaning.specs.Calls as calls;
 ghost use Rattle.meaning.specs.Decide.Calls as decided;
 ghost use Rattle.stepper.specs.Shown.{ofMachine, noticesIn, Shows};
 ghost use Rattle.variables.specs.Bounded.{Bounded};
-ghost use Rattle.run.specs.Ended.{StopsAs};
+ghost use Rattle.answers.specs.Says.{Says};
+ghost use Rattle.run.specs.Ended.{Admits, StopsAs};
 ghost use Rattle.run.specs.Results.{Runs, Records, NoRecord, machineOf};
 
 // The record of a run: how many variables there are and each value with 128 added, the place of each of sixteen
@@ -70,10 +73,28 @@ fn not_run(number: u8, first: usize, second: usize) -> Running
 }
 
 // 11: a start that is no kept state.
-fn no_start() -> Running
-    ensures { λ r. ⌜ Runs (calls.not-run (answer 11 0 0)) r ⌝ }
+fn no_start() -> Answer
+    ensures { λ r. ⌜ Says r (answer 11 0 0) ⌝ }
 {
-    not_run(11, 0, 0)
+    answers::say(11, 0, 0)
+}
+
+// 11 and 12: what a run is refused with before any frame is judged; 0 where the start is kept and every line is a frame.
+pub fn admit(bounds: Bounds, bytes: &[u8], start: usize, kept: &[u8; machine::STATES]) -> Answer
+    ensures { λ r. ⌜ ((m : Monitor) (holds after guards : List ℕ) → Bounded (vars m) bounds
+        → Held (model m) (now (kept .entry)) holds after guards → Admits m start (now (bytes .entry)) r) ⌝ }
+    ensures { λ r. ⌜ (r .number ≡ 0 → start < mostStates) ⌝ }
+{
+    if bounds.states <= start || machine::STATES <= start {
+        return no_start();
+    }
+    if kept[start] != 1 {
+        return no_start();
+    }
+    match trace::count(bytes) {
+        Counted::BadAt(k) => answers::say(12, k, 0),
+        Counted::Frames(_) => answers::say(0, 0, 0),
+    }
 }
 
 // The record of a run's end.
@@ -140,14 +161,9 @@ pub fn run_from(
         → HeldEntries (model m) (now (entries .entry)) → Checked (model m)
         → (w : Bool) → Runs (decided.runFrom m (machineOf w) start (now (bytes .entry))) (ofMachine w (r .plain) (r .table))) ⌝ }
 {
-    if bounds.states <= start || machine::STATES <= start {
-        return alike(no_start());
-    }
-    if kept[start] != 1 {
-        return alike(no_start());
-    }
-    if let Counted::BadAt(k) = trace::count(bytes) {
-        return alike(not_run(12, k, 0));
+    let early = admit(bounds, bytes, start, kept);
+    if early.number != 0 {
+        return alike(not_run(early.number, early.first, early.second));
     }
     let guard_of = layout.guard_of;
     let begins = layout.begins;

@@ -13,7 +13,7 @@ use lib.Arith.{digits-mod, lt-one}
 use lib.Pow.{shl-exact, pow-pos, pow-mono, shr-shr, mod-pow-add}
 use lib.Bits.{bitAnd, bitOr, bitXor, differ, and-shr, or-shr, xor-shr, and-step, or-step, xor-step}
 use lib.Count.{ones, ones-cat, trailingZeros, under}
-use borrow.Author.Tests.{eqb-true, eqb-false, eq-eqb, ne-eqb, lt-ltb}
+use borrow.Author.Tests.{eqb-true, eqb-false, eq-eqb, ne-eqb, lt-ltb, le-ltb}
 use Rattle.sets.specs.Set.{member, size}
 
 pub eqb-sym : (a b : ℕ) → eqb a b ≡ eqb b a
@@ -126,6 +126,17 @@ same-digit : (x y : ℕ) → x < 2 → y < 2 → eqb x 1 ≡ eqb y 1 → x ≡ y
 same-digit =
     by-digits (λ x y. eqb x 1 ≡ eqb y 1 → x ≡ y) (λ e. refl) (λ e. eqb-true 0 1 e) (λ e. sym (eqb-true 0 1 (sym e)))
     (λ e. refl)
+
+-- exactly those below k
+pub member-lowest : (k u : ℕ) → member (2 ^ k - 1) u ≡ ltb u k
+member-lowest k u = go (decLt u k)
+  where
+    go : Dec (u < k) → member (2 ^ k - 1) u ≡ ltb u k
+    go (yes h) = member-full k u h ∙ sym (lt-ltb u k h)
+    go (no h) =
+        let p = pow-pos k in
+        member-past k (2 ^ k - 1) u (omega arith) (omega arith) ∙ sym (le-ltb u k (omega arith))
+
 
 pub same-members : (k a b : ℕ) → a < 2 ^ k → b < 2 ^ k → ((u : ℕ) → member a u ≡ member b u) → a ≡ b
 same-members zero a b h l e = lt-one h ∙ sym (lt-one l)

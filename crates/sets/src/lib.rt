@@ -50,3 +50,21 @@ pub fn lowest(set: u16) -> u32
 {
     u16::trailing_zeros(set)
 }
+
+// The members of one set that another lacks.
+pub fn minus(a: u16, b: u16) -> u16
+    ensures { λ r. ⌜ ((u : ℕ) → member r u ≡ member a u && not (member b u)) ⌝ }
+{
+    a ^ a & b
+}
+
+// The members below a number.
+pub fn below(set: u16, n: usize) -> u16
+    ensures { λ r. ⌜ ((u : ℕ) → u < 16 → member r u ≡ member set u && ltb u n) ⌝ }
+{
+    if n < 16 {
+        set & (1 << n as u32) - 1
+    } else {
+        set
+    }
+}
