@@ -4,7 +4,7 @@ use Prim.Native.Nat.{ℕ, zero, suc, _+_, _*_, _<_, _≤_}
 use mathlib.Core.Path.{_≡_, refl}
 use mathlib.Core.Logic.{⊎-elim}
 use mathlib.Core.List.{List, _++_, append-assoc, append-nil}
-use native.Mathlib.Nat.{eq-or-lt-of-le, le-of-suc-le-suc, add-zero, zero-add}
+use native.Mathlib.Nat.{eq-or-lt-of-le, le-of-suc-le-suc, add-zero, zero-add, mul-suc, mul-zero}
 use native.Mathlib.Numerals.{add-one}
 use native.Mathlib.Omega.{arith}
 use lib.ListN.{length, length-append}
@@ -35,11 +35,12 @@ forEach-same zero k f g e = refl
 forEach-same (suc n) k f g e =
     rw (e k (omega arith), forEach-same n (k + 1) f g (λ j h. e j (omega arith)))
 
--- two bytes each
+-- as many bytes each
 pub forEach-length :
-    (n k : ℕ) (f : ℕ → List ℕ) → ((j : ℕ) → length (f j) ≡ 2) → length (forEach n k f) ≡ 2 * n
+    (w n k : ℕ) (f : ℕ → List ℕ) → ((j : ℕ) → length (f j) ≡ w) → length (forEach n k f) ≡ w * n
 unfolding forEach
-forEach-length zero k f two = refl
-forEach-length (suc n) k f two =
-    let r = forEach-length n (k + 1) f two in
-    rw (length-append, two k) (omega arith)
+forEach-length w zero k f each = rw mul-zero
+forEach-length w (suc n) k f each =
+    let r = forEach-length w n (k + 1) f each in
+    let m = mul-suc w n in
+    rw (length-append, each k) (omega arith)

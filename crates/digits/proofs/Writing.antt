@@ -1,7 +1,7 @@
 -- One list written behind another: stores from a place on, two and four lists in turn, and a loop that writes what a
 -- function gives for 0, 1, ..
 use Prim.Native.Nat.{ℕ, suc, _+_, _*_, _/_, _%_, _<_, _≤_}
-use mathlib.Core.Path.{_≡_, refl, ap, _∙_}
+use mathlib.Core.Path.{_≡_, refl, ap, _∙_, subst}
 use mathlib.Core.List.{List, [], _∷_, _++_, append-assoc}
 use native.Mathlib.Nat.{add-zero, add-assoc}
 use native.Mathlib.Numerals.{add-one}
@@ -60,6 +60,9 @@ two-stores d at n a b small h pa pb =
       bytes = rw (← ea, ← eb, add-one) (sets-eq (a ∷ b ∷ []) d at h ∙ append-assoc (take at d) _ _);
       behind = refl;
     }
+
+pub written-same : {s t d e : List ℕ} {at p : ℕ} → s ≡ t → Writes s d at p e → Writes t d at p e
+written-same {d = d} {e = e} {at = at} {p = p} q w = subst (λ (l : List ℕ). Writes l d at p e) q w
 
 pub written-none : (d : List ℕ) (at : ℕ) → Writes [] d at at d
 written-none d at = record { bytes = rw over-none; behind = rw add-zero }

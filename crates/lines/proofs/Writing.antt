@@ -42,7 +42,7 @@ module _ {A : Type 0} (h : A → List ℕ) (joined : List A → List ℕ) (none 
       rw (here, rest, more)
 
 -- a value with 128 added
-offset-abs : (a : ℤ) (n : ℕ) → Offset a n → natAbs (a +ℤ pos 128) ≡ n
+pub offset-abs : (a : ℤ) (n : ℕ) → Offset a n → natAbs (a +ℤ pos 128) ≡ n
 unfolding Offset
 offset-abs a n e = rw (e, -ℤ-+ℤ-cancel (pos n) (pos 128))
 
@@ -85,11 +85,11 @@ module _ {rec : calls.Record} {vars : ℕ} {values : List ℕ} {threads : List T
 
 pub values-length : (values : List ℕ) (n : ℕ) → length (valuesAt values n) ≡ 2 * n
 unfolding valuesAt
-values-length values n = forEach-length n 0 (valueAt values) (value-two values)
+values-length values n = forEach-length 2 n 0 (valueAt values) (value-two values)
 
 pub places-length : (threads : List Thread) (n : ℕ) → length (placesAt threads n) ≡ 2 * n
 unfolding placesAt
-places-length threads n = forEach-length n 0 (placeAt threads) (place-two threads)
+places-length threads n = forEach-length 2 n 0 (placeAt threads) (place-two threads)
 
 pub put : {line before after : List ℕ} {room : Type 0} {at next : ℕ} → room → Writes line before at next after
     → PutsLine line room before at next after

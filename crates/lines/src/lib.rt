@@ -72,7 +72,7 @@ fn place_byte(place: Place) -> u8
 }
 
 // A value as a byte; it is below 256, where the remainder is the value itself.
-fn value_byte(value: u16) -> u8
+pub fn value_byte(value: u16) -> u8
     ensures { λ r. ⌜ r ≡ value % 256 ⌝ }
 {
     (value % 256) as u8

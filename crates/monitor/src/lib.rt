@@ -175,3 +175,59 @@ pub fn start_state(file: &[u8]) -> usize
     let loaded = loader::load(file, &mut kept, &mut holds, &mut after);
     start_of(loaded)
 }
+
+// Both machines' answers to a trace, and how many points are written.
+pub struct Pointing {
+    pub plain: Answer,
+    pub table: Answer,
+    pub count: usize,
+}
+
+// One answer for both machines, and no point.
+fn no_points(answer: Answer) -> Pointing {
+    Pointing {
+        plain: answer,
+        table: answer,
+        count: 0,
+    }
+}
+
+// Every point of a trace from a start state, up to where the plain machine stops, from byte 0 of a lent buffer; where the
+// file, the buffer, the start or a line is refused, not a byte of the buffer changes.
+pub fn points(file: &[u8], bytes: &[u8], start: usize, out: &mut [u8]) -> Pointing {
+    let mut kept = [0u8; machine::STATES];
+    let mut holds = [0u16; machine::STATES];
+    let mut after = [0u16; machine::AFTER];
+    let loaded = loader::load(file, &mut kept, &mut holds, &mut after);
+    let verdict = loaded.answer;
+    if verdict.number != 0 {
+        return no_points(verdict);
+    }
+    if out.len() / points::POINT <= bytes.len() / 7 {
+        return no_points(answers::say(10, 0, 0));
+    }
+    let bounds = loaded.bounds;
+    let layout = loaded.layout;
+    let early = run::admit(bounds, bytes, start, &kept);
+    if early.number != 0 {
+        return no_points(early);
+    }
+    let entries = entries_of(loaded, &kept, &holds, &after);
+    let written = points::write_points(
+        bounds,
+        layout,
+        bytes,
+        start as u16,
+        &holds,
+        &after,
+        &entries,
+        out,
+    );
+    let plain = written.plain;
+    let table = written.table;
+    Pointing {
+        plain: answers::say(plain.number, plain.frame, 0),
+        table: answers::say(table.number, table.frame, 0),
+        count: written.count,
+    }
+}

@@ -1,0 +1,24 @@
+-- `points::due_part` meets its contract, at each variant.
+use borrow.Author.Needs.{needs}
+use mathlib.Core.Path.{sym, ap}
+use Rattle.stepper.specs.Shown.{placeOf}
+use Rattle.stepper.specs.declared.Place.{Place}
+use Rattle.points.specs.Held.{duePart}
+use Rattle.points.proofs.due_part.Statement.{statement}
+use Rattle.points.proofs.due_part.Tie as tie
+
+returns : tie.Need-returns
+unfolding duePart placeOf
+returns c = sym (ap (λ (p : Place). duePart (placeOf p)) (c .enum-told .given .1))
+
+returns-2 : tie.Need-returns-2
+unfolding duePart placeOf
+returns-2 c = sym (ap (λ (p : Place). duePart (placeOf p)) (c .enum-told2 .given .1))
+
+returns-3 : tie.Need-returns-3
+unfolding duePart placeOf
+returns-3 c = sym (ap (λ (p : Place). duePart (placeOf p)) (c .enum-told3 .given .1))
+
+pub due-part-spec : {M : Type 1} → statement M
+due-part-spec =
+    tie.close (tie.spec (λ c. search needs) (λ c. search needs) (λ c. search needs) returns returns-2 returns-3)

@@ -1,0 +1,46 @@
+-- `points::put_shared` meets its contract: the values, the places and the guards, one behind the other.
+use borrow.Author.Needs.{needs}
+use native.Mathlib.Omega.{arith}
+use Rattle.digits.proofs.Writing.{written-more, written-length}
+use Rattle.points.specs.Held.{heldSet, heldShared}
+use Rattle.points.proofs.Lengths.{values-length, places-length}
+use Rattle.points.proofs.put_shared.Statement.{statement}
+use Rattle.points.proofs.put_shared.Tie as tie
+
+put-places-requires : tie.Need-put-places-requires
+put-places-requires c κs =
+    let x = c .before .before .before in
+    let v = values-length (x .before .before .before .args .values) in
+    let l = written-length (x .put-values .ensures) (omega arith) in
+    omega (arith, l, x .put-values .ensures .behind)
+
+put-set-requires : tie.Need-put-set-requires
+put-set-requires c κs =
+    let y = c .before .before .before in
+    let x = y .before .before .before .before in
+    let a = x .before .before .before .args in
+    let v = values-length (a .values) in
+    let p = places-length (a .bytes) in
+    let l = written-length (x .put-values .ensures) (omega arith) in
+    let b = x .put-values .ensures .behind in
+    let k = written-length (y .put-places .ensures) (omega arith) in
+    omega (arith, l, k, y .put-places .ensures .behind)
+
+returns : tie.Need-returns
+unfolding heldShared
+returns c =
+    let z = c .before .before in
+    let y = z .before .before .before .before in
+    let x = y .before .before .before .before in
+    let a = x .before .before .before .args in
+    let v = values-length (a .values) in
+    let p = places-length (a .bytes) in
+    let l = written-length (x .put-values .ensures) (omega arith) in
+    let b = x .put-values .ensures .behind in
+    written-more (x .put-values .ensures) (omega arith)
+    (written-more (y .put-places .ensures) (omega arith) (z .put-set .ensures))
+
+pub put-shared-spec : {M : Type 1} → statement M
+put-shared-spec =
+    tie.close
+    (tie.spec (λ c κs. search needs) put-places-requires put-set-requires (λ c. search needs) returns)
