@@ -1,3 +1,4 @@
 pub mod Loaded
 pub mod Places
 pub mod Same
+pub mod Pointed

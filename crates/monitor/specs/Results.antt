@@ -22,12 +22,21 @@ use Rattle.syntax.specs.Limits.{mostVars}
 use Rattle.stepper.specs.Shown.{placeOf}
 use Rattle.run.specs.Results.{Runs}
 use Rattle.run.specs.declared.Running.{Running}
+use Rattle.meaning.specs.Points as points
 use Rattle.monitor.specs.declared.Placing.{Placing}
+use Rattle.monitor.specs.declared.Pointing.{Pointing}
 
 -- placing: the answer, the length and every byte of the buffer afterwards
 pub record Places (p : calls.Placing) (r : Placing) (buffer : List ℕ) : Type 0 where
   pub answer : Says (r .answer) (p .answer)
   pub length : r .length ≡ p .length
+  pub bytes : buffer ≡ p .buffer
+
+-- the points of a run: both answers, how many there are, and every byte of the buffer afterwards (R 15.2)
+pub record Points (p : points.Pointing) (r : Pointing) (buffer : List ℕ) : Type 0 where
+  pub plain : Says (r .plain) (p .plain)
+  pub table : Says (r .table) (p .table)
+  pub count : r .count ≡ p .count
   pub bytes : buffer ≡ p .buffer
 
 -- demand 3 of two results: what they say of one another on one trace

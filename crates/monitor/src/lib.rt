@@ -14,12 +14,20 @@ ghost use Rattle.run.specs.Results.{Runs, machineOf};
 ghost use mathlib.Core.List.{List};
 ghost use Prim.Native.Nat.{ℕ};
 ghost use Rattle.loader.specs.Loading.{Loads};
-ghost use Rattle.monitor.specs.Results.{Places, Agrees, EntriesOf, startOf, Starts};
+ghost use Rattle.meaning.specs.Points.{pointsOf};
+ghost use Rattle.monitor.specs.Results.{Places, Points, Agrees, EntriesOf, startOf, Starts};
 
 // What placing answers, and the table's length where it is placed.
 pub struct Placing {
     pub answer: Answer,
     pub length: usize,
+}
+
+// Both machines' answers to a trace, and how many points are written.
+pub struct Pointing {
+    pub plain: Answer,
+    pub table: Answer,
+    pub count: usize,
 }
 
 // The verdict of a file: 0, or a refusal from 1 to 9 with its places.
@@ -176,15 +184,10 @@ pub fn start_state(file: &[u8]) -> usize
     start_of(loaded)
 }
 
-// Both machines' answers to a trace, and how many points are written.
-pub struct Pointing {
-    pub plain: Answer,
-    pub table: Answer,
-    pub count: usize,
-}
-
 // One answer for both machines, and no point.
-fn no_points(answer: Answer) -> Pointing {
+fn no_points(answer: Answer) -> Pointing
+    ensures { λ r. ⌜ (r .plain ≡ answer) × (r .table ≡ answer) × (r .count ≡ 0) ⌝ }
+{
     Pointing {
         plain: answer,
         table: answer,
@@ -192,34 +195,40 @@ fn no_points(answer: Answer) -> Pointing {
     }
 }
 
-// Every point of a trace from a start state, up to where the plain machine stops, from byte 0 of a lent buffer; where the
-// file, the buffer, the start or a line is refused, not a byte of the buffer changes.
-pub fn points(file: &[u8], bytes: &[u8], start: usize, out: &mut [u8]) -> Pointing {
-    let mut kept = [0u8; machine::STATES];
-    let mut holds = [0u16; machine::STATES];
-    let mut after = [0u16; machine::AFTER];
-    let loaded = loader::load(file, &mut kept, &mut holds, &mut after);
+// Every point over what was loaded of a file: its refusal, 10 to 12, or the points of the trace from a start state.
+fn points_loaded(
+    loaded: Loaded,
+    bytes: &[u8],
+    start: usize,
+    kept: &[u8; machine::STATES],
+    holds: &[u16; machine::STATES],
+    after: &[u16; machine::AFTER],
+    out: &mut [u8],
+) -> Pointing
+    ensures { λ r. ⌜ ((file : List ℕ) → Loads file loaded (now (kept .entry)) (now (holds .entry)) (now (after .entry))
+        → Points (pointsOf file (now (bytes .entry)) start (now (out .entry))) r (now (out .exit))) ⌝ }
+{
     let verdict = loaded.answer;
     if verdict.number != 0 {
         return no_points(verdict);
     }
-    if out.len() / points::POINT <= bytes.len() / 7 {
+    if out.len() / points::POINT <= bytes.len() / trace::FRAME {
         return no_points(answers::say(10, 0, 0));
     }
     let bounds = loaded.bounds;
     let layout = loaded.layout;
-    let early = run::admit(bounds, bytes, start, &kept);
+    let early = run::admit(bounds, bytes, start, kept);
     if early.number != 0 {
         return no_points(early);
     }
-    let entries = entries_of(loaded, &kept, &holds, &after);
+    let entries = entries_of(loaded, kept, holds, after);
     let written = points::write_points(
         bounds,
         layout,
         bytes,
         start as u16,
-        &holds,
-        &after,
+        holds,
+        after,
         &entries,
         out,
     );
@@ -230,4 +239,17 @@ pub fn points(file: &[u8], bytes: &[u8], start: usize, out: &mut [u8]) -> Pointi
         table: answers::say(table.number, table.frame, 0),
         count: written.count,
     }
+}
+
+// Every point of a trace from a start state, up to where the plain machine stops, from byte 0 of a lent buffer; where the
+// file, the buffer, the start or a line is refused, not a byte of the buffer changes.
+pub fn points(file: &[u8], bytes: &[u8], start: usize, out: &mut [u8]) -> Pointing
+    ensures { λ r. ⌜ Points (pointsOf (now (file .entry)) (now (bytes .entry)) start (now (out .entry))) r
+        (now (out .exit)) ⌝ }
+{
+    let mut kept = [0u8; machine::STATES];
+    let mut holds = [0u16; machine::STATES];
+    let mut after = [0u16; machine::AFTER];
+    let loaded = loader::load(file, &mut kept, &mut holds, &mut after);
+    points_loaded(loaded, bytes, start, &kept, &holds, &after, out)
 }

@@ -29,9 +29,6 @@ ghost use Rattle.meaning.specs.Model.{model};
 // The bytes of a point.
 pub const POINT: usize = 33;
 
-// Bytes in a frame's line.
-const FRAME: usize = 7;
-
 // Where each machine stops, and how many points are written.
 pub struct Written {
     pub plain: Stop,
@@ -227,7 +224,18 @@ fn write_point(
         return put_point(out, at, values, bytes, holding, run.plain, told, 0, 0, 0);
     }
     let woken = sets::minus(run.table, table);
-    put_point(out, at, values, bytes, holding, run.plain, told, 1, run.table, woken)
+    put_point(
+        out,
+        at,
+        values,
+        bytes,
+        holding,
+        run.plain,
+        told,
+        1,
+        run.table,
+        woken,
+    )
 }
 
 // The points behind the first one, from a place of the buffer on.
@@ -283,10 +291,19 @@ fn write_rest(
                 count: k + 1,
             };
         }
-        to = write_point(out, to, bounds, layout.guards, holds, then, before.plain, before.table);
+        to = write_point(
+            out,
+            to,
+            bounds,
+            layout.guards,
+            holds,
+            then,
+            before.plain,
+            before.table,
+        );
         going = then;
         k += 1;
-        at += FRAME;
+        at += trace::FRAME;
     }
     let lost = going.lost;
     Written {
@@ -323,5 +340,15 @@ pub fn write_points(
         },
     };
     let next = write_point(out, 0, bounds, layout.guards, holds, first, 0, 0);
-    write_rest(bounds, layout, bytes, first, holds, after, entries, out, next)
+    write_rest(
+        bounds,
+        layout,
+        bytes,
+        first,
+        holds,
+        after,
+        entries,
+        out,
+        next,
+    )
 }

@@ -36,9 +36,6 @@ pub struct Passed {
     pub going: Going,
 }
 
-// Bytes in a frame's line.
-const FRAME: usize = 7;
-
 // The table's refusal behind frame k: the first one stays.
 fn first_lost(lost: Stop, number: u8, k: usize) -> Stop
     ensures { λ r. ⌜ r ≡ lostBy lost number k ⌝ }
@@ -159,7 +156,7 @@ pub fn run_trace(
         }
         going = next;
         k += 1;
-        at += FRAME;
+        at += trace::FRAME;
     }
     let run = going.run;
     let lost = going.lost;

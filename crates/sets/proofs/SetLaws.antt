@@ -137,7 +137,6 @@ member-lowest k u = go (decLt u k)
         let p = pow-pos k in
         member-past k (2 ^ k - 1) u (omega arith) (omega arith) ∙ sym (le-ltb u k (omega arith))
 
-
 pub same-members : (k a b : ℕ) → a < 2 ^ k → b < 2 ^ k → ((u : ℕ) → member a u ≡ member b u) → a ≡ b
 same-members zero a b h l e = lt-one h ∙ sym (lt-one l)
 same-members (suc k) a b h l e =

@@ -27,7 +27,7 @@ pub enum Counted {
 }
 
 // Bytes in a frame's line, with its 0A.
-const FRAME: usize = 7;
+pub const FRAME: usize = 7;
 
 // The value of a digit 0-9 or A-F, and 16 of any other byte.
 fn hex_value(b: u8) -> u8

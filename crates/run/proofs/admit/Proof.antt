@@ -20,25 +20,31 @@ use Rattle.run.proofs.admit.Statement.{statement}
 use Rattle.run.proofs.admit.Tie as tie
 
 returns : tie.Need-returns
-returns c = (λ m holds after guards b h.
-    let d = c .before in
-    let a = d .before .before .before .args in
-    let few = b .few-states in
-    let states = b .states in
-    not-kept
-    (past-states m (a .start)
-    (⊎-elim (λ x. let y = x .taken in omega arith) (λ x. let y = leb-true 4096 (a .start) (x .1 .taken) in
-    omega arith) (d .if1 .came)))
-    (c .no-start .ensures), λ z. absurd (omega (arith, c .no-start .ensures .number)))
+returns c = (
+  λ m holds after guards b h.
+      let d = c .before in
+      let a = d .before .before .before .args in
+      let few = b .few-states in
+      let states = b .states in
+      not-kept
+      (past-states m (a .start)
+      (⊎-elim (λ x. let y = x .taken in omega arith) (λ x. let y = leb-true 4096 (a .start) (x .1 .taken) in
+      omega arith) (d .if1 .came)))
+      (c .no-start .ensures),
+  λ z. absurd (omega (arith, c .no-start .ensures .number)),
+)
 
 returns-2 : tie.Need-returns-2
-returns-2 c = (λ m holds after guards b h.
-    let d = c .before in
-    let e = d .before .before .before in
-    let a = e .before .before .before .args in
-    let low : a .start < count (vars m) = omega (arith, b .states, e .if1 .left) in
-    not-kept (kept-other (kept m (a .start)) _ (kept-by m _ _ _ _ h (a .start) low) (d .if3 .taken))
-    (c .no-start2 .ensures), λ z. absurd (omega (arith, c .no-start2 .ensures .number)))
+returns-2 c = (
+  λ m holds after guards b h.
+      let d = c .before in
+      let e = d .before .before .before in
+      let a = e .before .before .before .args in
+      let low : a .start < count (vars m) = omega (arith, b .states, e .if1 .left) in
+      not-kept (kept-other (kept m (a .start)) _ (kept-by m _ _ _ _ h (a .start) low) (d .if3 .taken))
+      (c .no-start2 .ensures),
+  λ z. absurd (omega (arith, c .no-start2 .ensures .number)),
+)
 
 -- past the tests the start is a kept state
 started : (c : tie.Else3) →
@@ -52,24 +58,30 @@ started c m holds after guards b h =
     kept-one (kept m (a .start)) _ (kept-by m _ _ _ _ h (a .start) low) (c .if3 .left)
 
 returns-3 : tie.Need-returns-3
-returns-3 c = (λ m holds after guards b h.
-    let k = c .before .before in
-    let x = k .before .before in
-    let s = c .say .ensures in
-    no-frame _ (started (x .before) m holds after guards b h)
-    (counted-bad _ _ (sym (x .count .ensures) ∙ k .k .given .1))
-    (record { number = s .0; first = s .1; second = s .2 }), λ z. absurd (omega arith))
+returns-3 c = (
+  λ m holds after guards b h.
+      let k = c .before .before in
+      let x = k .before .before in
+      let s = c .say .ensures in
+      no-frame _ (started (x .before) m holds after guards b h)
+      (counted-bad _ _ (sym (x .count .ensures) ∙ k .k .given .1))
+      (record { number = s .0; first = s .1; second = s .2 }),
+  λ z. absurd (omega arith),
+)
 
 returns-4 : tie.Need-returns-4
-returns-4 c = (λ m holds after guards b h.
-    let y = c .before in
-    let x = y .before .before in
-    let s = c .say2 .ensures in
-    let f = counted-frames _ _ (sym (x .count .ensures) ∙ y .enum-told .given .1) in
-    all-frames (f .all) (started (x .before) m holds after guards b h) (f .read)
-    (record { number = s .0; first = s .1; second = s .2 }), λ z.
-    let e = c .before .before .before .before .before .before in
-    leb-false 4096 _ (e .if2 .left))
+returns-4 c = (
+  λ m holds after guards b h.
+      let y = c .before in
+      let x = y .before .before in
+      let s = c .say2 .ensures in
+      let f = counted-frames _ _ (sym (x .count .ensures) ∙ y .enum-told .given .1) in
+      all-frames (f .all) (started (x .before) m holds after guards b h) (f .read)
+      (record { number = s .0; first = s .1; second = s .2 }),
+  λ z.
+      let e = c .before .before .before .before .before .before in
+      leb-false 4096 _ (e .if2 .left),
+)
 
 pub admit-spec : {M : Type 1} → statement M
 admit-spec =
