@@ -3,3 +3,5 @@ pub mod Demand2
 pub mod Demand3
 pub mod Widths
 pub mod Cut
+pub mod Prefixes
+pub mod Points

@@ -1,1 +1,2 @@
-// No code: the three demands, as claims in `specs/`, a file each, and their proofs in `proofs/`.
+// No code: the three demands and what the points of a run are, as claims in `specs/`, a file each, and their proofs in
+// `proofs/`.

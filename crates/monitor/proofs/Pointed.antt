@@ -16,6 +16,8 @@ use Rattle.meaning.specs.Model.{kept, model}
 use Rattle.meaning.specs.Calls.{plain-machine, table-machine}
 use Rattle.meaning.specs.Points.{Pointing, noPoints, pointRoom, pointsOf, pointsFrom, framePoints, listPoints, pointCount}
 use Rattle.meaning.specs.Points.{stopAnswer}
+use Rattle.meaning.proofs.ModelLaws.{startable-iff}
+use Rattle.demands.proofs.Points.{every-point}
 use Rattle.answers.specs.Says.{Says, Is, answerOf}
 use Rattle.answers.specs.declared.Answer as code
 use Rattle.run.specs.Results.{machineOf}
@@ -25,7 +27,7 @@ use Rattle.run.proofs.Records.{list-run}
 use Rattle.stepper.specs.Shown.{ofMachine}
 use Rattle.points.specs.Written.{WritesPoints, StopSays}
 use Rattle.points.specs.declared.Written.{Written}
-use Rattle.monitor.specs.Results.{Points}
+use Rattle.monitor.specs.Results.{Points, PointsSay}
 use Rattle.monitor.specs.declared.Pointing as result
 use Rattle.monitor.proofs.Loaded.{refusal-of}
 
@@ -97,3 +99,9 @@ module _ (file bytes : List ℕ) (start : ℕ) (buffer : List ℕ) (r : result.P
           count = n ∙ many;
           bytes = x .bytes ∙ rw many refl;
         })
+
+-- in words
+pub points-say : (file bytes : List ℕ) (start : ℕ) (buffer : List ℕ) → PointsSay file bytes start buffer
+unfolding PointsSay
+points-say file bytes start buffer m e s fs _ =
+    every-point .points file m e start (startable-iff m start .1 s) fs buffer

@@ -23,6 +23,7 @@ use Rattle.stepper.specs.Shown.{placeOf}
 use Rattle.run.specs.Results.{Runs}
 use Rattle.run.specs.declared.Running.{Running}
 use Rattle.meaning.specs.Points as points
+use Rattle.demands.specs.Points.{EveryPoint}
 use Rattle.monitor.specs.declared.Placing.{Placing}
 use Rattle.monitor.specs.declared.Pointing.{Pointing}
 
@@ -38,6 +39,12 @@ pub record Points (p : points.Pointing) (r : Pointing) (buffer : List ℕ) : Typ
   pub table : Says (r .table) (p .table)
   pub count : r .count ≡ p .count
   pub bytes : buffer ≡ p .buffer
+
+-- and what they are, in words, where the trace is a list of frames (R 15.4)
+unfoldable pub PointsSay : List ℕ → List ℕ → ℕ → List ℕ → Type 0
+PointsSay file bytes start buffer =
+    (m : Monitor) → check file ≡ accepted m → Startable m start → (fs : List Frame) → bytes ≡ linesOf fs
+    → EveryPoint m start fs buffer
 
 -- demand 3 of two results: what they say of one another on one trace
 pub record SameResults (bytes : List ℕ) (plain table : Running) : Type 0 where

@@ -15,7 +15,7 @@ ghost use mathlib.Core.List.{List};
 ghost use Prim.Native.Nat.{ℕ};
 ghost use Rattle.loader.specs.Loading.{Loads};
 ghost use Rattle.meaning.specs.Points.{pointsOf};
-ghost use Rattle.monitor.specs.Results.{Places, Points, Agrees, EntriesOf, startOf, Starts};
+ghost use Rattle.monitor.specs.Results.{Places, Points, PointsSay, Agrees, EntriesOf, startOf, Starts};
 
 // What placing answers, and the table's length where it is placed.
 pub struct Placing {
@@ -246,6 +246,7 @@ fn points_loaded(
 pub fn points(file: &[u8], bytes: &[u8], start: usize, out: &mut [u8]) -> Pointing
     ensures { λ r. ⌜ Points (pointsOf (now (file .entry)) (now (bytes .entry)) start (now (out .entry))) r
         (now (out .exit)) ⌝ }
+    ensures { λ r. ⌜ PointsSay (now (file .entry)) (now (bytes .entry)) start (now (out .entry)) ⌝ }
 {
     let mut kept = [0u8; machine::STATES];
     let mut holds = [0u16; machine::STATES];

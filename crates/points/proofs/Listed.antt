@@ -16,6 +16,7 @@ use Rattle.meaning.specs.Model.{model}
 use Rattle.meaning.specs.Decide.Table.{forEach}
 use Rattle.meaning.specs.Decide.Frames.{framesOf, frames}
 use Rattle.meaning.specs.Points.{pointAt, pointCount, pointSize, stopAnswer, noticesAt}
+use Rattle.demands.proofs.Prefixes.{run-stopped}
 use Rattle.digits.specs.Written.{over, Writes}
 use Rattle.digits.proofs.ForEach.{forEach-more}
 use Rattle.digits.proofs.Writing.{written-same, written-more}
@@ -25,7 +26,6 @@ use Rattle.run.specs.Way.{runOf, At, TableAt, goes-on, has-stopped, Way, BothSt
 use Rattle.run.specs.declared.frames.Going.{Going}
 use Rattle.run.specs.declared.frames.Stop.{Stop}
 use Rattle.run.specs.declared.frames.Passed.{Passed}
-use Rattle.run.proofs.FrameByFrame.{run-stopped}
 use Rattle.variables.specs.declared.Bounds.{Bounds}
 use Rattle.layout.specs.declared.Layout.{Layout}
 use Rattle.points.specs.declared.Written.{Written}

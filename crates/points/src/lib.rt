@@ -282,13 +282,14 @@ fn write_rest(
         let then = passed.going;
         let lost = then.lost;
         if passed.number != 0 {
+            let taken = k + 1;
             return Written {
                 plain: Stop {
                     number: passed.number,
                     frame: k,
                 },
                 table: lost,
-                count: k + 1,
+                count: taken,
             };
         }
         to = write_point(
@@ -306,13 +307,14 @@ fn write_rest(
         at += trace::FRAME;
     }
     let lost = going.lost;
+    let count = k + 1;
     Written {
         plain: Stop {
             number: 0,
             frame: 0,
         },
         table: lost,
-        count: k + 1,
+        count: count,
     }
 }
 

@@ -1,9 +1,18 @@
-// Replays the second program's cases from one data file, and prints for each what placer and runner print. A case is
-// the length of a monitor file and of a trace, four bytes each, the lowest first, and then both.
+// Replays the second program's cases from one data file, and prints for each what placer and runner print, and of its
+// points from the start values both answers, how many there are, and a checksum of the buffer; then the same with a buffer
+// that is one byte too short. A case is the length of a monitor file and of a trace, four bytes each, the lowest first, and
+// then both.
+ghost use Prim.Native.Nat.{_<_};
 ghost use Rattle.io.specs.Counts.{Counts};
 
 // The most cases that are read.
 const CASES: usize = 1000;
+
+// Bytes for the points of the longest trace, and for one point more.
+const BUFFER: usize = 309012;
+
+// What stands in a buffer before it is lent.
+const UNWRITTEN: u8 = 165;
 
 fn main() {
     let fd = os::open_read(b"cases.bin");
@@ -63,5 +72,71 @@ fn replay(fd: i32) -> bool {
     io::write_all(1, &out[..table]);
     let runs = output::runner_lines(&file[..file_end], &trace[..trace_end], &mut out);
     io::write_all(1, &out[..runs]);
+    let mut buffer = [UNWRITTEN; BUFFER];
+    let room = (trace_end / trace::FRAME + 1) * points::POINT;
+    show_points(
+        &file[..file_end],
+        &trace[..trace_end],
+        &mut buffer,
+        room + points::POINT,
+        true,
+    );
+    let mut short = [UNWRITTEN; BUFFER];
+    show_points(
+        &file[..file_end],
+        &trace[..trace_end],
+        &mut short,
+        room - 1,
+        false,
+    );
     true
+}
+
+// The points of a case in so many bytes of a buffer.
+fn show_points(file: &[u8], trace: &[u8], buffer: &mut [u8], size: usize, both: bool) {
+    if buffer.len() < size {
+        return;
+    }
+    let start = monitor::start_state(file);
+    let got = monitor::points(file, trace, start, &mut buffer[..size]);
+    let plain = got.plain;
+    let table = got.table;
+    show(plain.number, plain.first, plain.second);
+    if both {
+        show(table.number, table.first, table.second);
+    }
+    show(0, got.count, sum_of(&buffer[..size]));
+}
+
+// A line of ten digits.
+fn show(number: u8, first: usize, second: usize) {
+    let mut out = [0u8; 11];
+    let end = lines::put_answer(&mut out, 0, number, first, second);
+    print(&out, end);
+}
+
+// The first bytes of a buffer, where it has as many.
+fn print(out: &[u8], end: usize) {
+    if end <= out.len() {
+        io::write_all(1, &out[..end]);
+    }
+}
+
+// A checksum below 65,521.
+fn sum_of(bytes: &[u8]) -> usize
+    ensures { λ r. ⌜ r < 65521 ⌝ }
+{
+    let mut sum: usize = 1;
+    let mut i: usize = 0;
+    while i < bytes.len() {
+        sum = (sum * 31 + wide(bytes[i])) % 65521;
+        i += 1;
+    }
+    sum
+}
+
+fn wide(b: u8) -> usize
+    ensures { λ r. ⌜ r < 256 ⌝ }
+{
+    b as usize
 }

@@ -1,5 +1,5 @@
--- A run of a list, frame by frame: what the runs of two lists make of the run of both, and what the code's record shows on
--- the way. That the table's machine has stopped where the plain one does is demand 3.
+-- A run of a list, frame by frame: what the code's record shows on the way. That the table's machine has stopped where
+-- the plain one does is demand 3.
 use Prim.Native.Nat.{ℕ, zero, suc, _+_, _*_, _<_, _≤_}
 use native.Mathlib.Omega.{arith}
 use native.Mathlib.Numerals.{add-one}
@@ -9,13 +9,14 @@ use mathlib.Core.List.{List, [], _∷_, _++_}
 use lib.ListN.{length, take, drop, getD, length-take, take-append-drop}
 use lib.Seq.{drop-cons, take-suc, take-all}
 use Rattle.machine.specs.Monitor.{Monitor, Config, Run, accepted, stopped, allIdle}
-use Rattle.machine.specs.Decide.Step.{Outcome, moved, refused, Told, step, run}
+use Rattle.machine.specs.Decide.Step.{Outcome, moved, refused, step, run}
 use Rattle.machine.specs.Monitor as machine
 use Rattle.machine.specs.Agreement.{Checked, AgreeOn, Agrees, plainRun, tableRun}
 use Rattle.machine.proofs.Agreement.{agrees}
 use Rattle.machine.proofs.RulesDecided.{run-on, run-stop, refused-number, told-decides}
 use Rattle.machine.proofs.Reached.{Reached, start-reached, step-reached}
 use Rattle.meaning.specs.Decide.Frames.{framesOf, frames}
+use Rattle.demands.proofs.Prefixes.{run-append, run-stopped}
 use Rattle.stepper.specs.declared.Run as code
 use Rattle.stepper.specs.declared.Frame.{Frame}
 use Rattle.stepper.specs.declared.Outcome as coded
@@ -29,44 +30,6 @@ use Rattle.run.specs.declared.frames.Stop.{Stop}
 use Rattle.run.specs.declared.frames.Going.{Going}
 use Rattle.run.specs.declared.frames.Passed.{Passed}
 use Rattle.run.specs.declared.frames.Ended.{Ended}
-
--- ---- the run of one list behind another
-
-module _ (m : Monitor) (told : Told) where
-  -- goes on where the first ends
-  pub run-append : (j : ℕ) (c p : Config) (fs gs : List machine.Frame) → run m told j c fs ≡ accepted p
-      → run m told j c (fs ++ gs) ≡ run m told (j + length fs) p gs
-  unfolding run
-  run-append j c p [] gs e =
-      let same : c ≡ p = cc in
-      let here : j ≡ j + length {A = machine.Frame} [] = omega arith in
-      ap (λ (x : Config). run m told j x gs) same ∙ ap (λ (n : ℕ). run m told n p gs) here
-  run-append j c p (g ∷ fs) gs e = go (step m told c g) refl
-      (λ b r. run-append (suc j) b p fs gs (sym (run-on m told j c b g fs r) ∙ e))
-    where
-      go : (y : Outcome) → step m told c g ≡ y
-          → ((b : Config) → step m told c g ≡ moved b → run m told (suc j) b (fs ++ gs)
-          ≡ run m told (suc j + length fs) p gs)
-          → run m told j c (g ∷ (fs ++ gs)) ≡ run m told (j + length (g ∷ fs)) p gs
-      go (moved b) r rec =
-          let here : suc j + length fs ≡ j + length (g ∷ fs) = omega arith in
-          run-on m told j c b g (fs ++ gs) r ∙ rec b r ∙ ap (λ (n : ℕ). run m told n p gs) here
-      go (refused a) r rec =
-          let z : _≡_ {A = ℕ} 0 1 = cc (run-stop m told j c g fs a r) in absurd (omega arith)
-
-  -- stops where the first stops
-  pub run-stopped : (j : ℕ) (c : Config) (a i : ℕ) (fs gs : List machine.Frame) → run m told j c fs ≡ stopped a i
-      → run m told j c (fs ++ gs) ≡ stopped a i
-  unfolding run
-  run-stopped j c a i [] gs e = let z : _≡_ {A = ℕ} 0 1 = cc in absurd (omega arith)
-  run-stopped j c a i (g ∷ fs) gs e = go (step m told c g) refl
-      (λ b r. run-stopped (suc j) b a i fs gs (sym (run-on m told j c b g fs r) ∙ e))
-    where
-      go : (y : Outcome) → step m told c g ≡ y
-          → ((b : Config) → step m told c g ≡ moved b → run m told (suc j) b (fs ++ gs) ≡ stopped a i)
-          → run m told j c (g ∷ (fs ++ gs)) ≡ stopped a i
-      go (moved b) r rec = run-on m told j c b g (fs ++ gs) r ∙ rec b r
-      go (refused n) r rec = run-stop m told j c g (fs ++ gs) n r ∙ sym (run-stop m told j c g fs n r) ∙ e
 
 -- ---- the frame that is next
 

@@ -148,19 +148,22 @@ fn write_bench(second: &Second, directory: &Path) -> io::Result<()> {
 }
 
 /// The bench examples: a file and a trace each.
-fn bench() -> Vec<(String, &'static str)> {
-    vec![
-        (BOX.into(), ""),
-        (BOX.into(), "000100\n010001\n000101\n"),
-        (BOX.into(), "000100\n000101\n"),
-        (BOX.into(), "000100\n000100\n"),
-        (BOX.into(), "010100\n000100\n020001\n010101\n"),
-        (BOX.into(), "000100\n010001\n020101\n000100\n"),
-        (BOX.into(), "000100\n010100\n020001\n030101\n010100\n"),
+fn bench() -> Vec<(String, String)> {
+    let cases = [
+        (BOX.to_string(), ""),
+        (BOX.to_string(), "000100\n010001\n000101\n"),
+        (BOX.to_string(), "000100\n000101\n"),
+        (BOX.to_string(), "000100\n000100\n"),
+        (BOX.to_string(), "010100\n000100\n020001\n010101\n"),
+        (BOX.to_string(), "000100\n010001\n020101\n000100\n"),
+        (BOX.to_string(), "000100\n010100\n020001\n030101\n010100\n"),
         (String::new(), ""),
-        ("monitor m".into(), ""),
+        ("monitor m".to_string(), ""),
         (" ".repeat(8193), ""),
         (BOX.replace("keep true", "keep full == 1"), ""),
-        (EQUAL.into(), "000001\n000001\n"),
-    ]
+        (EQUAL.to_string(), "000001\n000001\n"),
+    ];
+    // A long run, so that there are many points.
+    let long = (BOX.to_string(), "000100\n010001\n000101\n".repeat(1000));
+    cases.into_iter().map(|(file, trace)| (file, trace.to_string())).chain([long]).collect()
 }

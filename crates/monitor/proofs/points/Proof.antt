@@ -1,6 +1,7 @@
 -- `monitor::points` meets its contract: what `points_loaded` says of what was loaded.
 use borrow.Author.Needs.{needs}
 use Rattle.monitor.proofs.Loaded.{long}
+use Rattle.monitor.proofs.Pointed.{points-say}
 use Rattle.monitor.proofs.points.Statement.{statement}
 use Rattle.monitor.proofs.points.Tie as tie
 
@@ -8,7 +9,10 @@ returns : tie.Need-returns
 returns c =
     let p = c .before .before in
     let l = p .before .before .before .before .before .before .before .before in
-    p .points-loaded .ensures _ (l .load .ensures .0 (long 4096 0) (long 4096 0) (long 65536 0))
+    let a = l .before .before .before .before .before .before .before .args in (
+      p .points-loaded .ensures _ (l .load .ensures .0 (long 4096 0) (long 4096 0) (long 65536 0)),
+      points-say (a .file .now) (a .bytes .now) (a .start) (a .out .now),
+    )
 
 pub points-spec : {M : Type 1} → statement M
 points-spec =

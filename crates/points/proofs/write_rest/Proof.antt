@@ -40,8 +40,8 @@ returns c m kept fs s before a l way x =
     ends-stopped a (at .going) (p .pass .result) (at .k) (now .refused (c .if1 .taken)) (w .1) _ refl refl refl refl
 
 -- the frames are fewer than the bytes
-add-count : tie.Need-add-t28 Inv-loop μ-loop
-add-count c =
+add-taken : tie.Need-add-taken Inv-loop μ-loop
+add-taken c =
     let q = c .before .before .before .before .before .before .before .before .before in
     let at = q .before .loop in
     let start = q .before .before .before .before .before .before .before in
@@ -98,5 +98,5 @@ returns-2 c m kept fs s before a l way x =
 pub write-rest-spec : {M : Type 1} → statement M
 write-rest-spec =
     tie.close
-    (tie.spec Inv-loop μ-loop loop-holds (λ c κs. search needs) add-count (λ c. search needs) returns
+    (tie.spec Inv-loop μ-loop loop-holds (λ c κs. search needs) add-taken (λ c. search needs) returns
     (λ c κs. search needs) add-k add-at loop-less loop-again (λ c. omega arith) (λ c. search needs) returns-2)

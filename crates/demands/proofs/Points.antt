@@ -1,0 +1,144 @@
+-- What the points of a list are, as data: by the rules of the plain machine, and by demand 3 of the table's.
+use Prim.Native.Nat.{ℕ, zero, suc, _+_, _-_, _*_, _≤_, _<_}
+use native.Mathlib.Omega.{arith}
+use native.Mathlib.Nat.{zero-add}
+use mathlib.Core.Path.{_≡_, refl, sym, ap, ap₂, _∙_}
+use mathlib.Core.Logic.{_↔_}
+use mathlib.Core.List.{List, _++_, append-assoc}
+use lib.ListN.{length, take, drop, length-append}
+use lib.Seq.{take-at, drop-at, drop-append-add}
+use Rattle.syntax.specs.Tree.{Monitor}
+use Rattle.machine.specs.Monitor.{Frame, Threads, Config, Run, stopped, allIdle, threads}
+use Rattle.machine.specs.Monitor as machine
+use Rattle.machine.specs.Agreement.{SamePoint}
+use Rattle.meaning.specs.State.{stateAt}
+use Rattle.meaning.specs.Decide.Table.{forEach}
+use Rattle.meaning.specs.Decide.Calls.{runList, toldBy}
+use Rattle.meaning.specs.Model.{vars, model, holds}
+use Rattle.meaning.specs.Calls.{plain-machine, table-machine}
+use Rattle.meaning.specs.Points.{pointSize, valueBytes, placeBytes, setBytes, sharedBytes, noticeBytes, noticesAt}
+use Rattle.meaning.specs.Points.{plainPart, tablePart, pointAt, pointCount, listPoints}
+use Rattle.demands.specs.Points.{DemandPoints}
+use Rattle.demands.proofs.Prefixes.{front-taken, front-taken-iff}
+use Rattle.demands.proofs.Demand2.{follows-rules, run-stops}
+use Rattle.demands.proofs.Demand3.{demand-3}
+use Rattle.demands.proofs.Widths.{each-length}
+
+-- Pieces of one size, joined
+
+joined-length : (n j : ℕ) (f : ℕ → List ℕ) → ((k : ℕ) → k < n → length (f (j + k)) ≡ pointSize)
+    → length (forEach n j f) ≡ pointSize * n
+unfolding forEach
+joined-length zero j f h = refl
+joined-length (suc n) j f h =
+    let a : length (f j) ≡ pointSize = ap (λ (i : ℕ). length (f i)) (omega arith) ∙ h 0 (omega arith) in
+    let r = joined-length n (j + 1) f
+    (λ k l. ap (λ (i : ℕ). length (f i)) (omega arith) ∙ h (suc k) (omega arith)) in
+    length-append (f j) (forEach n (j + 1) f) ∙ omega arith
+
+joined-at : (n j : ℕ) (f : ℕ → List ℕ) (rest : List ℕ) → ((k : ℕ) → k < n → length (f (j + k)) ≡ pointSize)
+    → (k : ℕ) → k < n → take pointSize (drop (pointSize * k) (forEach n j f ++ rest)) ≡ f (j + k)
+unfolding forEach
+joined-at zero j f rest h k l = absurd (omega arith)
+joined-at (suc n) j f rest h zero l =
+    let here : j + 0 ≡ j = omega arith in
+    rw (append-assoc, here) (take-at (f j) _ pointSize (ap (λ (i : ℕ). length (f i)) (sym here) ∙ h 0 l))
+joined-at (suc n) j f rest h (suc k) l =
+    let here : j + 0 ≡ j = omega arith in
+    let next : (i : ℕ) → j + 1 + i ≡ j + suc i = λ i. omega arith in
+    let a : length (f j) ≡ pointSize = ap (λ (i : ℕ). length (f i)) (sym here) ∙ h 0 (omega arith) in
+    let size : pointSize * suc k ≡ length (f j) + pointSize * k = omega arith in
+    rw (append-assoc, size, drop-append-add)
+    (joined-at n (j + 1) f rest (λ i b. ap (λ (y : ℕ). length (f y)) (next i) ∙ h (suc i) (omega arith)) k (omega arith)
+    ∙ ap f (next k))
+
+-- The bytes of a point
+
+shared-length : (m : Monitor) (c : Config) → length (sharedBytes m c) ≡ 24
+unfolding sharedBytes valueBytes placeBytes setBytes threads
+shared-length m c = simp (length-append, each-length)
+
+table-length : (x y : Run) → length (tablePart x y) ≡ 5
+unfolding tablePart noticeBytes setBytes
+table-length x (machine.accepted c) = refl
+table-length x (stopped a k) = refl
+
+same-shared : (m : Monitor) (c d : Config) → SamePoint (model m) c d → sharedBytes m c ≡ sharedBytes m d
+unfolding sharedBytes
+same-shared m c d p =
+    ap₂ (λ (a : ℕ) (q : Threads). valueBytes (stateAt (vars m) a) ++ (placeBytes q ++ setBytes (λ g. holds m g a)))
+    (p .same-state) (p .same-threads)
+
+module _ (m : Monitor) (s : ℕ) (fs : List Frame) where
+  module _ (k : ℕ) (c : Config) (e : runList m plain-machine s (take k fs) ≡ machine.accepted c) where
+    abbrev behindShared : List ℕ
+    behindShared =
+        noticeBytes (noticesAt (runList m plain-machine s (take (k - 1) fs))) (c .notified)
+        ++ tablePart (runList m table-machine s (take (k - 1) fs)) (runList m table-machine s (take k fs))
+
+    point-as : pointAt m s fs k ≡ sharedBytes m c ++ behindShared
+    unfolding pointAt plainPart
+    point-as =
+        ap (λ (y : Run). plainPart m (runList m plain-machine s (take (k - 1) fs)) y
+        ++ tablePart (runList m table-machine s (take (k - 1) fs)) (runList m table-machine s (take k fs))) e
+        ∙ simp append-assoc
+
+    point-length : length (pointAt m s fs k) ≡ pointSize
+    unfolding noticeBytes setBytes
+    point-length =
+        let a = shared-length m c in
+        let t =
+        table-length (runList m table-machine s (take (k - 1) fs)) (runList m table-machine s (take k fs)) in
+        ap length point-as ∙ length-append (sharedBytes m c) behindShared ∙ omega arith
+
+  -- up to which point there is one
+  taken-iff : (k : ℕ) → (k < pointCount (runList m plain-machine s fs) fs) ↔ ((k ≤ length fs)
+      × ((c : Config) × (runList m plain-machine s (take k fs) ≡ machine.accepted c)))
+  unfolding pointCount runList
+  taken-iff k = go (runList m plain-machine s fs) refl
+    where
+      go : (x : Run) → runList m plain-machine s fs ≡ x → (k < pointCount x fs) ↔ ((k ≤ length fs)
+          × ((c : Config) × (runList m plain-machine s (take k fs) ≡ machine.accepted c)))
+      go (machine.accepted p) e = (
+        λ h. (omega arith, front-taken (model m) (toldBy (model m) plain-machine) 0 (allIdle s) fs k p e),
+        λ h. let b = h .0 in omega arith,
+      )
+      go (stopped a i) e =
+          let b = run-stops m plain-machine s fs a i e .frame in
+          let t = front-taken-iff (model m) (toldBy (model m) plain-machine) 0 (allIdle s) fs k a i e in (
+            λ h. (omega arith, t (omega arith) .1 (omega arith)),
+            λ h. let l = t (h .0) .0 (h .1) in omega arith,
+          )
+
+  lengths : (k : ℕ) → k < pointCount (runList m plain-machine s fs) fs → length (pointAt m s fs (0 + k)) ≡ pointSize
+  lengths k h =
+      let t = taken-iff k .0 h in
+      rw zero-add (point-length k (t .1 .0) (t .1 .1))
+
+pub every-point : DemandPoints
+unfolding listPoints
+every-point = record {
+  points = λ file m e s k fs buffer.
+      let rules = follows-rules m plain-machine in
+      let n = pointCount (runList m plain-machine s fs) fs in
+      let each = lengths m s fs in
+      record {
+        count = λ j.
+            let t = taken-iff m s fs j in (
+              λ h. let x = t .0 h in (x .0, (x .1 .0, rules .accepts s (take j fs) (x .1 .0) .0 (x .1 .1))),
+              λ h. t .1 (h .0, (h .1 .0, rules .accepts s (take j fs) (h .1 .0) .1 (h .1 .1))),
+            );
+        each = λ j h.
+            joined-at n 0 (pointAt m s fs) (drop (pointSize * n) buffer) each j h ∙ ap (pointAt m s fs) (zero-add j);
+        plain = λ j c h r. (_, point-as m s fs j c (rules .accepts s (take j fs) c .1 r));
+        table = λ j d h r.
+            let q = follows-rules m table-machine .accepts s (take j fs) d .1 r in
+            let x = demand-3 .agree file m e s k fs .every-point j h d q in (
+              _,
+              point-as m s fs j (x .0) (x .1)
+                  ∙ ap (λ (l : List ℕ). l ++ behindShared m s fs j (x .0) (x .1)) (same-shared m (x .0) d (x .2)),
+            );
+        behind = drop-at (forEach n 0 (pointAt m s fs)) (drop (pointSize * n) buffer) (pointSize * n)
+            (joined-length n 0 (pointAt m s fs) each);
+      };
+}

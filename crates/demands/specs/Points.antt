@@ -1,0 +1,47 @@
+-- The points of a list as data (`meaning/specs/Points`): which are there, where each stands, and that its numbers, places
+-- and guards are those of the point to which the machines' rules lead. The claim is `DemandPoints`.
+use Prim.Native.Nat.{ℕ, _*_, _≤_, _<_}
+use mathlib.Core.Path.{_≡_}
+use mathlib.Core.Bool.{true}
+use mathlib.Core.Logic.{_↔_}
+use mathlib.Core.List.{List, _++_}
+use lib.ListN.{length, take, drop}
+use Rattle.syntax.specs.Tree.{Monitor}
+use Rattle.machine.specs.Monitor.{Frame, Config, allIdle}
+use Rattle.machine.specs.Rules.{Rules}
+use Rattle.meaning.specs.Answer.{accepted}
+use Rattle.meaning.specs.Decide.Check.{check}
+use Rattle.meaning.specs.Model.{kept, model}
+use Rattle.meaning.specs.Calls.{noticesOf, plain-machine, table-machine}
+use Rattle.meaning.specs.Points.{pointSize, sharedBytes, pointAt, listPoints}
+
+pub record EveryPoint (m : Monitor) (s : ℕ) (fs : List Frame) (buffer : List ℕ) : Type 0 where
+  -- point k is there exactly where the plain machine's rules take the first k frames (R 15.4)
+  pub count :
+      (k : ℕ) → (k < listPoints m s fs buffer .count) ↔ ((k ≤ length fs)
+      × ((c : Config) × Rules (model m) (noticesOf m plain-machine) (allIdle s) (take k fs) c))
+  -- its bytes stand at 33 times k (R 15.5)
+  pub each :
+      (k : ℕ) → k < listPoints m s fs buffer .count
+      → take pointSize (drop (pointSize * k) (listPoints m s fs buffer .buffer)) ≡ pointAt m s fs k
+  -- they begin with the numbers, places and guards of the point to which the plain machine's rules lead
+  -- (R 15.6, 15.7, 15.8)
+  pub plain :
+      (k : ℕ) (c : Config) → k ≤ length fs
+      → Rules (model m) (noticesOf m plain-machine) (allIdle s) (take k fs) c
+      → (rest : List ℕ) × (pointAt m s fs k ≡ sharedBytes m c ++ rest)
+  -- and these are the table's machine's too, wherever its rules lead to a point (demand 3, as data; R 12.9)
+  pub table :
+      (k : ℕ) (d : Config) → k ≤ length fs
+      → Rules (model m) (noticesOf m table-machine) (allIdle s) (take k fs) d
+      → (rest : List ℕ) × (pointAt m s fs k ≡ sharedBytes m d ++ rest)
+  -- the bytes behind the points are kept (R 15.4)
+  pub behind :
+      drop (pointSize * listPoints m s fs buffer .count) (listPoints m s fs buffer .buffer)
+      ≡ drop (pointSize * listPoints m s fs buffer .count) buffer
+
+pub record DemandPoints : Type 0 where
+  -- from every state that meets the kept condition, on every list of frames (R 11.1, 11.2)
+  pub points :
+      (file : List ℕ) (m : Monitor) → check file ≡ accepted m → (s : ℕ) → kept m s ≡ true
+      → (fs : List Frame) (buffer : List ℕ) → EveryPoint m s fs buffer
