@@ -10,3 +10,4 @@ pub mod Cases08
 pub mod Cases09
 pub mod Cases10
 pub mod Cases11
+pub mod Points

@@ -42,16 +42,26 @@ use Rattle.syntax.specs.Decide.Scan.{wordOf, atMost, markOf, scan, prepend as t
 use Rattle.syntax.specs.Tree.{spellInt, spellAtom, signMark, spellTerm, each, spellExpr, comparisonMark, spellConstant}
 use Rattle.syntax.specs.Tree.{spellCond, spellConj, spellSimple, spellBlock, spellStmt, spellRegion, spellMethod}
 use Rattle.syntax.specs.Tree.{spellVar, spell, InGrammar, Viable}
-use mathlib.Core.List.{List, _++_}
+use Rattle.meaning.specs.Points.{valueBytes, placeBytes, setBytes, sharedBytes, noticeBytes, noticesAt, plainPart}
+use Rattle.meaning.specs.Points.{tablePart, pointAt, stopAnswer, pointCount, listPoints, framePoints, pointsFrom}
+use Rattle.meaning.specs.Points.{pointRoom, pointsOf}
+use Prim.Native.Nat.{ℕ}
+use lib.ListN.{replicate}
+use mathlib.Core.List.{List, _∷_, _++_}
 
--- What is run: `placer` on a file, `runner` on a file and a trace, or one behind the other
+-- What is run: `placer` on a file, `runner` on a file and a trace, one behind the other, or the points of a trace from a
+-- state in a buffer of so many bytes
 pub data Case : Type 0 where
   placing : List ℕ → Case
   running-of : List ℕ → List ℕ → Case
   whole : List ℕ → List ℕ → Case
+  points-of : List ℕ → List ℕ → ℕ → ℕ → Case
 
 unfoldable pub printing : Case → List ℕ
-unfolding any threads put without isDue isWaiting ahead beginWait leave allIdle onGuard waitsOn next firstNotified own plainTold mayBeAt may ran waited rechecked allowed act judged step run runs someMove everyMove stands unconditional broadcast entryOf acts entryTold tableTold written place toldBy eachThread bits ones recordOf runningOf runList runFrames runFrom running opens closes tally crowded placeOf leftOf pastLimit member misnamed placesOf inByte goodRange illRanged regionsOf keptAfter breaks firstFrom brokenFrom broken checkMeaning checkTokens check hex4 refusalLine placeByte valueDigits placeDigits recordLine runLine machineLine placer runner sameLexeme sameLexemes sameGuard placeIn guardsOf beginsIn goesOnIn noGuard noRegion numberAfter regions guards region guardOf holds kept after follows model hexDigit hex2 hexBool entryLine forEach tableOf size count stateAt numberOf starts linesFrom isHex hexValue allHex pairAt isFrame frameOf prepend framesFrom framesOf intOf negative less compares valueOf inRange assigned atomValue joined termsValue exprValue truth conjTruth simpleTruth andThen runBlock runStmt outcome keptAt bytes between blank letter digit wordByte leading decimal sameBytes startsWith onwards _>>=_ give begins rest choose expect readName readNumber readMany readSome readInt readAtom readSign readTerm isSign readExpr readComparison readCond readConj readSimple readBlock readStmt readRegion readMethod readVar atEnd readMonitor read keywords marks wordOf atMost markOf scan token-prepend tokensFrom tokenize lexemes markNumber keywordNumber isMark isKey isName spellInt spellAtom signMark spellTerm each spellExpr comparisonMark spellConstant spellCond spellConj spellSimple spellBlock spellStmt spellRegion spellMethod spellVar spell InGrammar Viable
+unfolding any threads put without isDue isWaiting ahead beginWait leave allIdle onGuard waitsOn next firstNotified own plainTold mayBeAt may ran waited rechecked allowed act judged step run runs someMove everyMove stands unconditional broadcast entryOf acts entryTold tableTold written place toldBy eachThread bits ones recordOf runningOf runList runFrames runFrom running opens closes tally crowded placeOf leftOf pastLimit member misnamed placesOf inByte goodRange illRanged regionsOf keptAfter breaks firstFrom brokenFrom broken checkMeaning checkTokens check hex4 refusalLine placeByte valueDigits placeDigits recordLine runLine machineLine placer runner valueBytes placeBytes setBytes sharedBytes noticeBytes noticesAt plainPart tablePart pointAt stopAnswer pointCount listPoints framePoints pointsFrom pointRoom pointsOf sameLexeme sameLexemes sameGuard placeIn guardsOf beginsIn goesOnIn noGuard noRegion numberAfter regions guards region guardOf holds kept after follows model hexDigit hex2 hexBool entryLine forEach tableOf size count stateAt numberOf starts linesFrom isHex hexValue allHex pairAt isFrame frameOf prepend framesFrom framesOf intOf negative less compares valueOf inRange assigned atomValue joined termsValue exprValue truth conjTruth simpleTruth andThen runBlock runStmt outcome keptAt bytes between blank letter digit wordByte leading decimal sameBytes startsWith onwards _>>=_ give begins rest choose expect readName readNumber readMany readSome readInt readAtom readSign readTerm isSign readExpr readComparison readCond readConj readSimple readBlock readStmt readRegion readMethod readVar atEnd readMonitor read keywords marks wordOf atMost markOf scan token-prepend tokensFrom tokenize lexemes markNumber keywordNumber isMark isKey isName spellInt spellAtom signMark spellTerm each spellExpr comparisonMark spellConstant spellCond spellConj spellSimple spellBlock spellStmt spellRegion spellMethod spellVar spell InGrammar Viable
 printing (placing file) = placer file
 printing (running-of file trace) = runner file trace
 printing (whole file trace) = placer file ++ runner file trace
+printing (points-of file trace s room) =
+    let p = pointsOf file trace s (replicate room 165) in
+    refusalLine (p .plain) ++ (refusalLine (p .table) ++ (p .count ∷ p .buffer))

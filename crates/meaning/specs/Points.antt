@@ -47,12 +47,13 @@ sharedBytes m c =
 unfoldable pub noticeBytes : (ℕ → Bool) → (ℕ → Bool) → List ℕ
 noticeBytes before now = setBytes now ++ setBytes (λ u. now u && not (before u))
 
--- who is notified at the end of a run
+-- who is notified at the end of a run (R 15.10)
 unfoldable pub noticesAt : Run → ℕ → Bool
 noticesAt (accepted c) u = c .notified u
 noticesAt (stopped a k) u = false
 
--- the plain machine's run up to a point, behind that up to the point before (R 15.4, 15.9)
+-- the plain machine's run up to a point, behind that up to the point before; where it has stopped there is no point
+-- (R 15.4, 15.9)
 unfoldable pub plainPart : Monitor → Run → Run → List ℕ
 plainPart m before (accepted c) = sharedBytes m c ++ noticeBytes (noticesAt before) (c .notified)
 plainPart m before (stopped a k) = []
@@ -78,7 +79,7 @@ pub record Pointing : Type 0 where
   pub count : ℕ
   pub buffer : List ℕ
 
--- "A refusal writes to no buffer" (R 15.3)
+-- a refusal of the file, the buffer, the start or a line: both machines', and nothing is written (R 15.3)
 abbrev pub noPoints : Answer → List ℕ → Pointing
 noPoints a buffer = record { plain = a; table = a; count = 0; buffer = buffer }
 
@@ -92,6 +93,7 @@ unfoldable pub pointCount : Run → List Frame → ℕ
 pointCount (accepted c) fs = length fs + 1
 pointCount (stopped a k) fs = k + 1
 
+-- of a list of frames (R 15.2, 15.4)
 unfoldable pub listPoints : Monitor → ℕ → List Frame → List ℕ → Pointing
 listPoints m s fs buffer =
     let n = pointCount (runList m plain-machine s fs) fs in
@@ -102,12 +104,12 @@ listPoints m s fs buffer =
       buffer = forEach n 0 (pointAt m s fs) ++ drop (pointSize * n) buffer;
     }
 
--- 12 over the whole trace
+-- 12 over the whole trace (R 15.3)
 unfoldable pub framePoints : Monitor → ℕ → Frames → List ℕ → Pointing
 framePoints m s (frames fs) buffer = listPoints m s fs buffer
 framePoints m s (none-at k) buffer = noPoints (answer 12 k 0) buffer
 
--- 11
+-- 11 (R 15.3)
 unfoldable pub pointsFrom : Monitor → ℕ → List ℕ → List ℕ → Pointing
 pointsFrom m s trace buffer =
     elim (kept m s) [ true ↦ framePoints m s (framesOf trace) buffer | false ↦ noPoints (answer 11 0 0) buffer ]
@@ -116,7 +118,7 @@ pointsFrom m s trace buffer =
 unfoldable pub pointRoom : List ℕ → ℕ
 pointRoom trace = pointSize * (length trace / 7 + 1)
 
--- the file's refusals, and 10 (R 15.3)
+-- of a file, a trace, a state's number and a buffer: the file's refusals, and 10 (R 15.1, 15.3)
 unfoldable pub pointsOf : List ℕ → List ℕ → ℕ → List ℕ → Pointing
 pointsOf file trace s buffer =
     elim (check file) [

@@ -17,6 +17,7 @@ use Rattle.meaning.specs.Calls.{plain-machine, table-machine}
 use Rattle.meaning.specs.Points.{Pointing, noPoints, pointRoom, pointsOf, pointsFrom, framePoints, listPoints, pointCount}
 use Rattle.meaning.specs.Points.{stopAnswer}
 use Rattle.meaning.proofs.ModelLaws.{startable-iff}
+use Rattle.meaning.proofs.Frames.{frames-read}
 use Rattle.demands.proofs.Points.{every-point}
 use Rattle.answers.specs.Says.{Says, Is, answerOf}
 use Rattle.answers.specs.declared.Answer as code
@@ -102,6 +103,9 @@ module _ (file bytes : List ℕ) (start : ℕ) (buffer : List ℕ) (r : result.P
 
 -- in words
 pub points-say : (file bytes : List ℕ) (start : ℕ) (buffer : List ℕ) → PointsSay file bytes start buffer
-unfolding PointsSay
-points-say file bytes start buffer m e s fs _ =
-    every-point .points file m e start (startable-iff m start .1 s) fs buffer
+unfolding PointsSay pointsOf pointsFrom framePoints
+points-say file bytes start buffer m e room s fs records lines =
+    let k = startable-iff m start .1 s in
+    let f = frames-read bytes fs .1 (records, lines) in
+    let long = le-ltb (length buffer) (pointRoom bytes) room in
+    (rw (e, pointsOf, long, k, pointsFrom, f) refl, every-point .points file m e start k fs buffer)

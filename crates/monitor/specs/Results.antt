@@ -1,9 +1,9 @@
 -- The results of the library's calls against the meanings: every part of each, for every input.
-use Prim.Native.Nat.{ℕ, _<_}
+use Prim.Native.Nat.{ℕ, _<_, _≤_}
 use mathlib.Core.Path.{_≡_}
 use mathlib.Core.Logic.{_⊎_}
 use mathlib.Core.List.{List, map}
-use lib.ListN.{getD}
+use lib.ListN.{length, getD}
 use Rattle.answers.specs.Says.{Says}
 use Rattle.meaning.specs.Calls.{plain-machine, table-machine, Startable}
 use Rattle.meaning.specs.Decide.Calls.{runList, running}
@@ -40,11 +40,12 @@ pub record Points (p : points.Pointing) (r : Pointing) (buffer : List ℕ) : Typ
   pub count : r .count ≡ p .count
   pub bytes : buffer ≡ p .buffer
 
--- and what they are, in words, where the trace is a list of frames (R 15.4)
+-- and what they are in words, where nothing is refused before the first frame (R 15.4)
 unfoldable pub PointsSay : List ℕ → List ℕ → ℕ → List ℕ → Type 0
 PointsSay file bytes start buffer =
-    (m : Monitor) → check file ≡ accepted m → Startable m start → (fs : List Frame) → bytes ≡ linesOf fs
-    → EveryPoint m start fs buffer
+    (m : Monitor) → check file ≡ accepted m → points.pointRoom bytes ≤ length buffer → Startable m start
+    → (fs : List Frame) → FrameRecords fs → bytes ≡ linesOf fs
+    → (points.pointsOf file bytes start buffer ≡ points.listPoints m start fs buffer) × EveryPoint m start fs buffer
 
 -- demand 3 of two results: what they say of one another on one trace
 pub record SameResults (bytes : List ℕ) (plain table : Running) : Type 0 where

@@ -1,6 +1,6 @@
-// The library: the check of a file, the placing of its table into a lent buffer, and runs of a trace on either machine
-// or on both, from a start state or from the start values. No call asks anything of its caller; each states its
-// complete result for every input.
+// The library: the check of a file, the placing of its table into a lent buffer, runs of a trace on either machine or on
+// both, from a start state or from the start values, and every point of a run in a lent buffer. No call asks anything of
+// its caller; each states its complete result for every input.
 use answers::Answer;
 use loader::Loaded;
 use run::Both;

@@ -1,4 +1,5 @@
-// Sets of sixteen threads as the bits of a number: members, a thread more or less, how many, and the lowest.
+// Sets of sixteen threads or guards as the bits of a number: members, one more or less, how many, the lowest, those that
+// another lacks, and those below a number.
 ghost use mathlib.Core.Path.{_≡_};
 ghost use mathlib.Core.Bool.{true, not, _&&_, _||_};
 ghost use Prim.Native.Nat.{ℕ, _<_, _≤_};
