@@ -21,7 +21,7 @@ returns c m s fs k x room =
     let known = v .before .before .struct-known .given in
     let e = point-absent x (v .before .values-of .result) (v .place-bytes .result) (u .before .below .result) (u .minus .result)
     (v .before .values-of .ensures (vars m) (x .bounded) low) (v .place-bytes .ensures) (omega arith)
-    (u .before .below .ensures) (omega arith) (omega arith) (u .minus .ensures) (t .if1 .taken) in
+    (u .before .below .ensures) (omega arith) (omega arith) (u .minus .ensures) (λ z. omega (arith, t .if1 .taken)) in
     (written-same e (d .put-point .ensures .written room), sym (ap length e) ∙ point-length _ _ _ _ _ _ _ _)
 
 returns-2 : tie.Need-returns-2
@@ -35,7 +35,7 @@ returns-2 c m s fs k x room =
     let known = v .before .before .struct-known .given in
     let e = point-there x (v .before .values-of .result) (v .place-bytes .result) (u .before .below .result) (u .minus .result)
     (v .before .values-of .ensures (vars m) (x .bounded) low) (v .place-bytes .ensures) (omega arith)
-    (u .before .below .ensures) (omega arith) (omega arith) (u .minus .ensures) (n .before .if1 .left)
+    (u .before .below .ensures) (omega arith) (omega arith) (u .minus .ensures) (omega (arith, n .before .if1 .left))
     (n .minus2 .result) (omega arith) (omega arith) (n .minus2 .ensures) in
     (written-same e (d .put-point2 .ensures .written room), sym (ap length e) ∙ point-length _ _ _ _ _ _ _ _)
 

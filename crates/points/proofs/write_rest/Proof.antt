@@ -37,7 +37,7 @@ returns c m kept fs s before a l way x =
     let at = q .before .loop in
     let w = at .inv .3 m kept fs s before a l way x in
     let now = p .pass .ensures (model m) kept s fs (a .asked) (at .inv .0) (q .loop-test .taken) (w .0) in
-    ends-stopped a (at .going) (p .pass .result) (at .k) (now .refused (c .if1 .taken)) (w .1) _ refl refl refl refl
+    ends-stopped a (at .going) (p .pass .result) (at .k) (now .refused (λ z. omega (arith, c .if1 .taken))) (w .1) _ refl refl refl refl
 
 -- the frames are fewer than the bytes
 add-taken : tie.Need-add-taken Inv-loop μ-loop
@@ -79,7 +79,7 @@ loop-again c =
       λ m kept fs s before a l way x.
           let w = at .inv .3 m kept fs s before a l way x in
           let now = p .pass .ensures (model m) kept s fs (a .asked) (at .inv .0) (q .loop-test .taken) (w .0) .taken
-          (e .if1 .left) in
+          (omega (arith, e .if1 .left)) in
           let below = now .below in
           let fits = room a (at .k + 1) (omega arith) in
           let n = w .1 .long in

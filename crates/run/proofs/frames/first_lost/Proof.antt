@@ -1,4 +1,5 @@
 -- `frames::first_lost` meets its contract.
+use native.Mathlib.Omega.{arith}
 use mathlib.Core.Path.{refl, sym, ap}
 use Prim.Native.Nat.{ℕ}
 use Rattle.run.specs.Way.{lostBy}
@@ -7,7 +8,7 @@ use Rattle.run.proofs.frames.first_lost.Statement.{statement}
 use Rattle.run.proofs.frames.first_lost.Tie as tie
 
 returns : tie.Need-returns
-returns c = let a = c .before .before .args in sym (lost-kept (a .lost) (a .number) (a .k) (c .if1 .taken))
+returns c = let a = c .before .before .args in sym (lost-kept (a .lost) (a .number) (a .k) (λ z. omega arith))
 
 returns-2 : tie.Need-returns-2
 unfolding lostBy
@@ -16,7 +17,7 @@ returns-2 c = let a = c .before .before .before .args in sym (ap (λ (n : ℕ). 
 returns-3 : tie.Need-returns-3
 returns-3 c =
     let a = c .before .before .before .args in
-    sym (lost-first (a .lost) (a .number) (a .k) (c .before .if1 .left) (c .if2 .left))
+    sym (lost-first (a .lost) (a .number) (a .k) (omega arith) (c .if2 .left))
 
 pub first-lost-spec : {M : Type 1} → statement M
 first-lost-spec = tie.close (tie.spec returns returns-2 returns-3)
