@@ -4,7 +4,8 @@ use native.Mathlib.Omega.{arith}
 use native.Mathlib.Nat.{zero-add}
 use mathlib.Core.Path.{_≡_, refl, sym, ap, ap₂, _∙_}
 use mathlib.Core.Logic.{_↔_}
-use mathlib.Core.List.{List, _++_, append-assoc}
+use mathlib.Core.Bool.{not, _&&_}
+use mathlib.Core.List.{List, [], _∷_, _++_, append-assoc}
 use lib.ListN.{length, take, drop, length-append}
 use lib.Seq.{take-at, drop-at, drop-append-add}
 use Rattle.syntax.specs.Tree.{Monitor}
@@ -91,6 +92,54 @@ module _ (m : Monitor) (s : ℕ) (fs : List Frame) where
         table-length (runList m table-machine s (take (k - 1) fs)) (runList m table-machine s (take k fs)) in
         ap length point-as ∙ length-append (sharedBytes m c) behindShared ∙ omega arith
 
+    -- the plain machine's notices come first
+    notices-first : sharedBytes m c ++ behindShared
+        ≡ sharedBytes m c
+        ++ (setBytes (c .notified)
+        ++ (setBytes (λ u. c .notified u && not (noticesAt (runList m plain-machine s (take (k - 1) fs)) u))
+        ++ tablePart (runList m table-machine s (take (k - 1) fs)) (runList m table-machine s (take k fs))))
+    unfolding noticeBytes
+    notices-first = ap (λ (l : List ℕ). sharedBytes m c ++ l) (append-assoc (setBytes (c .notified)) _ _)
+
+    abbrev own : List ℕ
+    own = noticeBytes (noticesAt (runList m plain-machine s (take (k - 1) fs))) (c .notified)
+
+    own-length : length own ≡ 4
+    unfolding noticeBytes setBytes
+    own-length = refl
+
+    -- the table's part, by its run of the same frames
+    with-table : (y : Run) → runList m table-machine s (take k fs) ≡ y
+        → pointAt m s fs k ≡ sharedBytes m c ++ (own ++ tablePart (runList m table-machine s (take (k - 1) fs)) y)
+    with-table y q =
+        point-as
+        ∙ ap (λ (z : Run). sharedBytes m c ++ (own ++ tablePart (runList m table-machine s (take (k - 1) fs)) z)) q
+
+    table-there : (d : Config) → runList m table-machine s (take k fs) ≡ machine.accepted d → SamePoint (model m) c d
+        → (four told : List ℕ) × (length four ≡ 4)
+        × (pointAt m s fs k ≡ sharedBytes m d ++ (four ++ (1 ∷ (setBytes (d .notified) ++ told))))
+    unfolding tablePart noticeBytes
+    table-there d q same = (
+      own,
+      setBytes (λ u. d .notified u && not (noticesAt (runList m table-machine s (take (k - 1) fs)) u)),
+      own-length,
+      with-table (machine.accepted d) q
+          ∙ ap (λ (l : List ℕ). l ++ (own ++ tablePart (runList m table-machine s (take (k - 1) fs)) (machine.accepted d)))
+          (same-shared m c d same),
+    )
+
+    table-absent : ((d : Config) → runList m table-machine s (take k fs) ≡ machine.accepted d → ⊥)
+        → (four : List ℕ) × (length four ≡ 4)
+        × (pointAt m s fs k ≡ sharedBytes m c ++ (four ++ (0 ∷ 0 ∷ 0 ∷ 0 ∷ 0 ∷ [])))
+    unfolding tablePart
+    table-absent no-point = go (runList m table-machine s (take k fs)) refl
+      where
+        go : (y : Run) → runList m table-machine s (take k fs) ≡ y
+            → (four : List ℕ) × (length four ≡ 4)
+            × (pointAt m s fs k ≡ sharedBytes m c ++ (four ++ (0 ∷ 0 ∷ 0 ∷ 0 ∷ 0 ∷ [])))
+        go (machine.accepted d) q = absurd (no-point d q)
+        go (stopped a i) q = (own, own-length, with-table (stopped a i) q)
+
   -- up to which point there is one
   taken-iff : (k : ℕ) → (k < pointCount (runList m plain-machine s fs) fs) ↔ ((k ≤ length fs)
       × ((c : Config) × (runList m plain-machine s (take k fs) ≡ machine.accepted c)))
@@ -130,14 +179,16 @@ every-point = record {
             );
         each = λ j h.
             joined-at n 0 (pointAt m s fs) (drop (pointSize * n) buffer) each j h ∙ ap (pointAt m s fs) (zero-add j);
-        plain = λ j c h r. (_, point-as m s fs j c (rules .accepts s (take j fs) c .1 r));
+        plain = λ j c h r.
+            let e = rules .accepts s (take j fs) c .1 r in
+            (_, point-as m s fs j c e ∙ notices-first m s fs j c e);
         table = λ j d h r.
             let q = follows-rules m table-machine .accepts s (take j fs) d .1 r in
-            let x = demand-3 .agree file m e s k fs .every-point j h d q in (
-              _,
-              point-as m s fs j (x .0) (x .1)
-                  ∙ ap (λ (l : List ℕ). l ++ behindShared m s fs j (x .0) (x .1)) (same-shared m (x .0) d (x .2)),
-            );
+            let x = demand-3 .agree file m e s k fs .every-point j h d q in
+            table-there m s fs j (x .0) (x .1) d q (x .2);
+        absent = λ j c h r none.
+            table-absent m s fs j c (rules .accepts s (take j fs) c .1 r)
+            (λ d q. none d (follows-rules m table-machine .accepts s (take j fs) d .0 q));
         behind = drop-at (forEach n 0 (pointAt m s fs)) (drop (pointSize * n) buffer) (pointSize * n)
             (joined-length n 0 (pointAt m s fs) each);
       };

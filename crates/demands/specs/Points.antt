@@ -4,7 +4,7 @@ use Prim.Native.Nat.{ℕ, _*_, _≤_, _<_}
 use mathlib.Core.Path.{_≡_}
 use mathlib.Core.Bool.{true}
 use mathlib.Core.Logic.{_↔_}
-use mathlib.Core.List.{List, _++_}
+use mathlib.Core.List.{List, [], _∷_, _++_}
 use lib.ListN.{length, take, drop}
 use Rattle.syntax.specs.Tree.{Monitor}
 use Rattle.machine.specs.Monitor.{Frame, Config, allIdle}
@@ -13,7 +13,7 @@ use Rattle.meaning.specs.Answer.{accepted}
 use Rattle.meaning.specs.Decide.Check.{check}
 use Rattle.meaning.specs.Model.{kept, model}
 use Rattle.meaning.specs.Calls.{noticesOf, plain-machine, table-machine}
-use Rattle.meaning.specs.Points.{pointSize, sharedBytes, pointAt, listPoints}
+use Rattle.meaning.specs.Points.{pointSize, setBytes, sharedBytes, pointAt, listPoints}
 
 pub record EveryPoint (m : Monitor) (s : ℕ) (fs : List Frame) (buffer : List ℕ) : Type 0 where
   -- point k is there exactly where the plain machine's rules take the first k frames (R 15.4)
@@ -24,17 +24,26 @@ pub record EveryPoint (m : Monitor) (s : ℕ) (fs : List Frame) (buffer : List �
   pub each :
       (k : ℕ) → k < listPoints m s fs buffer .count
       → take pointSize (drop (pointSize * k) (listPoints m s fs buffer .buffer)) ≡ pointAt m s fs k
-  -- they begin with the numbers, places and guards of the point to which the plain machine's rules lead
-  -- (R 15.6, 15.7, 15.8)
+  -- they are the numbers, places and guards of the point to which the plain machine's rules lead, and who is notified
+  -- there, behind which stand those told and the table's part (R 15.6, 15.7, 15.8, 15.9)
   pub plain :
       (k : ℕ) (c : Config) → k ≤ length fs
       → Rules (model m) (noticesOf m plain-machine) (allIdle s) (take k fs) c
-      → (rest : List ℕ) × (pointAt m s fs k ≡ sharedBytes m c ++ rest)
-  -- and these are the table's machine's too, wherever its rules lead to a point (demand 3, as data; R 12.9)
+      → (rest : List ℕ) × (pointAt m s fs k ≡ sharedBytes m c ++ (setBytes (c .notified) ++ rest))
+  -- wherever the table's rules lead to a point, numbers, places and guards are that point's too (demand 3, as data;
+  -- R 12.9), and behind the plain machine's four bytes stand 01 and who is notified by the table (R 15.11)
   pub table :
       (k : ℕ) (d : Config) → k ≤ length fs
       → Rules (model m) (noticesOf m table-machine) (allIdle s) (take k fs) d
-      → (rest : List ℕ) × (pointAt m s fs k ≡ sharedBytes m d ++ rest)
+      → (four told : List ℕ) × (length four ≡ 4)
+      × (pointAt m s fs k ≡ sharedBytes m d ++ (four ++ (1 ∷ (setBytes (d .notified) ++ told))))
+  -- where they lead to none, five bytes of 00 (R 15.12)
+  pub absent :
+      (k : ℕ) (c : Config) → k ≤ length fs
+      → Rules (model m) (noticesOf m plain-machine) (allIdle s) (take k fs) c
+      → ((d : Config) → Rules (model m) (noticesOf m table-machine) (allIdle s) (take k fs) d → ⊥)
+      → (four : List ℕ) × (length four ≡ 4)
+      × (pointAt m s fs k ≡ sharedBytes m c ++ (four ++ (0 ∷ 0 ∷ 0 ∷ 0 ∷ 0 ∷ [])))
   -- the bytes behind the points are kept (R 15.4)
   pub behind :
       drop (pointSize * listPoints m s fs buffer .count) (listPoints m s fs buffer .buffer)

@@ -53,7 +53,7 @@ pub digit-other : (b : ℕ) → (48 ≤ b → b ≤ 57 → ⊥) → (65 ≤ b �
 digit-other b h g =
     sym (digit-none b (is-false (λ e. ⊎-elim (λ p. h (p .0) (p .1)) (λ p. g (p .0) (p .1)) (decides-hex b .0 e))))
 
-pair-is : (a b : ℕ) → isHex a ≡ true → isHex b ≡ true → pairOf a b ≡ hexValue a * 16 + hexValue b
+pub pair-is : (a b : ℕ) → isHex a ≡ true → isHex b ≡ true → pairOf a b ≡ hexValue a * 16 + hexValue b
 unfolding pairOf
 pair-is a b h g = rw (h, g, pairOf)
 
@@ -73,7 +73,7 @@ pub pair-over : (a b : ℕ) → (digitOf a ≤ 15 → digitOf b ≤ 15 → ⊥) 
 pair-over a b h =
     sym (pair-none a b (is-false (λ e. let (p, q) = both _ _ e in h (digit-below a p) (digit-below b q))))
 
-pair-hex : (a b : ℕ) → pairOf a b ≤ 255 → (isHex a ≡ true) × (isHex b ≡ true)
+pub pair-hex : (a b : ℕ) → pairOf a b ≤ 255 → (isHex a ≡ true) × (isHex b ≡ true)
 pair-hex a b h = both _ _ (is-true (λ e. omega (arith, pair-none a b e)))
 
 -- Frames of six bytes

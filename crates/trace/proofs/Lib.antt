@@ -1,3 +1,4 @@
 pub mod FramesAt
 pub mod FirstLine
+pub mod FrameTest
 pub mod Decoding

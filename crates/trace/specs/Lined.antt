@@ -1,5 +1,7 @@
 -- What the code finds at a byte of a trace, and in a whole trace, by the definitions of frames.
-use Prim.Native.Nat.{ℕ}
+use Prim.Native.Nat.{ℕ, _<_}
+use mathlib.Core.Path.{_≡_}
+use mathlib.Core.Bool.{Bool, true, false}
 use mathlib.Core.List.{List, [], _∷_}
 use mathlib.Core.Option.{Option, none, some}
 use lib.ListN.{length, drop}
@@ -22,6 +24,18 @@ firstOf (l ∷ ls) = lineFor (frameOf l)
 
 unfoldable pub lineAt : List ℕ → ℕ → code.Line
 lineAt trace at = firstOf (linesFrom [] (drop at trace))
+
+-- a frame's line begins at a byte
+pub record FrameThere (trace : List ℕ) (at : ℕ) : Type 0 where
+  pub thread : ℕ
+  pub region : ℕ
+  pub flag : Bool
+  pub is : line.Frame thread region flag ≡ lineAt trace at
+
+-- what a test for that tells
+pub record Tells (trace : List ℕ) (at : ℕ) (r : Bool) : Type 0 where
+  pub frame : r ≡ true → FrameThere trace at
+  pub none-there : r ≡ false → at < length trace → line.Bad ≡ lineAt trace at
 
 unfoldable pub countedAs : Frames → counted.Counted
 countedAs (frames fs) = Counting (length fs)

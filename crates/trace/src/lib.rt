@@ -2,7 +2,8 @@
 // (12).
 ghost use mathlib.Core.Path.{_≡_};
 ghost use Prim.Native.Nat.{_<_};
-ghost use Rattle.trace.specs.Lined.{lineAt, countedOf};
+ghost use Rattle.meaning.specs.Decide.Frames.{isHex};
+ghost use Rattle.trace.specs.Lined.{lineAt, Tells, countedOf};
 ghost use Rattle.trace.specs.Pairs.{digitOf, pairOf};
 ghost use Rattle.trace.specs.Decoded.{valueOf, numbersAt};
 
@@ -99,6 +100,32 @@ pub fn numbers_at(trace: &[u8], at: usize) -> Numbers
     }
 }
 
+// Whether a byte is a digit 0-9 or A-F, without a branch.
+fn is_digit(b: u8) -> bool
+    ensures { λ r. ⌜ r ≡ isHex b ⌝ }
+{
+    (48 <= b) & (b <= 57) | (65 <= b) & (b <= 70)
+}
+
+// Whether the line that begins at a byte is a frame, without a branch but for the length. A thread is 00 to 0F, a flag
+// is 00 or 01, and 48 and 49 are the bytes whose half is 24.
+fn is_frame(trace: &[u8], at: usize) -> bool
+    ensures { λ r. ⌜ Tells (now (trace .entry)) at r ⌝ }
+{
+    if trace.len() <= at {
+        return false;
+    }
+    if trace.len() - at < FRAME {
+        return false;
+    }
+    let digits = is_digit(trace[at + 1]) & is_digit(trace[at + 2]) & is_digit(trace[at + 3]);
+    let marks = (trace[at] == 48)
+        & (trace[at + 4] == 48)
+        & (trace[at + 5] / 2 == 24)
+        & (trace[at + 6] == 10);
+    digits & marks
+}
+
 // The frames of a whole trace, counted.
 pub fn count(trace: &[u8]) -> Counted
     ensures { λ r. ⌜ r ≡ countedOf (now (trace .entry)) ⌝ }
@@ -106,14 +133,11 @@ pub fn count(trace: &[u8]) -> Counted
     let mut at: usize = 0;
     let mut n: usize = 0;
     while at < trace.len() {
-        match line_at(trace, at) {
-            Line::Frame(_, _, _) => {
-                at += FRAME;
-                n += 1;
-            }
-            Line::Bad => return Counted::BadAt(n),
-            Line::End => return Counted::Frames(n),
+        if !is_frame(trace, at) {
+            return Counted::BadAt(n);
         }
+        at += FRAME;
+        n += 1;
     }
     Counted::Frames(n)
 }

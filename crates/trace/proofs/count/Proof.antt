@@ -5,6 +5,7 @@ use native.Mathlib.Omega.{arith}
 use mathlib.Core.Path.{_≡_, sym, _∙_}
 use lib.ListN.{length}
 use borrow.Author.Needs.{needs}
+use borrow.Author.Tests.{not-true, not-false}
 use denote.Ref.{now}
 use Rattle.trace.specs.Lined.{countedOf}
 use Rattle.trace.proofs.FirstLine.{line-end, leftFrom, LeftNext, left-all, left-frame, left-bad, left-end}
@@ -18,19 +19,21 @@ abbrev μ-loop : tie.MeasureT-loop
 μ-loop trace at₀ n₀ at n = length trace - at
 
 -- after a frame
-next : (c : tie.After-enum-told Inv-loop μ-loop)
-    → (let h = c .before .before .before .before in LeftNext (now (h .before .before .args .trace)) (h .loop .at)
-    (h .loop .n))
-next c = left-frame _ _ _ (sym (c .enum-told .given .1) ∙ c .before .before .line-at .ensures)
+next : (c : tie.Else1 Inv-loop μ-loop)
+    → (let h = c .before .before .before in LeftNext (now (h .before .before .args .trace)) (h .loop .at) (h .loop .n))
+next c = left-frame _ _ _ (c .before .is-frame .ensures .frame (not-false _ (c .if1 .left)) .is)
 
 loop-holds : tie.Need-loop-holds Inv-loop μ-loop
 loop-holds c = (sym (left-all _), omega arith, omega arith)
 
-line-at-requires : tie.Need-line-at-requires Inv-loop μ-loop
-line-at-requires c κs = search needs
+is-frame-requires : tie.Need-is-frame-requires Inv-loop μ-loop
+is-frame-requires c κs = search needs
 
-enum-told : tie.Need-enum-told Inv-loop μ-loop
-enum-told c = search needs
+returns : tie.Need-returns Inv-loop μ-loop
+returns c =
+    let h = c .before .before in
+    let b = c .before .is-frame .ensures .none-there (not-true _ (c .if1 .taken)) (h .loop-test .taken) in
+    sym (left-bad _ _ _ b) ∙ h .before .loop .inv .0
 
 add-at : tie.Need-add-at Inv-loop μ-loop
 add-at c = let l = next c in omega arith
@@ -43,30 +46,15 @@ loop-less c = let l = next c in omega arith
 
 loop-again : tie.Need-loop-again Inv-loop μ-loop
 loop-again c = let l = next c in (
-  sym (l .same) ∙ c .before .before .before .before .loop .inv .0,
+  sym (l .same) ∙ c .before .before .before .loop .inv .0,
   omega arith,
   omega arith,
 )
 
-enum-told-2 : tie.Need-enum-told-2 Inv-loop μ-loop
-enum-told-2 c = search needs
-
-returns : tie.Need-returns Inv-loop μ-loop
-returns c = sym (left-bad _ _ _ (sym (c .enum-told2 .given .1) ∙ c .before .before .line-at .ensures))
-    ∙ c .before .before .before .before .loop .inv .0
-
-enum-told-3 : tie.Need-enum-told-3 Inv-loop μ-loop
-enum-told-3 c = search needs
-
 returns-2 : tie.Need-returns-2 Inv-loop μ-loop
-returns-2 c = sym (left-end _ _ _ (sym (c .enum-told3 .given .1) ∙ c .before .before .line-at .ensures))
-    ∙ c .before .before .before .before .loop .inv .0
-
-returns-3 : tie.Need-returns-3 Inv-loop μ-loop
-returns-3 c = sym (left-end _ _ _ (line-end _ _ (c .loop-test .left))) ∙ c .before .loop .inv .0
+returns-2 c = sym (left-end _ _ _ (line-end _ _ (c .loop-test .left))) ∙ c .before .loop .inv .0
 
 pub count-spec : {M : Type 1} → statement M
 count-spec =
     tie.close
-    (tie.spec Inv-loop μ-loop loop-holds line-at-requires enum-told add-at add-n loop-less loop-again enum-told-2
-    returns enum-told-3 returns-2 returns-3)
+    (tie.spec Inv-loop μ-loop loop-holds is-frame-requires returns add-at add-n loop-less loop-again returns-2)
