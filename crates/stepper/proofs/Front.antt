@@ -1,20 +1,22 @@
 -- Who stands at the front, as the code finds it: those who wait stand by their numbers, so the lowest of a set is the
 -- one that none of the set stands ahead of, and the first waiter on a guard is the first that is met. `lower-ahead`
 -- alone knows the order.
-use Prim.Native.Nat.{ℕ, _≤_, _<_}
+use Prim.Native.Nat.{ℕ, _%_, _≤_, _<_}
 use mathlib.Core.Path.{_≡_, refl, sym, ap, _∙_}
 use mathlib.Core.Bool.{Bool, true, false, not, _&&_}
 use mathlib.Core.List.{List, []}
 use native.Mathlib.Decide.{decLt}
 use native.Mathlib.Omega.{arith}
 use lib.Dec.{leb, ltb}
+use lib.ListN.{getD}
 use borrow.Author.Tests.{le-leb, lt-leb, eq-eqb}
 use Rattle.sets.specs.Set.{member}
 use Rattle.logic.specs.Tests.{any}
+use Rattle.machine.specs.Limits.{mostStates}
 use Rattle.machine.specs.Monitor.{Place, idle, waiting, due, Threads, Monitor, threads, ahead}
-use Rattle.machine.specs.Decide.Step.{onGuard, waitsOn, next, firstNotified}
+use Rattle.machine.specs.Decide.Step.{onGuard, waitsOn, next, firstNotified, own}
 use Rattle.machine.specs.Decide.Table.{acts, entryTold, tableTold}
-use Rattle.stepper.specs.Slices.{guardAt, holdsAt, entryAt, guardsOnly, truths, toldBehind}
+use Rattle.stepper.specs.Slices.{guardAt, holdsAt, entryAt, guardsOnly, truths, ownIn, toldBehind}
 use Rattle.stepper.proofs.Loops.{any-below, guards-alone}
 use Rattle.logic.proofs.Any.{any-intro, any-false, any-same}
 
@@ -80,15 +82,26 @@ module _ (hs gs es : List ℕ) (s r met : ℕ) (p : Threads) (u : ℕ) (h : u �
       ∙ sym (below-ahead p on u h) in
       ap not before ∙ sym (ap (λ (b : Bool). b && not (any threads (λ v. on v && ahead p v u))) here)
 
+  -- the guards that hold in the state
+  abbrev truth : ℕ
+  truth = getD hs (s % mostStates) 0
+
   told-at : (q : Place) → p .place u ≡ q
-      → toldBehind hs gs es s r met q ≡ entryTold (truths hs gs) (entryAt es) s p r u q
-  unfolding toldBehind entryTold
+      → toldBehind gs es truth r met q ≡ entryTold (truths hs gs) (entryAt es) s p r u q
+  unfolding toldBehind entryTold holdsAt
   told-at idle e = refl
   told-at (waiting w) e =
       ap (λ (b : Bool). acts (entryAt es r (guardAt gs w)) (holdsAt hs (guardAt gs w) s) b) (next-met w e)
   told-at (due w) e = refl
 
   -- whom an entry tells, by the guards met before
-  pub told-met : toldBehind hs gs es s r met (p .place u) ≡ tableTold (truths hs gs) (entryAt es) s p r u
+  pub told-met : toldBehind gs es truth r met (p .place u) ≡ tableTold (truths hs gs) (entryAt es) s p r u
   unfolding tableTold
   told-met = told-at (p .place u) refl
+
+-- whom the plain machine tells, by the guards that hold
+pub own-met : (hs gs : List ℕ) (s : ℕ) (q : Place) → ownIn gs (getD hs (s % mostStates) 0) q ≡ own (truths hs gs) s q
+unfolding ownIn own holdsAt
+own-met hs gs s idle = refl
+own-met hs gs s (waiting w) = refl
+own-met hs gs s (due w) = refl

@@ -1,19 +1,20 @@
 -- Laws of `any`, of a set that a loop gathers thread by thread, and of places after one is replaced: for the loops of
 -- the stepper.
-use Prim.Native.Nat.{ℕ, zero, suc, _+_, _/_, _%_, _≤_, _<_}
+use Prim.Native.Nat.{ℕ, zero, suc, _+_, _*_, _/_, _%_, _^_, _≤_, _<_}
 use mathlib.Core.Path.{_≡_, refl, sym, ap, ap₂, _∙_}
-use mathlib.Core.Bool.{Bool, true, false, _&&_, _||_, and-true, and-false}
+use mathlib.Core.Bool.{Bool, true, false, _&&_, _||_, and-true, and-false, or-comm}
 use mathlib.Core.Logic.{_⊎_, ⊎-elim}
 use mathlib.Core.List.{List}
 use native.Mathlib.Decide.{decLt}
 use native.Mathlib.Omega.{arith}
-use native.Mathlib.Nat.{mod-lt}
+use native.Mathlib.Nat.{mod-lt, mod-eq-of-lt, pow-suc}
 use lib.Dec.{eqb, ltb, lit<}
+use lib.Pow.{pow-lt}
 use lib.ListN.{length, getD, set}
 use lib.Seq.{getD-set-same, getD-set-other}
 use borrow.Author.Tests.{lt-ltb, le-ltb, eq-eqb, ne-eqb, eqb-true, eqb-false}
 use Rattle.sets.specs.Set.{member}
-use Rattle.sets.proofs.SetLaws.{member-none, eqb-sym}
+use Rattle.sets.proofs.SetLaws.{member-none, member-one, eqb-sym}
 use Rattle.logic.specs.Tests.{any}
 use Rattle.machine.specs.Decide.Step.{put, onGuard}
 use Rattle.machine.specs.Monitor as machine
@@ -98,6 +99,28 @@ gather-turn {s} {s′} {u} {f} {b} g l e turn = record {
     left v h fails same =
         ap (λ (n : ℕ). member n v) same ∙ g .each v h
         ∙ left-out (eqb v u) (ltb v u) (f v) (λ q. ap f (eqb-true v u q) ∙ sym e ∙ fails) ∙ one-more v
+
+-- the set of thread u alone, and that of the next
+pub record Alone (one u : ℕ) : Type 0 where
+  pub power : u < 16 → one ≡ 2 ^ u
+
+pub alone-next : {one u : ℕ} → Alone one u → u < 16 → Alone (one % 32768 * 2) (u + 1)
+alone-next {one} {u} a h = record {
+  power = λ l.
+      let e = a .power h in
+      let small : 2 ^ u < 32768 = pow-lt {i = u} {j = 15} (omega arith) in
+      let p = pow-suc 2 u in
+      ap (λ (n : ℕ). n % 32768 * 2) e ∙ ap (λ (n : ℕ). n * 2) (mod-eq-of-lt small) ∙ sym p ∙ ap (λ (n : ℕ). 2 ^ n) (omega arith);
+}
+
+-- joined with it a set has thread u more
+pub with-one : {one u : ℕ} (s s′ : ℕ) → Alone one u → u < 16 → ((v : ℕ) → member s′ v ≡ member s v || member one v)
+    → (v : ℕ) → member s′ v ≡ (eqb v u && ltb u 16) || member s v
+with-one {one} {u} s s′ a h e v =
+    e v ∙ or-comm (member s v) (member one v)
+    ∙ ap (λ (b : Bool). b || member s v)
+    (ap (λ (n : ℕ). member n v) (a .power h) ∙ member-one u v
+    ∙ sym (ap (λ (b : Bool). eqb v u && b) (lt-ltb u 16 h) ∙ and-true (eqb v u)))
 
 pub gather-all : {s u : ℕ} {f : ℕ → Bool} → Gathered s u f → 16 ≤ u → (v : ℕ) → v < 16 → member s v ≡ f v
 gather-all {s} {u} {f} g h v l = g .each v l ∙ ap (λ (b : Bool). b && f v) (lt-ltb v u (omega arith))

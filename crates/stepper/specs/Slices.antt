@@ -66,10 +66,16 @@ toldAt hs gs es false = plainTold (truths hs gs)
 unfoldable pub configOf : Bool → Run → Config
 configOf w r = record { state = r .state; threads = threadsOf (r .threads); notified = member (noticesIn w r) }
 
--- an entry acts on the waiter at a place, where the guards that some thread ahead waits on are those of a set
-module _ (hs gs es : List ℕ) (s r met : ℕ) where
+-- where the guards that hold are those of a set: the guard of a waiter's place is one of them
+unfoldable pub ownIn : List ℕ → ℕ → Place → Bool
+ownIn gs truth idle = false
+ownIn gs truth (waiting w) = member truth (guardAt gs w)
+ownIn gs truth (due w) = false
+
+-- and an entry acts on the waiter at a place, where the guards that some thread ahead waits on are those of another set
+module _ (gs es : List ℕ) (truth r met : ℕ) where
   unfoldable pub toldBehind : Place → Bool
   toldBehind idle = false
-  toldBehind (waiting w) = acts (entryAt es r (guardAt gs w)) (holdsAt hs (guardAt gs w) s)
+  toldBehind (waiting w) = acts (entryAt es r (guardAt gs w)) (member truth (guardAt gs w))
       (not (member met (guardAt gs w)))
   toldBehind (due w) = false

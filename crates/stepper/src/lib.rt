@@ -9,14 +9,14 @@ ghost use lib.Dec.{eqb};
 ghost use Rattle.sets.specs.Set.{member};
 ghost use Rattle.machine.specs.Monitor.{SameThreads, Threads, Monitor, Config, allIdle};
 ghost use Rattle.logic.specs.Tests.{any};
-ghost use Rattle.machine.specs.Decide.Step.{Told, isDue, isWaiting, mayBeAt, onGuard, waitsOn, firstNotified, own};
+ghost use Rattle.machine.specs.Decide.Step.{Told, isDue, isWaiting, mayBeAt, onGuard, waitsOn, firstNotified};
 ghost use Rattle.machine.specs.Decide.Step.{put as putAt, beginWait, leave as leaveTo, ran as ranTo};
 ghost use Rattle.machine.specs.Decide.Table.{acts as actsOf, tableTold};
 ghost use Rattle.machine.specs.Held.{Held, HeldPlaces, HeldEntries};
 ghost use Rattle.machine.proofs.Reached.{Reached};
 ghost use Rattle.stepper.specs.Shown.{ofMachine, Shows, Steps, Stays, stepBy, placeOf, placesOf, threadsOf, frameOf};
 ghost use Rattle.stepper.specs.Slices.{guardAt, holdsAt, followsAt, entryBy, entryAt, slices, guardsOnly, truths};
-ghost use Rattle.stepper.specs.Slices.{toldAt, toldBehind, configOf};
+ghost use Rattle.stepper.specs.Slices.{toldAt, ownIn, toldBehind, configOf};
 ghost use Rattle.stepper.specs.Parts.{verdict, verdictOf, nextBy};
 
 // Where a thread is: idle, waiting at a region, or due at a region.
@@ -197,18 +197,13 @@ fn resumes(notified: u16, line: u16, t: u8) -> u8
     NOT_ALLOWED
 }
 
-// Whether the plain machine notifies a thread at a place: it waits and its guard holds.
-fn own_holds(
-    place: Place,
-    guard_of: &[u8; machine::REGIONS],
-    holds: &[u16; machine::STATES],
-    state: u16,
-) -> bool
-    ensures { λ r. ⌜ r ≡ own (truths (now (holds .entry)) (now («guard_of» .entry))) state (placeOf place) ⌝ }
+// Whether the plain machine notifies a thread at a place: it waits and its guard is one of those that hold.
+fn own_holds(place: Place, guard_of: &[u8; machine::REGIONS], truth: u16) -> bool
+    ensures { λ r. ⌜ r ≡ ownIn (now («guard_of» .entry)) truth (placeOf place) ⌝ }
 {
     match place {
         Place::Idle => false,
-        Place::Waiting(w) => holds_at(holds, guard_at(guard_of, w), state),
+        Place::Waiting(w) => sets::has(truth, guard_at(guard_of, w) as u32),
         Place::Due(_) => false,
     }
 }
@@ -231,19 +226,17 @@ fn either(a: bool, b: bool) -> bool
     if a { true } else { b }
 }
 
-// Whether an entry of a region acts on a thread at a place, where those ahead of it wait on the guards of a set.
+// Whether an entry of a region acts on a thread at a place, where the guards of one set hold and those ahead of the thread
+// wait on the guards of another.
 fn entry_acts(
     place: Place,
     guard_of: &[u8; machine::REGIONS],
-    holds: &[u16; machine::STATES],
-    state: u16,
+    truth: u16,
     entries: &[u8; machine::ENTRIES],
     region: u8,
     met: u16,
 ) -> bool
-    ensures { λ r. ⌜ r ≡ toldBehind (now (holds .entry)) (now («guard_of» .entry))
-        (now (entries .entry)) state region met
-        (placeOf place) ⌝ }
+    ensures { λ r. ⌜ r ≡ toldBehind (now («guard_of» .entry)) (now (entries .entry)) truth region met (placeOf place) ⌝ }
 {
     match place {
         Place::Idle => false,
@@ -253,7 +246,7 @@ fn entry_acts(
                 + (guard % machine::REGION_END) as usize];
             acts(
                 code,
-                holds_at(holds, guard, state),
+                sets::has(truth, guard as u32),
                 !sets::has(met, guard as u32),
             )
         }
@@ -273,7 +266,7 @@ fn met_with(met: u16, place: Place, guard_of: &[u8; machine::REGIONS]) -> u16
     }
 }
 
-// Whom a body notifies: on the plain machine every waiter whose guard holds, on the table's those whom the entries of the
+// Whom a body notifies, where `one` is the set of thread u alone: on the plain machine every waiter whose guard holds, on the table's those whom the entries of the
 // region do; the first waiter on each guard is the first that is met.
 fn told(
     threads: [Thread; machine::THREADS],
@@ -286,20 +279,23 @@ fn told(
     ensures { λ r. ⌜ ((w : Bool) (u : ℕ) → u < 16 → member (ofMachine w (r .plain) (r .table)) u
         ≡ toldAt (now (holds .entry)) (now («guard_of» .entry)) (now (entries .entry)) w state (threadsOf threads) region u) ⌝ }
 {
+    let truth = holds[(state % machine::STATE_END) as usize];
     let mut plain: u16 = 0;
     let mut table: u16 = 0;
     let mut met: u16 = 0;
+    let mut one: u16 = 1;
     let mut u: usize = 0;
     while u < machine::THREADS {
         let thread = threads[u];
         let place = thread.place;
-        if own_holds(place, guard_of, holds, state) {
-            plain = sets::with(plain, u as u32);
+        if own_holds(place, guard_of, truth) {
+            plain = sets::union(plain, one);
         }
-        if entry_acts(place, guard_of, holds, state, entries, region, met) {
-            table = sets::with(table, u as u32);
+        if entry_acts(place, guard_of, truth, entries, region, met) {
+            table = sets::union(table, one);
         }
         met = met_with(met, place, guard_of);
+        one = one % 32768 * 2;
         u += 1;
     }
     Notices {
