@@ -4,7 +4,7 @@ use native.Mathlib.Omega.{arith}
 use native.Mathlib.Nat.{zero-add}
 use mathlib.Core.Path.{_≡_, refl, sym, ap, ap₂, _∙_}
 use mathlib.Core.Logic.{_↔_}
-use mathlib.Core.Bool.{not, _&&_}
+use mathlib.Core.Bool.{Bool, not, _&&_}
 use mathlib.Core.List.{List, [], _∷_, _++_, append-assoc}
 use lib.ListN.{length, take, drop, length-append}
 use lib.Seq.{take-at, drop-at, drop-append-add}
@@ -12,14 +12,15 @@ use Rattle.syntax.specs.Tree.{Monitor}
 use Rattle.machine.specs.Monitor.{Frame, Threads, Config, Run, stopped, allIdle, threads}
 use Rattle.machine.specs.Monitor as machine
 use Rattle.machine.specs.Agreement.{SamePoint}
+use Rattle.machine.specs.Decide.Step.{run}
 use Rattle.meaning.specs.State.{stateAt}
 use Rattle.meaning.specs.Decide.Table.{forEach}
 use Rattle.meaning.specs.Decide.Calls.{runList, toldBy}
 use Rattle.meaning.specs.Model.{vars, model, holds}
-use Rattle.meaning.specs.Calls.{plain-machine, table-machine}
+use Rattle.meaning.specs.Calls.{Machine, plain-machine, table-machine, eachThread, bits}
 use Rattle.meaning.specs.Points.{pointSize, valueBytes, placeBytes, setBytes, sharedBytes, noticeBytes, noticesAt}
 use Rattle.meaning.specs.Points.{plainPart, tablePart, pointAt, pointCount, listPoints}
-use Rattle.demands.specs.Points.{DemandPoints}
+use Rattle.demands.specs.Points.{DemandPoints, ToldFrom}
 use Rattle.demands.proofs.Prefixes.{front-taken, front-taken-iff}
 use Rattle.demands.proofs.Demand2.{follows-rules, run-stops}
 use Rattle.demands.proofs.Demand3.{demand-3}
@@ -69,6 +70,10 @@ unfolding sharedBytes
 same-shared m c d p =
     ap₂ (λ (a : ℕ) (q : Threads). valueBytes (stateAt (vars m) a) ++ (placeBytes q ++ setBytes (λ g. holds m g a)))
     (p .same-state) (p .same-threads)
+
+drop-shared : (m : Monitor) (c : Config) (n : ℕ) (l : List ℕ) → drop (24 + n) (sharedBytes m c ++ l) ≡ drop n l
+drop-shared m c n l =
+    ap (λ (i : ℕ). drop (i + n) (sharedBytes m c ++ l)) (sym (shared-length m c)) ∙ drop-append-add (sharedBytes m c) l n
 
 module _ (m : Monitor) (s : ℕ) (fs : List Frame) where
   module _ (k : ℕ) (c : Config) (e : runList m plain-machine s (take k fs) ≡ machine.accepted c) where
@@ -128,6 +133,22 @@ module _ (m : Monitor) (s : ℕ) (fs : List Frame) where
           (same-shared m c d same),
     )
 
+    own-told : take 2 (drop 26 (pointAt m s fs k))
+        ≡ setBytes (λ u. c .notified u && not (noticesAt (runList m plain-machine s (take (k - 1) fs)) u))
+    unfolding noticeBytes setBytes
+    own-told =
+        ap (λ (l : List ℕ). take 2 (drop 26 l)) point-as
+        ∙ ap (take 2) (drop-shared m c 2 behindShared)
+
+    table-told : (d : Config) → runList m table-machine s (take k fs) ≡ machine.accepted d
+        → take 2 (drop 31 (pointAt m s fs k))
+        ≡ setBytes (λ u. d .notified u && not (noticesAt (runList m table-machine s (take (k - 1) fs)) u))
+    unfolding tablePart noticeBytes setBytes
+    table-told d q =
+        ap (λ (l : List ℕ). take 2 (drop 31 l)) (with-table (machine.accepted d) q)
+        ∙ ap (take 2)
+        (drop-shared m c 7 (own ++ tablePart (runList m table-machine s (take (k - 1) fs)) (machine.accepted d)))
+
     table-absent : ((d : Config) → runList m table-machine s (take k fs) ≡ machine.accepted d → ⊥)
         → (four : List ℕ) × (length four ≡ 4)
         × (pointAt m s fs k ≡ sharedBytes m c ++ (four ++ (0 ∷ 0 ∷ 0 ∷ 0 ∷ 0 ∷ [])))
@@ -164,8 +185,27 @@ module _ (m : Monitor) (s : ℕ) (fs : List Frame) where
       let t = taken-iff k .0 h in
       rw zero-add (point-length k (t .1 .0) (t .1 .1))
 
+  -- the notices before frame k
+  told-behind : (w : Machine) (k : ℕ) (b c : Config) → runList m w s (take k fs) ≡ machine.accepted b
+      → setBytes (λ u. c .notified u && not (noticesAt (runList m w s (take (k + 1 - 1) fs)) u))
+      ≡ setBytes (λ u. c .notified u && not (b .notified u))
+  unfolding noticesAt
+  told-behind w k b c e =
+      let here : k + 1 - 1 ≡ k = omega arith in
+      ap (λ (x : Run). setBytes (λ u. c .notified u && not (noticesAt x u)))
+      (ap (λ (i : ℕ). runList m w s (take i fs)) here ∙ e)
+
+  -- at the start nobody is notified
+  start-tells : (f : ℕ → Bool) → setBytes (λ u. allIdle s .notified u && f u) ≡ 0 ∷ 0 ∷ []
+  unfolding setBytes allIdle threads eachThread bits
+  start-tells f = refl
+
+  idle-first : (w : Machine) → runList m w s (take 0 fs) ≡ machine.accepted (allIdle s)
+  unfolding runList run
+  idle-first w = refl
+
 pub every-point : DemandPoints
-unfolding listPoints
+unfolding listPoints ToldFrom
 every-point = record {
   points = λ file m e s k fs buffer.
       let rules = follows-rules m plain-machine in
@@ -189,6 +229,22 @@ every-point = record {
         absent = λ j c h r none.
             table-absent m s fs j c (rules .accepts s (take j fs) c .1 r)
             (λ d q. none d (follows-rules m table-machine .accepts s (take j fs) d .0 q));
+        told = λ j h. (
+          λ b c r q.
+              own-told m s fs (j + 1) c (rules .accepts s (take (j + 1) fs) c .1 q)
+              ∙ told-behind m s fs plain-machine j b c (rules .accepts s (take j fs) b .1 r),
+          λ b d r q.
+              let there = follows-rules m table-machine .accepts in
+              let e-d = there s (take (j + 1) fs) d .1 q in
+              let x = demand-3 .agree file m e s k fs .every-point (j + 1) (omega arith) d e-d in
+              table-told m s fs (j + 1) (x .0) (x .1) d e-d
+              ∙ told-behind m s fs table-machine j b d (there s (take j fs) b .1 r),
+        );
+        none-told = (
+          own-told m s fs 0 (allIdle s) (idle-first m s fs plain-machine) ∙ start-tells m s fs _,
+          table-told m s fs 0 (allIdle s) (idle-first m s fs plain-machine) (allIdle s) (idle-first m s fs table-machine)
+              ∙ start-tells m s fs _,
+        );
         behind = drop-at (forEach n 0 (pointAt m s fs)) (drop (pointSize * n) buffer) (pointSize * n)
             (joined-length n 0 (pointAt m s fs) each);
       };

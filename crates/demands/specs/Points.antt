@@ -1,8 +1,8 @@
--- The points of a list as data (`meaning/specs/Points`): which are there, where each stands, and that its numbers, places
--- and guards are those of the point to which the machines' rules lead. The claim is `DemandPoints`.
-use Prim.Native.Nat.{ℕ, _*_, _≤_, _<_}
+-- The points of a list as data (`meaning/specs/Points`): which are there, where each stands, and that its numbers, places,
+-- guards and notices are those of the points to which the machines' rules lead. The claim is `DemandPoints`.
+use Prim.Native.Nat.{ℕ, _+_, _*_, _≤_, _<_}
 use mathlib.Core.Path.{_≡_}
-use mathlib.Core.Bool.{true}
+use mathlib.Core.Bool.{true, not, _&&_}
 use mathlib.Core.Logic.{_↔_}
 use mathlib.Core.List.{List, [], _∷_, _++_}
 use lib.ListN.{length, take, drop}
@@ -12,8 +12,16 @@ use Rattle.machine.specs.Rules.{Rules}
 use Rattle.meaning.specs.Answer.{accepted}
 use Rattle.meaning.specs.Decide.Check.{check}
 use Rattle.meaning.specs.Model.{kept, model}
-use Rattle.meaning.specs.Calls.{noticesOf, plain-machine, table-machine}
+use Rattle.meaning.specs.Calls.{Machine, noticesOf, plain-machine, table-machine}
 use Rattle.meaning.specs.Points.{pointSize, setBytes, sharedBytes, pointAt, listPoints}
+
+-- the two bytes of those told stand from a byte of point k + 1 on: who is notified behind frame k and was not before it
+-- (R 15.10)
+unfoldable pub ToldFrom : Monitor → Machine → ℕ → ℕ → List Frame → ℕ → Type 0
+ToldFrom m w byte s fs k =
+    (b c : Config) → Rules (model m) (noticesOf m w) (allIdle s) (take k fs) b
+    → Rules (model m) (noticesOf m w) (allIdle s) (take (k + 1) fs) c
+    → take 2 (drop byte (pointAt m s fs (k + 1))) ≡ setBytes (λ u. c .notified u && not (b .notified u))
 
 pub record EveryPoint (m : Monitor) (s : ℕ) (fs : List Frame) (buffer : List ℕ) : Type 0 where
   -- point k is there exactly where the plain machine's rules take the first k frames (R 15.4)
@@ -44,6 +52,11 @@ pub record EveryPoint (m : Monitor) (s : ℕ) (fs : List Frame) (buffer : List �
       → ((d : Config) → Rules (model m) (noticesOf m table-machine) (allIdle s) (take k fs) d → ⊥)
       → (four : List ℕ) × (length four ≡ 4)
       × (pointAt m s fs k ≡ sharedBytes m c ++ (four ++ (0 ∷ 0 ∷ 0 ∷ 0 ∷ 0 ∷ [])))
+  -- those told by a frame, of each machine (R 15.10, 15.11), and at point 0 none
+  pub told :
+      (k : ℕ) → k < length fs → ToldFrom m plain-machine 26 s fs k × ToldFrom m table-machine 31 s fs k
+  pub none-told :
+      (take 2 (drop 26 (pointAt m s fs 0)) ≡ 0 ∷ 0 ∷ []) × (take 2 (drop 31 (pointAt m s fs 0)) ≡ 0 ∷ 0 ∷ [])
   -- the bytes behind the points are kept (R 15.4)
   pub behind :
       drop (pointSize * listPoints m s fs buffer .count) (listPoints m s fs buffer .buffer)

@@ -266,8 +266,8 @@ fn met_with(met: u16, place: Place, guard_of: &[u8; machine::REGIONS]) -> u16
     }
 }
 
-// Whom a body notifies, where `one` is the set of thread u alone: on the plain machine every waiter whose guard holds, on the table's those whom the entries of the
-// region do; the first waiter on each guard is the first that is met.
+// Whom a body notifies: on the plain machine every waiter whose guard holds, on the table's those whom the entries of the
+// region do; the first waiter on each guard is the first that is met. `one` is the set of thread u alone.
 fn told(
     threads: [Thread; machine::THREADS],
     guard_of: &[u8; machine::REGIONS],
