@@ -1,6 +1,7 @@
 // An answer: the number (0 for accepted) and two places.
 ghost use mathlib.Core.Path.{_≡_};
 
+#[repr(C)]
 pub struct Answer {
     pub number: u8,
     pub first: usize,

@@ -18,7 +18,7 @@ use Rattle.meaning.specs.Answer.{Answer}
 use Rattle.meaning.specs.Model.{noRegion, vars, regions, model}
 use Rattle.meaning.specs.Hex.{hex2}
 use Rattle.meaning.specs.Decide.Table.{tableOf}
-use Rattle.meaning.specs.Calls.{Machine, eachThread, recordOf, Running, ran, refused-file, not-run}
+use Rattle.meaning.specs.Calls.{Machine, eachThread, recordOf, Record, Running, ran, refused-file, not-run}
 use Rattle.meaning.specs.Lines.{hex4, refusalLine, valueDigits, placeDigits, recordLine, runLine}
 use Rattle.meaning.specs.Accepted.{FirstOffends, Crowded, PastLimit, Misnamed, IsRegion, AtMost, GoodRange, GoodRanges}
 use Rattle.meaning.specs.Accepted.{one-var, State, no-values, one-value}
@@ -146,6 +146,14 @@ refusal-fits r =
     record { refuses = refusal-number r; number = refusal-digits r; first = p .0; second = p .1 }
 
 module _ {file bytes : List ℕ} {s : ℕ} {w : Machine} where
+  -- of a trace of any length
+  pub ran-fits : {rec : Record} → RunsAs file bytes s w (ran rec) → RecordFits rec
+  ran-fits (all-allowed {m} {fs} {c} a h r e t) =
+      let ok = accepted-iff file m .1 a in
+      let reached = follows-rules m w .accepts s fs c .1 t in
+      record-fits a (runs-keep file m ok s h fs w c reached .1)
+      (run-reached m (checked file m ok) s (startable-iff m s .1 h) fs w c reached)
+
   -- "at most 65,536 bytes"
   pub running-fits : {x : Running} → RunsAs file bytes s w x → length bytes ≤ 65536 → RunFits x
   unfolding RunFits
@@ -166,11 +174,7 @@ module _ {file bytes : List ℕ} {s : ℕ} {w : Machine} where
       let whole = ap length e ∙ lines-seven fs in
       let x = stops-within t in
       record { refuses = omega arith; number = omega arith; first = omega arith; second = omega arith }
-  running-fits (all-allowed {m} {fs} {c} a h r e t) l =
-      let ok = accepted-iff file m .1 a in
-      let reached = follows-rules m w .accepts s fs c .1 t in
-      record-fits a (runs-keep file m ok s h fs w c reached .1)
-      (run-reached m (checked file m ok) s (startable-iff m s .1 h) fs w c reached)
+  running-fits (all-allowed a h r e t) l = ran-fits (all-allowed a h r e t)
 
 -- Lengths
 

@@ -66,7 +66,7 @@ fn kind_at(kinds: &[u8], at: usize) -> u8
 }
 
 // The token that closes what was opened before a token: brackets or braces, by their kinds.
-fn closing(kinds: &[u8], at: usize, opener: u8, closer: u8) -> usize
+pub fn closing(kinds: &[u8], at: usize, opener: u8, closer: u8) -> usize
     ensures { λ r. ⌜ r ≡ at + closeFrom opener closer 0 (drop at (now (kinds .entry))) ⌝ }
 {
     let mut depth: usize = 0;

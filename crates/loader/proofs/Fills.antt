@@ -27,7 +27,7 @@ use Rattle.states.specs.declared.Broken.the-variants.{Never, At}
 use Rattle.answers.specs.declared.Answer.{Answer}
 use Rattle.loader.proofs.GuardsAt.{guards-stand}
 use Rattle.loader.proofs.Counts.{ends-kept}
-use Rattle.loader.specs.Filling.{Filling, Filled}
+use Rattle.loader.specs.Filling.{Filling, Filled, Rows}
 
 -- The code evaluates the tokens behind `keep`: their truth is the kept condition's
 
@@ -113,9 +113,10 @@ module _ (m : Monitor) (place : ℕ) (r : Answer) (kept holds after : List ℕ) 
         fails = λ _. record { number = a; first = b; second = c };
         breaks = λ on k n e. clash on (sym is ∙ off);
         passes = λ on e. clash on (sym is ∙ off);
+        rows = λ on. clash on (sym is ∙ off);
       }
 
-  module _ (on : t ≡ true) {x : Broken} (a : BrokenAs x (broken m)) where
+  module _ (on : t ≡ true) {x : Broken} (a : BrokenAs x (broken m)) (full : Rows m kept holds after) where
     -- 9
     pub filled-9 : (k n : ℕ) → x ≡ At k n → (r .number ≡ 9) × (r .first ≡ k) × (r .second ≡ n)
         → Filled m place r kept holds after
@@ -132,16 +133,21 @@ module _ (m : Monitor) (place : ℕ) (r : Answer) (kept holds after : List ℕ) 
                     s ∙ ap (λ (x : ℕ × ℕ). x .1) same;
               };
           passes = λ _ h. different (cc);
+          rows = λ _. full;
         }
 
     -- 0
-    pub filled-0 : x ≡ Never → KeptAll m kept → HoldsAll m holds → Outcomes m (keptAt m) after
-        → (r .number ≡ 0) × (r .first ≡ 0) × (r .second ≡ 0) → Filled m place r kept holds after
-    filled-0 e by-kept by-holds outcomes (p, q, s) =
+    pub filled-0 : x ≡ Never → (r .number ≡ 0) × (r .first ≡ 0) × (r .second ≡ 0) → Filled m place r kept holds after
+    filled-0 e (p, q, s) =
         let none-stops = passed (broken m) a e in
         record {
           fails = λ off. clash on (is ∙ off);
           breaks = λ _ i j h. different (cc);
-          passes = λ _ h.
-              (record { number = p; first = q; second = s }, by-kept, by-holds, after-all m after outcomes h);
+          passes = λ _ h. (
+            record { number = p; first = q; second = s },
+            full .by-kept,
+            full .by-holds,
+            after-all m after (full .outcomes) h,
+          );
+          rows = λ _. full;
         }

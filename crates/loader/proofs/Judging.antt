@@ -34,12 +34,12 @@ few-lexemes ts e = omega (arith, few-tokens ts e, lexemes-length ts)
 
 module _ {file : List ℕ} {ts : List Token} {kinds values places : List ℕ} (w : Words file ts kinds values places) where
   -- the answer says a refusal of the file
-  pub judged-refused : (j : Judged) {n k l : ℕ}
+  pub judged-refused : (j : Judged) {n k l : ℕ} → suc n ≤ 7
       → (j .answer .number ≡ suc n) × (j .answer .first ≡ l) × (j .answer .second ≡ 0) → l ≡ k
       → check file ≡ refused (answer (suc n) k 0) → Judges file ts j
   unfolding Judges JudgedBy Is answerOf
-  judged-refused j (a, b, c) e v =
-      subst (λ (x : ℕ). JudgedBy x file ts j) (sym a) (rw v (record { number = a; first = b ∙ e; second = c }))
+  judged-refused j few (a, b, c) e v =
+      subst (λ (x : ℕ). JudgedBy x file ts j) (sym a) (few, rw v (record { number = a; first = b ∙ e; second = c }))
 
   -- or 0, with a tree
   pub judged-passed : (j : Judged) → j .answer .number ≡ 0 → (m : Monitor) × Past7 ts m j → Judges file ts j

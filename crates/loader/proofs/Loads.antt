@@ -14,11 +14,13 @@ use Rattle.logic.proofs.Bools.{split}
 use Rattle.logic.proofs.Bools.{different}
 use Rattle.meaning.specs.State.{starts}
 use Rattle.meaning.specs.Kept.{keptAt}
-use Rattle.meaning.specs.Answer.{Answer, answer, accepted, refused}
+use Rattle.meaning.specs.Answer.{Answer, answer, Verdict, accepted, refused}
+use Rattle.meaning.specs.Refusal as words
 use Rattle.meaning.specs.Decide.Check.{broken, check}
 use Rattle.meaning.specs.Model.{vars, regions}
 use Rattle.meaning.proofs.Sizes.{Sizes}
-use Rattle.meaning.proofs.Verdicts.{accepted-iff}
+use Rattle.meaning.proofs.Verdicts.{accepted-iff, past-7-late, past-7-one}
+use Rattle.variables.specs.Bounded.{Bounded}
 use Rattle.passes.specs.Tokens.{Resolved}
 use Rattle.layout.specs.Laid.{IsKeep, Laid, Linked}
 use Rattle.syntax.specs.Held.Kind.{Kinds}
@@ -33,7 +35,7 @@ use Rattle.loader.proofs.Names.{codes}
 use Rattle.loader.proofs.TokensStand.{keep-stands}
 use Rattle.loader.proofs.Flags.{held-places}
 use Rattle.loader.specs.Loading.{Past7, JudgedBy, Judges, Monitored, Loads, Leaves}
-use Rattle.loader.specs.Filling.{Filling, Filled}
+use Rattle.loader.specs.Filling.{Filling, Filled, Rows}
 use Rattle.loader.specs.declared.Judged.{Judged}
 use Rattle.loader.specs.declared.Loaded.{Loaded}
 use Rattle.loader.proofs.Fills.{numbers-of}
@@ -42,35 +44,50 @@ use Rattle.loader.proofs.Fills.{numbers-of}
 pub left-all : (n : ℕ) (kept holds after : List ℕ) → Leaves n kept holds after kept holds after
 left-all n kept holds after = record { untouched = λ _ _. (refl, refl, refl); as-long = (refl, refl, refl) }
 
--- an answer other than 0 is that of no accepted file
+-- an answer from 1 to 7 is that of no file that passes these checks
+not-passed : (file : List ℕ) (l : Loaded) → (l .answer .number ≡ 0 → ⊥) → l .answer .number ≤ 7
+    → Is (l .answer) (check file) → (ts : List Token) (m : Monitor) → words.Past7 file ts m → ⊥
+unfolding Is answerOf
+not-passed file l other low is ts m p = go (check file) refl
+  where
+    go : (v : Verdict) → check file ≡ v → ⊥
+    go (accepted n) e = other (rw e at (is .number))
+    go (refused a) e = let h : l .answer .number ≡ a .number = rw e at (is .number) in omega (arith, past-7-late p e)
+
 loads-refused : (file : List ℕ) (l : Loaded) (kept holds after : List ℕ) → (l .answer .number ≡ 0 → ⊥)
-    → Is (l .answer) (check file)
+    → l .answer .number ≤ 7 → Is (l .answer) (check file)
     → Loads file l kept holds after
 unfolding Is answerOf
-loads-refused file l kept holds after other is =
-    record { verdict = is; monitored = λ m e. absurd (other (rw e at (is .number))) }
+loads-refused file l kept holds after other low is =
+    record {
+      verdict = is;
+      monitored = λ m e. absurd (other (rw e at (is .number)));
+      outlined = λ ts m p. absurd (not-passed file l other low is ts m p);
+      rows = λ ts m p on. absurd (not-passed file l other low is ts m p);
+    }
 
 is-refused : (file : List ℕ) {r : code.Answer} {a : Answer} → check file ≡ refused a → Says r a → Is r (check file)
 unfolding Is answerOf
 is-refused file e s = rw e s
 
 -- 1 and 2
-pub loads-said : (file : List ℕ) (l : Loaded) (kept holds after : List ℕ) {r : code.Answer} (n : ℕ) {k : ℕ}
+pub loads-said : (file : List ℕ) (l : Loaded) (kept holds after : List ℕ) {r : code.Answer} (n : ℕ) {k : ℕ} → n ≤ 6
     → l .answer ≡ r
     → (r .number ≡ suc n) × (r .first ≡ k) × (r .second ≡ 0) → check file ≡ refused (answer (suc n) k 0)
     → Loads file l kept holds after
-loads-said file l kept holds after n same (a, b, c) e =
+loads-said file l kept holds after n low same (a, b, c) e =
     loads-refused file l kept holds after (λ z. omega (arith, ap (λ (x : code.Answer). x .number) same))
+    (omega (arith, ap (λ (x : code.Answer). x .number) same))
     (subst (λ (x : code.Answer). Is x (check file)) (sym same)
     (is-refused file e (record { number = a; first = b; second = c })))
 
 -- the answer of 3 to 7
 module _ (file : List ℕ) (ts : List Token) (j : Judged) where
-  judged-other : (j .answer .number ≡ 0 → ⊥) → Judges file ts j → Is (j .answer) (check file)
+  judged-other : (j .answer .number ≡ 0 → ⊥) → Judges file ts j → (j .answer .number ≤ 7) × Is (j .answer) (check file)
   unfolding Judges JudgedBy
   judged-other other q = go (j .answer .number) other q
     where
-      go : (n : ℕ) → (n ≡ 0 → ⊥) → JudgedBy n file ts j → Is (j .answer) (check file)
+      go : (n : ℕ) → (n ≡ 0 → ⊥) → JudgedBy n file ts j → (n ≤ 7) × Is (j .answer) (check file)
       go zero other q = absurd (other refl)
       go (suc n) other q = q
 
@@ -79,7 +96,8 @@ module _ (file : List ℕ) (ts : List Token) (j : Judged) where
       → Loads file l kept holds after
   loads-judged l kept holds after same other q =
       loads-refused file l kept holds after (λ z. other (ap (λ (x : code.Answer). x .number) (sym same) ∙ z))
-      (subst (λ (x : code.Answer). Is x (check file)) (sym same) (judged-other other q))
+      (omega (arith, ap (λ (x : code.Answer). x .number) same, judged-other other q .0))
+      (subst (λ (x : code.Answer). Is x (check file)) (sym same) (judged-other other q .1))
 
   pub judged-tree : j .answer .number ≡ 0 → Judges file ts j → (m : Monitor) × Past7 ts m j
   unfolding Judges JudgedBy
@@ -130,8 +148,21 @@ module _ {file : List ℕ} {ts : List Token} {kinds values places : List ℕ} (w
     abbrev loaded : Loaded
     loaded = record { answer = a; bounds = j .bounds; layout = l }
 
+    outlined : (us : List Token) (n : Monitor) → words.Past7 file us n
+        → Bounded (vars n) (j .bounds) × Laid n (lexemes us) l
+    outlined us n q =
+        let (one, two) = past-7-one (w .cut) (p .grammar) q in
+        rw (one, two) (p .bounded, f .laid)
+
+    rows : (us : List Token) (n : Monitor) → words.Past7 file us n → keptAt n (starts (vars n)) ≡ true
+        → Rows n kept holds after
+    rows us n q =
+        let (one, two) = past-7-one (w .cut) (p .grammar) q in
+        subst (λ (x : Monitor). keptAt x (starts (vars x)) ≡ true → Rows x kept holds after) (sym two) (filled .rows)
+
     refuses : {v : Answer} → check file ≡ refused v → Says a v → Loads file loaded kept holds after
-    refuses e s = record { verdict = is-refused file e s; monitored = λ n h. different (cc) }
+    refuses e s =
+        record { verdict = is-refused file e s; monitored = λ n h. different (cc); outlined = outlined; rows = rows }
 
     accepts : keptAt m (starts (vars m)) ≡ true → broken m ≡ none
         → check file ≡ accepted m → Loads file loaded kept holds after
@@ -139,6 +170,8 @@ module _ {file : List ℕ} {ts : List Token} {kinds values places : List ℕ} (w
     accepts on none-breaks e =
         let (says, by-kept, by-holds, by-after) = filled .passes on none-breaks in
         record {
+          outlined = outlined;
+          rows = rows;
           verdict = rw e says;
           monitored = λ n h.
               let same : m ≡ n = cc in

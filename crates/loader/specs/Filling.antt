@@ -18,7 +18,7 @@ use Rattle.variables.specs.Bounded.{Bounded}
 use Rattle.variables.specs.declared.Bounds.{Bounds}
 use Rattle.layout.specs.Laid.{Laid}
 use Rattle.layout.specs.declared.Layout.{Layout}
-use Rattle.states.specs.Rows.{KeptAll, HoldsAll, AfterAll}
+use Rattle.states.specs.Rows.{KeptAll, HoldsAll, AfterAll, Outcomes}
 use Rattle.answers.specs.Says.{Says}
 use Rattle.answers.specs.declared.Answer.{Answer}
 
@@ -29,10 +29,17 @@ pub record Filling (m : Monitor) (ls : List Lexeme) (kinds values : List ℕ) (b
   pub few : length ls ≤ 8192
   pub few-regions : length (regions m) ≤ 16
 
--- 8 with the place of `keep`, 9, or 0 and the slices filled
+-- the kept condition, the guards that hold and the outcomes of the bodies, at every state
+pub record Rows (m : Monitor) (kept holds after : List ℕ) : Type 0 where
+  pub by-kept : KeptAll m kept
+  pub by-holds : HoldsAll m holds
+  pub outcomes : Outcomes m (keptAt m) after
+
+-- 8 with the place of `keep`, 9, or 0; and the slices filled where it is not 8
 pub record Filled (m : Monitor) (place : ℕ) (r : Answer) (kept holds after : List ℕ) : Type 0 where
   pub fails : keptAt m (starts (vars m)) ≡ false → Says r (answer 8 place 0)
   pub breaks : keptAt m (starts (vars m)) ≡ true → (k n : ℕ) → broken m ≡ some (k, n)
       → Says r (answer 9 k n)
   pub passes : keptAt m (starts (vars m)) ≡ true → broken m ≡ none
       → Says r (answer 0 0 0) × KeptAll m kept × HoldsAll m holds × AfterAll m after
+  pub rows : keptAt m (starts (vars m)) ≡ true → Rows m kept holds after

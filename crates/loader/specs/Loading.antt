@@ -2,6 +2,7 @@
 -- machines look up.
 use Prim.Native.Nat.{ℕ, zero, suc, _≤_}
 use mathlib.Core.Path.{_≡_}
+use mathlib.Core.Bool.{true}
 use mathlib.Core.List.{List, [], _∷_}
 use mathlib.Core.Option.{none}
 use lib.ListN.{length, drop}
@@ -12,7 +13,12 @@ use Rattle.meaning.specs.Answer.{accepted}
 use Rattle.meaning.specs.Decide.Check.{crowded, pastLimit, misnamed, illRanged, placesOf, check}
 use Rattle.meaning.specs.Model.{vars, regions, guards, model}
 use Rattle.meaning.specs.Held.{behindKeep}
+use Rattle.meaning.specs.State.{starts}
+use Rattle.meaning.specs.Kept.{keptAt}
+use Rattle.meaning.specs.Refusal as words
 use Rattle.variables.specs.Bounded.{Bounded}
+use Rattle.layout.specs.Laid.{Laid}
+use Rattle.loader.specs.Filling.{Rows}
 use Rattle.answers.specs.Says.{Is}
 use Rattle.loader.specs.declared.Judged.{Judged}
 use Rattle.loader.specs.declared.Loaded.{Loaded}
@@ -27,10 +33,10 @@ pub record Past7 (ts : List Token) (m : Monitor) (j : Judged) : Type 0 where
   pub bounded : Bounded (vars m) (j .bounds)
   pub keep-stands : drop (j .keep) (lexemes ts) ≡ key k-keep ∷ behindKeep m
 
--- the answer of 3 to 7: 0 with a tree that passes them, or a refusal of the file
+-- the answer of 3 to 7: 0 with a tree that passes them, or a refusal of the file with no higher number
 unfoldable pub JudgedBy : ℕ → List ℕ → List Token → Judged → Type 0
 JudgedBy zero file ts j = (m : Monitor) × Past7 ts m j
-JudgedBy (suc n) file ts j = Is (j .answer) (check file)
+JudgedBy (suc n) file ts j = (suc n ≤ 7) × Is (j .answer) (check file)
 
 unfoldable pub Judges : List ℕ → List Token → Judged → Type 0
 Judges file ts j = JudgedBy (j .answer .number) file ts j
@@ -43,10 +49,15 @@ pub record Monitored (m : Monitor) (l : Loaded) (kept holds after : List ℕ) : 
   pub region-count : l .layout .regions ≡ length (regions m)
   pub guard-count : l .layout .guards ≡ length (guards m)
 
--- the verdict, and of an accepted file its monitor
+-- the verdict; of an accepted file its monitor; of every file that the checks 1 to 7 pass its variables and its layout, and
+-- where 8 passes too the rows of truths and outcomes
 pub record Loads (file : List ℕ) (l : Loaded) (kept holds after : List ℕ) : Type 0 where
   pub verdict : Is (l .answer) (check file)
   pub monitored : (m : Monitor) → check file ≡ accepted m → Monitored m l kept holds after
+  pub outlined : (ts : List Token) (m : Monitor) → words.Past7 file ts m
+      → Bounded (vars m) (l .bounds) × Laid m (lexemes ts) (l .layout)
+  pub rows : (ts : List Token) (m : Monitor) → words.Past7 file ts m → keptAt m (starts (vars m)) ≡ true
+      → Rows m kept holds after
 
 -- what loading leaves in the slices that it is lent: those of a file refused with 1 to 8 are as they were, and none
 -- changes its length. Left free is what 9 leaves in them, and what stands behind the states of an accepted file.

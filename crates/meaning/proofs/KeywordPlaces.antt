@@ -110,11 +110,11 @@ unfolding each
 each-append f [] bs = refl
 each-append f (a ∷ as′) bs = rw (each-append f as′ bs) (sym (append-assoc (f a) (each f as′) (each f bs)))
 
-up-to-var : (m : Monitor) (before : List Var) → times k-var (upTo m before) ≡ length before
+pub up-to-var : (m : Monitor) (before : List Var) → times k-var (upTo m before) ≡ length before
 unfolding upTo times isKey keywordNumber
 up-to-var m before = vars-times before
 
-up-to-keep : (m : Monitor) (before : List Var) → times k-keep (upTo m before) ≡ 0
+pub up-to-keep : (m : Monitor) (before : List Var) → times k-keep (upTo m before) ≡ 0
 unfolding upTo times isKey keywordNumber
 up-to-keep m before = keeps-times before
 

@@ -1,6 +1,7 @@
 pub mod Limits
 pub mod GrammarPlace
 pub mod KeywordPlaces
+pub mod KeywordCounts
 pub mod Digits
 pub mod Frames
 pub mod TableLines

@@ -3,6 +3,7 @@
 use Prim.Native.Nat.{ℕ, _≤_, _<_}
 use native.Mathlib.Omega.{arith}
 use mathlib.Core.Path.{_≡_, refl, sym, subst, ap, _∙_}
+use mathlib.Core.Bool.{true}
 use mathlib.Core.Logic.{_⊎_, inl, inr, _↔_}
 use mathlib.Core.List.{List, [], _∷_, _++_}
 use mathlib.Core.Option.{Option, none, some}
@@ -18,6 +19,8 @@ use Rattle.syntax.specs.Tree.{Monitor, all, spell, InGrammar, Viable}
 use Rattle.syntax.specs.Decide.Reading.{Got, got, stuck, read}
 use Rattle.syntax.proofs.Grammar.{read-spells, spelled-read, stuck-viable, stuck-not-viable, stuck-at-end}
 use Rattle.syntax.proofs.Grammar.{whole-viable, in-grammar-iff}
+use Rattle.meaning.specs.State.{starts}
+use Rattle.meaning.specs.Kept.{keptAt}
 use Rattle.meaning.specs.Answer.{Answer, answer, Verdict, accepted, refused}
 use Rattle.meaning.specs.Decide.Check.{crowded, pastLimit, misnamed, placesOf, placeOf, leftOf, checkMeaning}
 use Rattle.meaning.specs.Decide.Check.{checkTokens, check}
@@ -25,17 +28,17 @@ use Rattle.meaning.specs.Accepted.{NoneOffends, FirstOffends, Crowded, P
 use Rattle.meaning.specs.Refusal.{HasVerdict, FirstIllRanged}
 use Rattle.meaning.proofs.Judged.{Judged, sound}
 use Rattle.meaning.proofs.Judged as judged
-use Rattle.logic.proofs.Bools.{split}
-use Rattle.logic.proofs.Bools.{different}
+use Rattle.logic.proofs.Bools.{split, clash, different}
 use Rattle.meaning.proofs.Limits.{first-unique, crowded-first, crowded-none, past-first, past-none}
 use Rattle.meaning.proofs.Limits.{misnamed-first, misnamed-none}
 use Rattle.meaning.specs.Refusal.{NoFile}
 use Rattle.meaning.proofs.GrammarPlace.{place-first, place-end}
 use Rattle.meaning.specs.Refusal.{KeywordAt, upTo}
 use Rattle.meaning.proofs.KeywordPlaces.{var-place, keep-place}
+use Rattle.meaning.proofs.RangeLaws.{ill-ranged-good, ill-ranged-first}
 use Rattle.meaning.proofs.Soundness.{check-meaning-iff}
 use Rattle.meaning.specs.Accepted.{Accepted}
-use Rattle.meaning.specs.Refusal.{Past2, Past3, Past4, Past5, Past6, Refusal, broken, ends-early, ill-ranged}
+use Rattle.meaning.specs.Refusal.{Past2, Past3, Past4, Past5, Past6, Past7, Refusal, broken, ends-early, ill-ranged}
 use Rattle.meaning.specs.Refusal.{no-file, no-token, past-limit, start-not-kept, too-long, too-many, wrong-name}
 
 -- 0 is no refusal
@@ -234,6 +237,44 @@ says file (refused a) r = refusal r
         says-judged (p .past) (judged.start-not-kept (p .ranges) (p .few) f)
         ∙ ap {B = Verdict} (λ j. refused (answer 8 j 0)) (one-place (keep-place ts m (spelt (p .past))) s)
     refusal (broken p t b) = says-judged (p .past) (judged.broken (p .ranges) (p .few) t b)
+
+-- A file that the checks 1 to 7 pass is refused with none of these, and has one tree
+
+pub past-7-late : {file : List ℕ} {ts : List Token} {m : Monitor} → Past7 file ts m → {a : Answer}
+    → check file ≡ refused a → 8 ≤ a .number
+past-7-late {ts = ts} {m = m} p {a} e = go (check-meaning-iff ts m _ .0 refl) (sym (after-6 (p .past)) ∙ e)
+  where
+    go : {v : Verdict} → Judged ts m v → v ≡ refused a → 8 ≤ a .number
+    go (sound s) h = different (cc)
+    go (judged.ill-ranged t) h =
+        let none-is = ill-ranged-good (placesOf k-var ts) (p .ranges) (p .few) in
+        let some-is = ill-ranged-first (placesOf k-var ts) t in
+        different (cc)
+    go (judged.start-not-kept good few f) h = let n : a .number ≡ 8 = cc in omega arith
+    go (judged.broken good few t b) h = let n : a .number ≡ 9 = cc in omega arith
+
+-- nor with 8, where the kept condition holds at the start values
+pub past-8-late : {file : List ℕ} {ts : List Token} {m : Monitor} → Past7 file ts m
+    → keptAt m (starts (all (m .vars))) ≡ true → {a : Answer} → check file ≡ refused a → 9 ≤ a .number
+past-8-late {ts = ts} {m = m} p on {a} e = go (check-meaning-iff ts m _ .0 refl) (sym (after-6 (p .past)) ∙ e)
+  where
+    go : {v : Verdict} → Judged ts m v → v ≡ refused a → 9 ≤ a .number
+    go (sound s) h = different (cc)
+    go (judged.ill-ranged {i} t) h =
+        let n : a .number ≡ 7 = cc in absurd (omega (arith, past-7-late p e))
+    go (judged.start-not-kept good few f) h = clash on f
+    go (judged.broken good few t b) h = let n : a .number ≡ 9 = cc in omega arith
+
+pub past-7-one : {file : List ℕ} {ts us : List Token} {m n : Monitor} → tokenize file ≡ tokens ts → spell m ≡ lexemes ts
+    → Past7 file us n → (us ≡ ts) × (n ≡ m)
+past-7-one {file} {ts} {us} {m} {n} cut spelt p =
+    let q = p .past .past .past in
+    let other = tokenize-tokens file us .1 (q .past .past .cut) in
+    let same : us ≡ ts = cc in
+    let read-n = spelled-read n in
+    let read-m = spelled-read m in
+    let one : spell n ≡ spell m = rw same at (q .grammar) ∙ sym spelt in
+    (same, cc)
 
 -- Every file has such a verdict, check by check
 

@@ -11,5 +11,6 @@ pub mod Trace
 pub mod Calls
 pub mod Lines
 pub mod Points
+pub mod Outline
 pub mod Decide
 pub mod Held

@@ -18,12 +18,14 @@ ghost use Rattle.meaning.specs.Points.{pointsOf};
 ghost use Rattle.monitor.specs.Results.{Places, Points, PointsSay, Agrees, EntriesOf, startOf, Starts};
 
 // What placing answers, and the table's length where it is placed.
+#[repr(C)]
 pub struct Placing {
     pub answer: Answer,
     pub length: usize,
 }
 
 // Both machines' answers to a trace, and how many points are written.
+#[repr(C)]
 pub struct Pointing {
     pub plain: Answer,
     pub table: Answer,

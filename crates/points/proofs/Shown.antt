@@ -71,7 +71,7 @@ values-are vs as′ values b =
     (λ j h. ap (λ (n : ℕ). n ∷ []) (value-is vs as′ values b j (omega arith)))
     ∙ each-byte mostVars 0 (λ k. natAbs (getD as′ k (pos 0) +ℤ pos 128))
 
-byte-is : (p : Place) → ((r : ℕ) → p ≡ due r → r < 16) → heldByte p ≡ placeByte p
+pub byte-is : (p : Place) → ((r : ℕ) → p ≡ due r → r < 16) → heldByte p ≡ placeByte p
 unfolding heldByte regionPart duePart idlePart placeByte
 byte-is idle h = ap (λ (x : ℕ). bitOr x 255) (or-zero-l 0) ∙ or-zero-l 255
 byte-is (waiting r) h = or-zero-r (bitOr r 0) ∙ or-zero-r r

@@ -74,7 +74,7 @@ fn place_byte(place: Place) -> u8
 }
 
 // The places of the threads, a byte each.
-fn place_bytes(threads: [Thread; machine::THREADS]) -> [u8; machine::THREADS]
+pub fn place_bytes(threads: [Thread; machine::THREADS]) -> [u8; machine::THREADS]
     ensures { λ r. ⌜ ((t : ℕ) → t < 16 → getD r t 0 ≡ heldByte (placesOf threads t)) ⌝ }
 {
     let mut bytes = [0u8; machine::THREADS];

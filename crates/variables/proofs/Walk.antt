@@ -31,7 +31,8 @@ use Rattle.variables.proofs.Slots.{size-is, good-range, range-good, goo
 
 -- Variables that are all held
 
-starts-at : (vs : List Var) (k : ℕ) (v : Var) → getElem? vs k ≡ some v → getD (starts vs) k (pos 0) ≡ intOf (v .start)
+pub starts-at : (vs : List Var) (k : ℕ) (v : Var) → getElem? vs k ≡ some v
+    → getD (starts vs) k (pos 0) ≡ intOf (v .start)
 unfolding starts
 starts-at [] k v e = no-some e
 starts-at (u ∷ vs) zero v e = ap (λ w. intOf (w .start)) (Option·some-injective u v e)

@@ -17,7 +17,7 @@ use Rattle.meaning.specs.Decide.Check.{broken}
 use Rattle.meaning.specs.Model.{vars, regions}
 use Rattle.states.specs.Rows.{KeptAll, HoldsAll, Outcomes, BrokenAs}
 use Rattle.states.proofs.Holding.{row-of-kept}
-use Rattle.loader.specs.Filling.{Filling}
+use Rattle.loader.specs.Filling.{Filling, Rows}
 use Rattle.loader.specs.Loading.{Leaves}
 use Rattle.loader.proofs.Loads.{left-all}
 use Rattle.loader.proofs.Fills.{keeping, keep-is-kept, kept-row, guarding, bodies-of, numbers-of}
@@ -73,6 +73,10 @@ module _ (c : At) {m : Monitor} {ls : List Lexeme} (f : Given (start-of c) m ls)
       c .fill-after .ensures m (keptAt m) ls (f .codes) (f .bounded) (f .few) (f .laid .region-count) few-regions
       (bodies-of f) (numbers-of f) l₃ (row-of-kept m _ by-kept) by-holds
 
+  full : Rows m (row-of c .fill-row .last .1 .1 .1 .1 .0) (holds-of c .fill-holds .last .1 .1 .1 .1 .1 .0)
+      (c .fill-after .last .1 .1 .1 .1 .1 .1 .1 .1 .0)
+  full = record { by-kept = by-kept; by-holds = by-holds; outcomes = outcomes }
+
 -- and have been looked through
 abbrev Through : Type 0
 Through = tie.After-first-broken
@@ -120,7 +124,8 @@ returns-2 c =
     let row = row-of (filled g) in (
       λ m ls f l₁ l₂ l₃.
           filled-9 m _ _ _ _ _ (holds-at-start (start-of (filled g)) f) (failed (row .before .before .if1 .left))
-          (broken-as g f l₁ l₂ l₃) _ _ (c .before .before .r .given .1) (c .say2 .ensures),
+          (broken-as g f l₁ l₂ l₃) (full (filled g) f l₁ l₂ l₃) _ _ (c .before .before .r .given .1)
+          (c .say2 .ensures),
       left (filled g) _ (inl (c .say2 .ensures .0)),
     )
 
@@ -130,8 +135,7 @@ returns-3 c =
     let row = row-of (filled g) in (
       λ m ls f l₁ l₂ l₃.
           filled-0 m _ _ _ _ _ (holds-at-start (start-of (filled g)) f) (failed (row .before .before .if1 .left))
-          (broken-as g f l₁ l₂ l₃) (c .before .enum-told .given .1) (by-kept (filled g) f l₁ l₂ l₃)
-          (by-holds (filled g) f l₁ l₂ l₃) (outcomes (filled g) f l₁ l₂ l₃) (c .say3 .ensures),
+          (broken-as g f l₁ l₂ l₃) (full (filled g) f l₁ l₂ l₃) (c .before .enum-told .given .1) (c .say3 .ensures),
       left (filled g) _ (inr (c .say3 .ensures .0)),
     )
 

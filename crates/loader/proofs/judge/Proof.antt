@@ -1,5 +1,6 @@
 -- `loader::judge` meets its contract: each pass's answer is a refusal of the file's check, or says that the refusal
 -- does not arise; what is known past each is one law, which the later ones cite.
+use native.Mathlib.Omega.{arith}
 use mathlib.Core.Path.{_≡_, refl, sym, subst, _∙_}
 use mathlib.Core.Bool.{Bool, true, false}
 use mathlib.Core.List.{List, [], _∷_}
@@ -82,7 +83,7 @@ not-judged-requires c κs = search needs
 returns : tie.Need-returns
 returns c ts w =
     let k = c .before .before .before in
-    judged-refused w _ (c .not-judged .ensures) (c .before .wide .ensures)
+    judged-refused w _ (omega arith) (c .not-judged .ensures) (c .before .wide .ensures)
     (says-3 w (found-at _ _ (sym (k .k .given .1) ∙ k .before .before .find-crowded .ensures _ ts _ w)))
 
 enum-told : tie.Need-enum-told
@@ -104,7 +105,7 @@ returns-2 : tie.Need-returns-2
 returns-2 c ts w =
     let k = c .before .before .before in
     let l = k .before .before in
-    judged-refused w _ (c .not-judged2 .ensures) (c .before .place-of .ensures)
+    judged-refused w _ (omega arith) (c .not-judged2 .ensures) (c .before .place-of .ensures)
     (says-4-at w (room (l .before) ts w) _
     (subst (λ (p : Pos). Reads {A = Monitor} p (lexemes ts) (read (lexemes ts))) (k .i .given .1) (reads l ts w)))
 
@@ -128,7 +129,7 @@ returns-3 c ts w =
     let k = c .before .before .before in
     let l = k .before .before in
     let t = tree (l .before) ts w in
-    judged-refused w _ (c .not-judged3 .ensures) (c .before .wide2 .ensures)
+    judged-refused w _ (omega arith) (c .not-judged3 .ensures) (c .before .wide2 .ensures)
     (says-5 w (room (l .before .before .before .before) ts w) (t .0) (t .1)
     (found-at _ _ (sym (k .k2 .given .1) ∙ l .find-past-limit .ensures _ ts _ w)))
 
@@ -153,7 +154,7 @@ returns-4 c ts w =
     let l = k .before .before in
     let n = few (l .before) ts w in
     let t = tree (l .before .before .before .before) ts w in
-    judged-refused w _ (c .not-judged4 .ensures) (c .before .wide3 .ensures)
+    judged-refused w _ (omega arith) (c .not-judged4 .ensures) (c .before .wide3 .ensures)
     (says-6 w (room (l .before .before .before .before .before .before .before) ts w) (t .0) (t .1) n
     (found-at _ _ (sym (k .k3 .given .1) ∙ l .find-misnamed .ensures ts w n)))
 
@@ -175,7 +176,7 @@ returns-5 c ts w =
     let k = d .before .before .before .before in
     let l = k .before .before .before in
     let t = tree l ts w in
-    judged-refused w _ (c .not-judged5 .ensures) (c .before .place-of2 .ensures)
+    judged-refused w _ (omega arith) (c .not-judged5 .ensures) (c .before .place-of2 .ensures)
     (says-7 w (room (l .before .before .before) ts w) (t .0) (t .1) (few k ts w) (names (d .before) ts w)
     (d .read2 .result)
     (ranged d ts w false (not-true _ (c .before .before .if1 .taken))))

@@ -1,6 +1,7 @@
 -- `loader::load` meets its contract: 1 and 2 are the scanner's; else the arrays hold the file's tokens as far as they
 -- were filled, and `load_tokens` goes on.
 use Prim.Native.Nat.{ℕ}
+use native.Mathlib.Omega.{arith}
 use borrow.Author.Needs.{needs}
 use Rattle.loader.proofs.Scanned.{Counted, scanned-long, scanned-bad, scanned-tokens, scanned-counted}
 use Rattle.loader.proofs.Loads.{left-all, loads-said}
@@ -19,7 +20,7 @@ counted c = scanned-counted (c .before .before .scan .ensures) (N c) (c .n .give
 returns : tie.Need-returns
 returns c = (
   λ l₁ l₂ l₃.
-      loads-said _ (c .not-loaded .result) _ _ _ 0 (c .not-loaded .ensures) (c .before .say .ensures)
+      loads-said _ (c .not-loaded .result) _ _ _ 0 (omega arith) (c .not-loaded .ensures) (c .before .say .ensures)
       (scanned-long (c .before .before .before .before .scan .ensures) (c .before .before .enum-told .given .1)),
   left-all _ _ _ _,
 )
@@ -27,7 +28,7 @@ returns c = (
 returns-2 : tie.Need-returns-2
 returns-2 c = (
   λ l₁ l₂ l₃.
-      loads-said _ (c .not-loaded2 .result) _ _ _ 1 (c .not-loaded2 .ensures) (c .before .say2 .ensures)
+      loads-said _ (c .not-loaded2 .result) _ _ _ 1 (omega arith) (c .not-loaded2 .ensures) (c .before .say2 .ensures)
       (scanned-bad (c .before .before .before .before .before .scan .ensures) _
       (c .before .before .before .k .given .1)),
   left-all _ _ _ _,

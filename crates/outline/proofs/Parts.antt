@@ -1,0 +1,218 @@
+-- The parts of a file among its tokens: what stands before each, and that the slices alone give where its name, its
+-- guard and its body are.
+use Prim.Native.Nat.{ℕ, _+_}
+use native.Mathlib.Omega.{arith}
+use mathlib.Core.Path.{_≡_, refl, sym, ap, _∙_}
+use mathlib.Core.List.{List, [], _∷_, _++_, append-assoc}
+use lib.ListN.{length, length-append}
+use Rattle.syntax.specs.Token.{Lexeme, name, key, mark, lbrace, rbrace, lparen, rparen, semicolon, Token, lexemes}
+use Rattle.syntax.specs.Token.{k-monitor, k-var, k-keep, k-method, k-waituntil}
+use Rattle.syntax.specs.Decide.Lexeme.{markNumber}
+use Rattle.syntax.specs.Held.Kind.{kindOf, noKind, Words}
+use Rattle.syntax.specs.Tree.{Region, Method, Var, Monitor, all, each, spell, spellCond, spellBlock, spellRegion}
+use Rattle.syntax.specs.Tree.{spellMethod, spellVar}
+use Rattle.meaning.specs.Accepted.{regionsOf}
+use Rattle.meaning.specs.Refusal.{upTo}
+use Rattle.meaning.specs.Outline.{upToMethod, upToRegion, TitleAt, KeepAt, VariableAt, MethodAt, GuardAt, BodyAt}
+use Rattle.meaning.proofs.KeywordPlaces.{each-append, spell-from, up-to-var, up-to-keep}
+use Rattle.meaning.proofs.KeywordCounts.{method-number, regions-before, region-number}
+use Rattle.layout.proofs.Closes.{openBracket, shutBracket, openBrace, shutBrace, semicolonKind}
+use Rattle.layout.proofs.Trees.{brackets-balanced, braces-balanced, semicolons-balanced}
+use Rattle.outline.specs.Found.{nthOf}
+use Rattle.outline.specs.Slices.{nameIn, keepIn, methodIn, regionIn, bracketAt, braceAt}
+use Rattle.outline.proofs.Stands.{name-at, between-at, keyword-at, name-behind, count-at, closes-at}
+
+-- A file from a part on
+
+each-split : {A : Type 0} (f : A → List Lexeme) (as′ before : List A) (a : A) (after : List A) (us : List Lexeme)
+    → as′ ≡ before ++ (a ∷ after) → each f as′ ++ us ≡ each f before ++ (f a ++ (each f after ++ us))
+unfolding each
+each-split f as′ before a after us e = rw (e, each-append f before (a ∷ after)) (simp append-assoc)
+
+-- what stands behind some methods
+abbrev behind : List Method → List Lexeme
+behind ms = each spellMethod ms ++ (mark rbrace ∷ [])
+
+from-keep : (m : Monitor)
+    → spell m ≡ upTo m (all (m .vars)) ++ (key k-keep ∷ (spellCond (m .keep)
+    ++ (mark semicolon ∷ behind (all (m .methods)))))
+unfolding spell upTo
+from-keep m = refl
+
+from-method : (m : Monitor) (before : List Method) (x : Method) (after : List Method)
+    → all (m .methods) ≡ before ++ (x ∷ after) → spell m ≡ upToMethod m before ++ (spellMethod x ++ behind after)
+unfolding spell upToMethod upTo
+from-method m before x after e =
+    rw (each-split spellMethod (all (m .methods)) before x after (mark rbrace ∷ []) e) (simp append-assoc)
+
+in-method : (x : Method) (before : List Region) (q : Region) (after : List Region) (us : List Lexeme)
+    → all (x .regions) ≡ before ++ (q ∷ after)
+    → spellMethod x ++ us ≡ key k-method ∷ name (x .title) ∷ mark lbrace ∷ (each spellRegion before
+    ++ (spellRegion q ++ (each spellRegion after ++ (mark rbrace ∷ us))))
+unfolding spellMethod
+in-method x before q after us e =
+    ap {B = List Lexeme} (λ ls. key k-method ∷ name (x .title) ∷ mark lbrace ∷ ls)
+    (append-assoc (each spellRegion (all (x .regions))) (mark rbrace ∷ []) us
+    ∙ each-split spellRegion (all (x .regions)) before q after (mark rbrace ∷ us) e)
+
+from-region : (m : Monitor) (methods : List Method) (x : Method) (later : List Method) (before : List Region)
+    (q : Region) (after : List Region) → all (m .methods) ≡ methods ++ (x ∷ later)
+    → all (x .regions) ≡ before ++ (q ∷ after)
+    → spell m ≡ upToRegion m methods x before
+    ++ (spellRegion q ++ (each spellRegion after ++ (mark rbrace ∷ behind later)))
+unfolding upToRegion
+from-region m methods x later before q after e f =
+    from-method m methods x later e
+    ∙ ap (λ (ls : List Lexeme). upToMethod m methods ++ ls) (in-method x before q after (behind later) f)
+    ∙ sym (append-assoc (upToMethod m methods)
+    (key k-method ∷ name (x .title) ∷ mark lbrace ∷ each spellRegion before)
+    (spellRegion q ++ (each spellRegion after ++ (mark rbrace ∷ behind later))))
+
+-- a region's parts, with something behind
+region-parts : (q : Region) (us : List Lexeme)
+    → spellRegion q ++ us ≡ key k-waituntil ∷ mark lparen ∷ (spellCond (q .guard)
+    ++ (mark rparen ∷ mark lbrace ∷ (spellBlock (q .body) ++ (mark rbrace ∷ us))))
+unfolding spellRegion
+region-parts q us = simp append-assoc
+
+-- Where the parts are
+
+module _ {file : List ℕ} {ts : List Token} {kinds values places : List ℕ}
+    (words : Words file ts kinds values places) (m : Monitor) (spelt : lexemes ts ≡ spell m) where
+  pub title-is : TitleAt ts m (nameIn values places 1 .from) (nameIn values places 1 .to)
+  unfolding TitleAt spell
+  title-is = name-at words (key k-monitor ∷ []) (m .title) _ spelt 1 refl
+
+  pub keep-is : KeepAt ts m (keepIn kinds places .from) (keepIn kinds places .to)
+  unfolding KeepAt keepIn kindOf markNumber
+  keep-is =
+      let pre = upTo m (all (m .vars)) in
+      let w = spellCond (m .keep) in
+      let us = behind (all (m .methods)) in
+      let e = spelt ∙ from-keep m in
+      let at = keyword-at words k-keep pre (w ++ (mark semicolon ∷ us)) e 0 (up-to-keep m (all (m .vars))) in
+      let long = length-append pre (key k-keep ∷ []) in
+      let end = closes-at words noKind semicolonKind (pre ++ (key k-keep ∷ [])) w us (mark semicolon)
+      (semicolons-balanced (m .keep)) (λ z. omega arith) refl
+      (e ∙ sym (append-assoc pre (key k-keep ∷ []) (w ++ (mark semicolon ∷ us))))
+      (nthOf (kindOf (key k-keep)) 0 kinds + 1) (omega arith) in
+      between-at words pre (key k-keep) 4 w (mark semicolon) us e _ _ at (omega arith)
+
+  pub variable-is : (before : List Var) (v : Var) (after : List Var) → all (m .vars) ≡ before ++ (v ∷ after)
+      → VariableAt ts m before v (nameIn values places (nthOf (kindOf (key k-var)) (length before) kinds + 1) .from)
+      (nameIn values places (nthOf (kindOf (key k-var)) (length before) kinds + 1) .to)
+  unfolding VariableAt each spellVar
+  variable-is before v after e =
+      name-behind words k-var (upTo m before) (v .title) _ (spelt ∙ spell-from m before (v ∷ after) e) (length before)
+      (up-to-var m before)
+
+  -- a method's name, and its first region
+  module _ (before : List Method) (x : Method) (after : List Method)
+      (e : all (m .methods) ≡ before ++ (x ∷ after)) where
+    stands-method : lexemes ts ≡ upToMethod m before ++ (spellMethod x ++ behind after)
+    stands-method = spelt ∙ from-method m before x after e
+
+    pub method-is : MethodAt ts m before x (methodIn kinds values places (length before) .name .from)
+        (methodIn kinds values places (length before) .name .to)
+    unfolding MethodAt methodIn spellMethod
+    method-is =
+        name-behind words k-method (upToMethod m before) (x .title) _ stands-method (length before)
+        (method-number m before)
+
+    pub first-is : methodIn kinds values places (length before) .first ≡ length (regionsOf before)
+    unfolding methodIn spellMethod
+    first-is =
+        count-at words k-waituntil (upToMethod m before) _ stands-method _
+        (keyword-at words k-method (upToMethod m before) _ stands-method (length before) (method-number m before))
+        ∙ regions-before m before
+
+  -- a region's guard and body
+  module _ (methods : List Method) (x : Method) (later : List Method) (before : List Region) (q : Region)
+      (after : List Region) (of-file : all (m .methods) ≡ methods ++ (x ∷ later))
+      (of-method : all (x .regions) ≡ before ++ (q ∷ after)) where
+    abbrev pre : List Lexeme
+    pre = upToRegion m methods x before
+
+    abbrev guard : List Lexeme
+    guard = spellCond (q .guard)
+
+    abbrev body : List Lexeme
+    body = spellBlock (q .body)
+
+    abbrev us : List Lexeme
+    us = each spellRegion after ++ (mark rbrace ∷ behind later)
+
+    abbrev behind-guard : List Lexeme
+    behind-guard = mark lbrace ∷ (body ++ (mark rbrace ∷ us))
+
+    stands-region : lexemes ts ≡ pre ++ (key k-waituntil ∷ mark lparen ∷ (guard ++ (mark rparen ∷ behind-guard)))
+    stands-region =
+        spelt ∙ from-region m methods x later before q after of-file of-method
+        ∙ ap (λ (ls : List Lexeme). pre ++ ls) (region-parts q us)
+
+    abbrev number : ℕ
+    number = length (regionsOf methods) + length before
+
+    abbrev opener : ℕ
+    opener = nthOf (kindOf (key k-waituntil)) number kinds + 1
+
+    opener-is : opener ≡ length pre + 1
+    opener-is =
+        ap (λ (n : ℕ). n + 1) (keyword-at words k-waituntil pre (mark lparen ∷ (guard ++ (mark rparen ∷ behind-guard)))
+        stands-region number (region-number m methods x before))
+
+    closer-is : bracketAt kinds (opener + 1) ≡ length pre + 2 + length guard
+    unfolding kindOf markNumber
+    closer-is =
+        let front = key k-waituntil ∷ mark lparen ∷ [] in
+        let long = length-append pre front in
+        let o = opener-is in
+        closes-at words openBracket shutBracket (pre ++ front) guard behind-guard (mark rparen)
+        (brackets-balanced (q .guard)) (λ z. omega arith) refl
+        (stands-region ∙ sym (append-assoc pre front (guard ++ (mark rparen ∷ behind-guard)))) (opener + 1)
+        (omega arith)
+        ∙ omega arith
+
+    -- up to the brace that opens the body
+    abbrev to-brace : List Lexeme
+    to-brace = key k-waituntil ∷ mark lparen ∷ (guard ++ (mark rparen ∷ []))
+
+    brace-long : length (pre ++ to-brace) ≡ length pre + 3 + length guard
+    brace-long = simp length-append (omega arith)
+
+    stands-brace : lexemes ts ≡ (pre ++ to-brace) ++ (mark lbrace ∷ (body ++ (mark rbrace ∷ us)))
+    stands-brace = stands-region ∙ simp append-assoc
+
+    end-is : braceAt kinds (bracketAt kinds (opener + 1) + 1 + 1) ≡ length pre + 4 + length guard + length body
+    unfolding kindOf markNumber
+    end-is =
+        let front = (pre ++ to-brace) ++ (mark lbrace ∷ []) in
+        let long = length-append (pre ++ to-brace) (mark lbrace ∷ []) in
+        let b = brace-long in
+        let c = closer-is in
+        closes-at words openBrace shutBrace front body us (mark rbrace) (braces-balanced (q .body)) (λ z. omega arith)
+        refl (stands-brace ∙ sym (append-assoc (pre ++ to-brace) (mark lbrace ∷ []) (body ++ (mark rbrace ∷ us))))
+        (bracketAt kinds (opener + 1) + 1 + 1) (omega arith)
+        ∙ omega arith
+
+    pub guard-is : (n : ℕ) → GuardAt ts m methods x before q (regionIn kinds places n number .guard .from)
+        (regionIn kinds places n number .guard .to)
+    unfolding GuardAt regionIn
+    guard-is n =
+        let long = length-append pre (key k-waituntil ∷ []) in
+        let o = opener-is in
+        let c = closer-is in
+        between-at words (pre ++ (key k-waituntil ∷ [])) (mark lparen) 1 guard (mark rparen) behind-guard
+        (stands-region ∙ sym (append-assoc pre (key k-waituntil ∷ []) (mark lparen ∷ (guard ++ (mark rparen
+        ∷ behind-guard))))) opener (bracketAt kinds (opener + 1)) (omega arith) (omega arith)
+
+    pub body-is : (n : ℕ) → BodyAt ts m methods x before q (regionIn kinds places n number .body .from)
+        (regionIn kinds places n number .body .to)
+    unfolding BodyAt regionIn
+    body-is n =
+        let b = brace-long in
+        let c = closer-is in
+        let e = end-is in
+        between-at words (pre ++ to-brace) (mark lbrace) 1 body (mark rbrace) us stands-brace
+        (bracketAt kinds (opener + 1) + 1) (braceAt kinds (bracketAt kinds (opener + 1) + 1 + 1)) (omega arith)
+        (omega arith)

@@ -1,0 +1,41 @@
+-- `outline::variables_of` meets its contract. The invariant: the variables passed are there, and the slots behind them
+-- are empty.
+use Prim.Native.Nat.{_-_}
+use native.Mathlib.Omega.{arith}
+use borrow.Author.Tests.{ltb-true, ltb-false}
+use Rattle.syntax.specs.Limits.{mostVars}
+use Rattle.outline.specs.Slices.{noVariable, variableIn}
+use Rattle.outline.proofs.Filling.{Filling, begins, turn, ends}
+use Rattle.outline.proofs.variables_of.Statement.{statement}
+use Rattle.outline.proofs.variables_of.Tie as tie
+
+abbrev Inv-loop : tie.InvT-loop
+Inv-loop kinds values places bounds found₀ k₀ found k =
+    Filling mostVars (bounds .count) noVariable (variableIn kinds values places bounds) found k
+
+abbrev μ-loop : tie.MeasureT-loop
+μ-loop kinds values places bounds found₀ k₀ found k = mostVars - k
+
+loop-holds : tie.Need-loop-holds Inv-loop μ-loop
+loop-holds c = begins mostVars _ noVariable _ _ (cc)
+
+loop-again : tie.Need-loop-again Inv-loop μ-loop
+loop-again c =
+    let l = c .before .before .before .before .loop in
+    turn mostVars _ noVariable _ (l .found) (l .k) (c .variable-at .result) (l .inv) (omega arith)
+    (omega (arith, ltb-true)) (c .variable-at .ensures)
+
+returns : tie.Need-returns Inv-loop μ-loop
+returns c =
+    let l = c .before .before .before .loop in
+    ends mostVars _ noVariable _ (l .found) (l .k) (l .inv) (λ j p q. omega (arith, ltb-false))
+
+returns-2 : tie.Need-returns-2 Inv-loop μ-loop
+returns-2 c =
+    let l = c .before .loop in ends mostVars _ noVariable _ (l .found) (l .k) (l .inv) (λ j p q. omega arith)
+
+pub variables-of-spec : {M : Type 1} → statement M
+variables-of-spec =
+    tie.close
+    (tie.spec Inv-loop μ-loop (λ c κs. tt) loop-holds (λ c κs. omega arith) (λ c. omega arith) (λ c. omega arith)
+    (λ c. omega arith) (λ c. omega arith) loop-again returns returns-2)

@@ -1,0 +1,178 @@
+-- What was loaded of a file tells its states: a file that the checks 1 to 7 pass, or 1 to 8, has a verdict with no such
+-- number, by which the calls test it.
+use Prim.Native.Nat.{ℕ, suc, _≤_}
+use native.Mathlib.Omega.{arith}
+use mathlib.Core.Path.{_≡_, refl, sym, subst, ap, _∙_}
+use mathlib.Core.Bool.{true, false, _||_}
+use mathlib.Core.Logic.{⊎-elim}
+use mathlib.Core.List.{List}
+use lib.ListN.{length, replicate, length-replicate}
+use lib.Dec.{eqb, leb}
+use Rattle.syntax.specs.Token.{Lexeme, Token, lexemes}
+use Rattle.syntax.specs.Tree.{Var, Monitor, all, spell}
+use Rattle.syntax.specs.Held.Kind.{Words}
+use Rattle.syntax.specs.Decide.Scan.{tokens}
+use Rattle.syntax.proofs.Scanning.{tokenize-tokens}
+use Rattle.logic.proofs.Bools.{either, neither, clash, decides-leb, decides-eqb}
+use Rattle.meaning.specs.State.{starts}
+use Rattle.meaning.specs.Kept.{keptAt}
+use Rattle.meaning.specs.Answer.{Verdict, answer, accepted, refused}
+use Rattle.meaning.specs.Refusal.{Past7}
+use Rattle.meaning.specs.Decide.Check.{check}
+use Rattle.meaning.specs.Model.{vars}
+use Rattle.meaning.proofs.Verdicts.{past-7-late, past-8-late}
+use Rattle.meaning.proofs.Sizes.{sizes-of}
+use Rattle.variables.specs.Bounded.{Bounded}
+use Rattle.layout.specs.Laid.{Laid}
+use Rattle.states.specs.Rows.{GuardNumbers}
+use Rattle.loader.specs.Loading.{Loads}
+use Rattle.loader.specs.declared.Loaded.{Loaded}
+use Rattle.outline.specs.Outlined.{Outlines, NoOutline}
+use Rattle.outline.specs.declared.Outline.{Outline}
+use Rattle.lookup.specs.Looked.{Looked, StateIs, NoState, NumberIs, NoNumber}
+use Rattle.lookup.specs.declared.State.{State}
+use Rattle.lookup.specs.declared.Numbered.{Numbered}
+use Rattle.survey.specs.Told.{OutlineTold, StateTold, NumberTold}
+use Rattle.answers.specs.Says.{Is, answerOf}
+use Rattle.answers.specs.declared.Answer as code
+
+-- an array of one number is as long as it says
+pub long : (n x : ℕ) → n ≤ length (replicate n x)
+long n x = omega (arith, length-replicate n x)
+
+-- a number passes the test, or is one from 1 up to below the bound
+pub passes : (n k : ℕ) → eqb n 0 || leb (suc k) n ≡ true → 1 ≤ n → n ≤ k → ⊥
+passes n k h low high =
+    ⊎-elim (λ z. let e = decides-eqb n 0 .0 z in omega arith) (λ l. let e = decides-leb (suc k) n .0 l in omega arith)
+    (either (eqb n 0) (leb (suc k) n) h)
+
+pub stops : (n k : ℕ) → eqb n 0 || leb (suc k) n ≡ false → (1 ≤ n) × (n ≤ k)
+stops n k h =
+    let (z, l) = neither (eqb n 0) (leb (suc k) n) h in
+    let some-n : (n ≡ 0 → ⊥) = λ e. clash (decides-eqb n 0 .1 e) z in
+    let small : (suc k ≤ n → ⊥) = λ e. clash (decides-leb (suc k) n .1 e) l in
+    (omega arith, omega arith)
+
+module _ {file : List ℕ} (r : code.Answer) (is : Is r (check file)) {ts : List Token} {m : Monitor}
+    (p : Past7 file ts m) where
+  past-7 : 1 ≤ r .number → r .number ≤ 7 → ⊥
+  unfolding Is answerOf
+  past-7 low high = go (check file) refl is
+    where
+      go : (v : Verdict) → check file ≡ v → Is r v → ⊥
+      go (accepted n) e s = omega (arith, s .number)
+      go (refused a) e s = omega (arith, s .number, past-7-late p e)
+
+  past-8 : keptAt m (starts (vars m)) ≡ true → 1 ≤ r .number → r .number ≤ 8 → ⊥
+  unfolding Is answerOf
+  past-8 on low high = go (check file) refl is
+    where
+      go : (v : Verdict) → check file ≡ v → Is r v → ⊥
+      go (accepted n) e s = omega (arith, s .number)
+      go (refused a) e s = omega (arith, s .number, past-8-late p on e)
+
+-- What was loaded of a file, and a result that has the verdict of it
+
+module _ {file : List ℕ} {l : Loaded} {kept holds after : List ℕ} (loads : Loads file l kept holds after) where
+  same-verdict : {r : code.Answer} → r ≡ l .answer → Is r (check file)
+  same-verdict e = subst (λ (a : code.Answer). Is a (check file)) (sym e) (loads .verdict)
+
+  module _ (n : ℕ) (r : State) (e : r .answer ≡ l .answer) where
+    pub state-untold : eqb (l .answer .number) 0 || leb 9 (l .answer .number) ≡ false → NoState r → StateTold file n r
+    state-untold low none =
+        let (a, b) = stops (l .answer .number) 8 low in
+        record {
+          verdict = same-verdict e;
+          told = λ ts m p on. absurd (past-8 (l .answer) (loads .verdict) p on a b);
+          untold = λ _ _. none;
+        }
+
+    pub state-told : eqb (l .answer .number) 0 || leb 9 (l .answer .number) ≡ true
+        → ((m : Monitor) → Looked m (l .bounds) (l .layout) kept holds after → StateIs m n r) → StateTold file n r
+    unfolding GuardNumbers
+    state-told high is =
+        record {
+          verdict = same-verdict e;
+          told = λ ts m p on.
+              let (bounded, laid) = loads .outlined ts m p in
+              let rows = loads .rows ts m p on in
+              let few = sizes-of ts m (p .past .past .past .grammar) (p .past .past .counts) .regions in
+              is m (record {
+                bounded = bounded;
+                region-count = laid .region-count;
+                guard-count = laid .guard-count;
+                few-regions = few;
+                guard-numbers = numbers m laid;
+                by-kept = rows .by-kept;
+                by-holds = rows .by-holds;
+                outcomes = rows .outcomes;
+              });
+          untold = λ a b. absurd (passes (l .answer .number) 8 high
+              (omega (arith, ap (λ (x : code.Answer). x .number) e))
+              (omega (arith, ap (λ (x : code.Answer). x .number) e)));
+        }
+      where
+        numbers : (m : Monitor) {ls : List Lexeme} → Laid m ls (l .layout) → GuardNumbers m (l .layout .«guard_of»)
+        numbers m laid = laid .guard-numbers
+
+  -- a refusal of the file, by its number
+  pub refused-as : {n k : ℕ} → check file ≡ refused (answer (suc n) k 0) → n ≤ 6
+      → (1 ≤ l .answer .number) × (l .answer .number ≤ 7)
+  unfolding Is answerOf
+  refused-as {n} {k} h low =
+      let s : l .answer .number ≡ suc n = rw h at (loads .verdict) .number in (omega arith, omega arith)
+
+  module _ (r : Outline) (e : r .answer ≡ l .answer) where
+    number-is : r .answer .number ≡ l .answer .number
+    number-is = ap (λ (x : code.Answer). x .number) e
+
+    pub outline-untold : (1 ≤ l .answer .number) × (l .answer .number ≤ 7) → NoOutline r → OutlineTold file r
+    outline-untold (a, b) none =
+        record {
+          verdict = same-verdict e;
+          told = λ ts m p. absurd (past-7 (l .answer) (loads .verdict) p a b);
+          untold = λ _ _. none;
+        }
+
+    pub outline-told : eqb (l .answer .number) 0 || leb 8 (l .answer .number) ≡ true
+        → {ts : List Token} {kinds values places : List ℕ} → Words file ts kinds values places
+        → ((f : List ℕ) (us : List Token) (m : Monitor) → Words f us kinds values places → spell m ≡ lexemes us
+        → length (all (m .methods)) ≤ 8 → Bounded (vars m) (l .bounds) → Laid m (lexemes us) (l .layout)
+        → Outlines us m r) → OutlineTold file r
+    outline-told high {ts} {kinds} {values} {places} w is =
+        record {
+          verdict = same-verdict e;
+          told = λ us m p.
+              let q = p .past .past .past in
+              let (bounded, laid) = loads .outlined us m p in
+              let cut = tokenize-tokens file us .1 (q .past .past .cut) in
+              let same : ts ≡ us = tokens-same (sym (w .cut) ∙ cut) in
+              is file us m (subst (λ (x : List Token). Words file x kinds values places) same w) (q .grammar)
+              (sizes-of us m (q .grammar) (p .past .past .counts) .methods) bounded laid;
+          untold = λ a b. absurd (passes (l .answer .number) 7 high (omega (arith, number-is)) (omega (arith, number-is)));
+        }
+      where
+        tokens-same : {a b : List Token} → tokens a ≡ tokens b → a ≡ b
+        tokens-same h = cc
+
+  module _ (values : List ℕ) (r : Numbered) (e : r .answer ≡ l .answer) where
+    pub number-untold : eqb (l .answer .number) 0 || leb 8 (l .answer .number) ≡ false → NoNumber r
+        → NumberTold file values r
+    number-untold low none =
+        let (a, b) = stops (l .answer .number) 7 low in
+        record {
+          verdict = same-verdict e;
+          told = λ ts m p. absurd (past-7 (l .answer) (loads .verdict) p a b);
+          untold = λ _ _. none;
+        }
+
+    pub number-told : eqb (l .answer .number) 0 || leb 8 (l .answer .number) ≡ true
+        → ((vs : List Var) → Bounded vs (l .bounds) → NumberIs vs values r) → NumberTold file values r
+    number-told high is =
+        record {
+          verdict = same-verdict e;
+          told = λ ts m p. is (vars m) (loads .outlined ts m p .0);
+          untold = λ a b. absurd (passes (l .answer .number) 7 high
+              (omega (arith, ap (λ (x : code.Answer). x .number) e))
+              (omega (arith, ap (λ (x : code.Answer). x .number) e)));
+        }

@@ -1,0 +1,99 @@
+// What a tool needs to show a file without reading it again: its outline, its states by their numbers, and numbers by
+// values. No call asks anything of its caller; each states its complete result for every input.
+use loader::Loaded;
+use lookup::Numbered;
+use lookup::State;
+use outline::Outline;
+use scanner::Scanned;
+ghost use mathlib.Core.Path.{_≡_};
+ghost use mathlib.Core.Bool.{_||_};
+ghost use lib.Dec.{eqb, leb};
+ghost use mathlib.Core.List.{List};
+ghost use Prim.Native.Nat.{ℕ};
+ghost use Rattle.loader.specs.Loading.{Loads};
+ghost use Rattle.survey.specs.Told.{OutlineTold, StateTold, NumberTold};
+
+// Do the answers up to 8 pass, by the number of a file's verdict; those up to 7?
+fn past_8(number: u8) -> bool
+    ensures { λ r. ⌜ r ≡ eqb number 0 || leb 9 number ⌝ }
+{
+    (number == 0) | (9 <= number)
+}
+
+fn past_7(number: u8) -> bool
+    ensures { λ r. ⌜ r ≡ eqb number 0 || leb 8 number ⌝ }
+{
+    (number == 0) | (8 <= number)
+}
+
+// The outline of what was loaded of a file, whose tokens are cut anew.
+fn outline_loaded(file: &[u8], loaded: Loaded) -> Outline
+    ensures { λ r. ⌜ ((kept holds after : List ℕ) → Loads (now (file .entry)) loaded kept holds after
+        → OutlineTold (now (file .entry)) r) ⌝ }
+{
+    let verdict = loaded.answer;
+    if !past_7(verdict.number) {
+        return outline::no_outline(verdict);
+    }
+    let bounds = loaded.bounds;
+    let layout = loaded.layout;
+    let mut kinds = [0u8; syntax::FILE_BYTES];
+    let mut values = [0u16; syntax::FILE_BYTES];
+    let mut places = [0u16; syntax::FILE_BYTES];
+    match scanner::scan(file, &mut kinds, &mut values, &mut places) {
+        Scanned::TooLong => outline::no_outline(verdict),
+        Scanned::Bad(_) => outline::no_outline(verdict),
+        Scanned::Tokens(n) => outline::outline_of(
+            &kinds[..n],
+            &values[..n],
+            &places[..n],
+            bounds,
+            layout,
+            verdict,
+        ),
+    }
+}
+
+// What a file has and where it stands among its bytes, of a file that the checks 1 to 7 pass.
+pub fn outline(file: &[u8]) -> Outline
+    ensures { λ r. ⌜ OutlineTold (now (file .entry)) r ⌝ }
+{
+    let mut kept = [0u8; machine::STATES];
+    let mut holds = [0u16; machine::STATES];
+    let mut after = [0u16; machine::AFTER];
+    let loaded = loader::load(file, &mut kept, &mut holds, &mut after);
+    outline_loaded(file, loaded)
+}
+
+// The state with a number, of a file that is accepted or refused with 9.
+pub fn state_at(file: &[u8], number: usize) -> State
+    ensures { λ r. ⌜ StateTold (now (file .entry)) number r ⌝ }
+{
+    let mut kept = [0u8; machine::STATES];
+    let mut holds = [0u16; machine::STATES];
+    let mut after = [0u16; machine::AFTER];
+    let loaded = loader::load(file, &mut kept, &mut holds, &mut after);
+    let verdict = loaded.answer;
+    if !past_8(verdict.number) {
+        return lookup::no_state(verdict);
+    }
+    let bounds = loaded.bounds;
+    let layout = loaded.layout;
+    lookup::state_of(bounds, layout, verdict, &kept, &holds, &after, number)
+}
+
+// The number of the state with some values, each with 128 added, of a file that the checks 1 to 7 pass.
+pub fn number_of(file: &[u8], values: [u16; syntax::VARIABLES]) -> Numbered
+    ensures { λ r. ⌜ NumberTold (now (file .entry)) values r ⌝ }
+{
+    let mut kept = [0u8; machine::STATES];
+    let mut holds = [0u16; machine::STATES];
+    let mut after = [0u16; machine::AFTER];
+    let loaded = loader::load(file, &mut kept, &mut holds, &mut after);
+    let verdict = loaded.answer;
+    if !past_7(verdict.number) {
+        return lookup::no_number(verdict);
+    }
+    let bounds = loaded.bounds;
+    lookup::number_in(bounds, verdict, values)
+}

@@ -1,0 +1,258 @@
+/* Damsonyet: monitor files checked, their wake-up tables placed, and traces run on two machines.
+ *
+ * Every call is proved to return what docs/REFERENCE.md says of it, for every input; this header is not, and the assertions at its end
+ * hold its structs to the archive's. Link with -ldamsonyet; nothing else is needed but memcpy and memset.
+ *
+ * What a caller owes, in all calls:
+ *   - Pointers are not null, also where the length is 0. Each points to as many elements as the length behind it says, or the array's
+ *     brackets, and is aligned for them.
+ *   - A buffer that a call writes overlaps nothing else that is passed to it, and nobody else writes the memory during the call.
+ *   - DAMSONYET_STACK bytes of stack are left.
+ * Nothing else: any bytes are a file and a trace, any number is a start state. No call allocates, keeps anything or ends the program; calls
+ * may be made from many threads at once. */
+#ifndef DAMSONYET_H
+#define DAMSONYET_H
+
+#include <stdbool.h>
+#include <stddef.h>
+#include <stdint.h>
+
+#ifdef __cplusplus
+extern "C" {
+#endif
+
+/* Limits: variables, methods, regions (and so guards), threads, states; bytes of a file; bytes of a line of a table and of a trace. */
+#define DAMSONYET_VARIABLES 6
+#define DAMSONYET_METHODS 8
+#define DAMSONYET_REGIONS 16
+#define DAMSONYET_THREADS 16
+#define DAMSONYET_STATES 4096
+#define DAMSONYET_FILE_BYTES 8192
+#define DAMSONYET_LINE_BYTES 9
+#define DAMSONYET_FRAME_BYTES 7
+/* A buffer with room for any table, and for all that the programs print; the bytes of one point. */
+#define DAMSONYET_OUTPUT_BYTES 4096
+#define DAMSONYET_POINT_BYTES 33
+/* A buffer with room for the points of a trace of so many bytes. */
+#define DAMSONYET_POINTS_BYTES(trace_len) (DAMSONYET_POINT_BYTES * ((size_t)(trace_len) / DAMSONYET_FRAME_BYTES + 1))
+/* The stack that a call may need. */
+#define DAMSONYET_STACK 1048576
+/* Values cross with 128 added. */
+#define DAMSONYET_VALUE(held) ((int)(held) - 128)
+/* In `after`: the region's body assigns outside a range, or does not run at the state. */
+#define DAMSONYET_FAULT 65534
+#define DAMSONYET_NEVER 65535
+
+/* An answer: 0 for accepted, or the number of a refusal, and its places, 0 where unused (docs/GUIDE.md has a table of them). */
+typedef struct {
+    uint8_t number;
+    size_t first;
+    size_t second;
+} damsonyet_answer;
+
+/* What placing answers, and the table's length in bytes where it is placed. */
+typedef struct {
+    damsonyet_answer answer;
+    size_t length;
+} damsonyet_placing;
+
+/* What a machine answers to a trace. Where the answer is 0, its last point: the values of `vars` variables, each with 128 added (128 in the
+ * slots behind), each thread's place as a byte (255 idle; r waits at region r; 16 + r due at region r), who is notified (bit t for thread
+ * t) and how many they are. Beside a refusal: no variables, all idle, none notified. `of_file`: the refusal is the file's, not the run's. */
+typedef struct {
+    damsonyet_answer answer;
+    size_t vars;
+    uint16_t values[DAMSONYET_VARIABLES];
+    uint8_t places[DAMSONYET_THREADS];
+    uint16_t notified;
+    uint32_t how_many;
+    bool of_file;
+} damsonyet_running;
+
+typedef struct {
+    damsonyet_running plain;
+    damsonyet_running table;
+} damsonyet_both;
+
+/* Both machines' answers, and how many points are written. */
+typedef struct {
+    damsonyet_answer plain;
+    damsonyet_answer table;
+    size_t count;
+} damsonyet_pointing;
+
+/* Where something stands in a file: its first byte, and the byte behind its last. */
+typedef struct {
+    size_t from;
+    size_t to;
+} damsonyet_span;
+
+/* A variable: its name, its start value and its bounds, each with 128 added. */
+typedef struct {
+    damsonyet_span name;
+    uint16_t start;
+    uint16_t low;
+    uint16_t high;
+} damsonyet_variable;
+
+/* A method: its name, and the number of its first region. */
+typedef struct {
+    damsonyet_span name;
+    size_t first;
+} damsonyet_method;
+
+/* A region: what stands between the brackets behind its `waituntil`, blanks included, and between the braces behind them; and the number
+ * of its guard. */
+typedef struct {
+    damsonyet_span guard;
+    damsonyet_span body;
+    size_t number;
+} damsonyet_region;
+
+/* What a file has, and where. It is told of every file that the checks 1 to 7 pass, so beside 0, 8 and 9; beside 1 to 7 all is 0 but the
+ * answer. `start` is the number of the state at the start values; `title` is the monitor's name; `keep` is what stands between `keep` and
+ * its semicolon. Slots behind the counts are 0. */
+typedef struct {
+    damsonyet_answer answer;
+    size_t vars;
+    size_t methods;
+    size_t regions;
+    size_t guards;
+    size_t states;
+    size_t start;
+    damsonyet_span title;
+    damsonyet_span keep;
+    damsonyet_variable variable[DAMSONYET_VARIABLES];
+    damsonyet_method method[DAMSONYET_METHODS];
+    damsonyet_region region[DAMSONYET_REGIONS];
+} damsonyet_outline;
+
+/* A state, by its number. It is told beside 0 and 9. `known`: there is a state with this number; where there is none, or the answer is
+ * another, all that follows is 0. `kept`: the kept condition holds there. Values as in damsonyet_running; `holds`: bit g where guard g
+ * holds; `after`: for each region the number of the state after its body; DAMSONYET_FAULT where the body assigns outside a range;
+ * DAMSONYET_NEVER where it does not run (the state is not kept, or the guard does not hold) and in the slots behind the regions. */
+typedef struct {
+    damsonyet_answer answer;
+    bool known;
+    bool kept;
+    size_t vars;
+    uint16_t values[DAMSONYET_VARIABLES];
+    uint16_t holds;
+    uint16_t after[DAMSONYET_REGIONS];
+} damsonyet_state;
+
+/* The values of a state, each with 128 added. */
+typedef struct {
+    uint16_t held[DAMSONYET_VARIABLES];
+} damsonyet_values;
+
+/* A state's number by its values. It is told beside 0, 8 and 9. `known`: each value is in its variable's range; else the number is 0. */
+typedef struct {
+    damsonyet_answer answer;
+    bool known;
+    size_t number;
+} damsonyet_numbered;
+
+/* The verdict of a file: 0, or a refusal from 1 to 9 with its places. */
+damsonyet_answer damsonyet_check(const uint8_t *file, size_t file_len);
+
+/* The table of a file from byte 0 of a buffer, 9 bytes a line; refused (1 to 9, or 10 where the buffer is too short), not a byte of the
+ * buffer changes. DAMSONYET_OUTPUT_BYTES are always enough. */
+damsonyet_placing damsonyet_place(const uint8_t *file, size_t file_len, uint8_t *table, size_t table_len);
+
+/* A run of a trace from a start state on the plain machine or, where `table` is true, on the table's: the file's refusals, 11 to 14, or 0. */
+damsonyet_running damsonyet_run(const uint8_t *file, size_t file_len, const uint8_t *trace, size_t trace_len, size_t start, bool table);
+
+/* Both machines on one trace, from one start state; and from the start values. */
+damsonyet_both damsonyet_run_both(const uint8_t *file, size_t file_len, const uint8_t *trace, size_t trace_len, size_t start);
+damsonyet_both damsonyet_run_both_from_start(const uint8_t *file, size_t file_len, const uint8_t *trace, size_t trace_len);
+
+/* The number of the state at the start values of an accepted file; 0 of a refused one. */
+size_t damsonyet_start_state(const uint8_t *file, size_t file_len);
+
+/* What the programs print, from byte 0 of a buffer; the bytes behind are kept. Returned is how many bytes they are. */
+size_t damsonyet_placer_lines(const uint8_t *file, size_t file_len, uint8_t out[DAMSONYET_OUTPUT_BYTES]);
+size_t damsonyet_runner_lines(const uint8_t *file, size_t file_len, const uint8_t *trace, size_t trace_len,
+                              uint8_t out[DAMSONYET_OUTPUT_BYTES]);
+
+/* Every point of both machines' runs from byte 0 of a buffer of DAMSONYET_POINTS_BYTES(trace_len) bytes, up to where the plain machine stops:
+ * point 0 is the start, point k is behind frame k - 1. Refused (1 to 9, 10 where the buffer is too short, 11, 12), not a byte of the buffer
+ * changes; at 13 and 14 the points before the refused frame are there. The bytes of a point:
+ *    0   6  values, each with 128 added
+ *    6  16  places, as in damsonyet_running
+ *   22   2  which guards hold (two bytes of a set: low byte first)
+ *   24   2  plain machine: who is notified      26   2  and who of them was not at the point before
+ *   28   1  1 where the table's machine is still there, else 0 and 0 behind
+ *   29   2  table's machine: who is notified    31   2  and who of them was not at the point before */
+damsonyet_pointing damsonyet_points(const uint8_t *file, size_t file_len, const uint8_t *trace, size_t trace_len, size_t start,
+                                    uint8_t *out, size_t out_len);
+
+/* What a tool needs to show a file without reading it again. */
+damsonyet_outline damsonyet_outline_of(const uint8_t *file, size_t file_len);
+
+/* A state by its number, and a state's number by its values (slots behind the variables are not read). */
+damsonyet_state damsonyet_state_at(const uint8_t *file, size_t file_len, size_t number);
+damsonyet_numbered damsonyet_number_of(const uint8_t *file, size_t file_len, damsonyet_values values);
+
+#ifdef __cplusplus
+}
+#define DAMSONYET_ASSERT static_assert
+#else
+#define DAMSONYET_ASSERT _Static_assert
+#endif
+
+#define DAMSONYET_SIZE(type, size) DAMSONYET_ASSERT(sizeof(type) == (size), #type " has " #size " bytes")
+#define DAMSONYET_AT(type, field, at) DAMSONYET_ASSERT(offsetof(type, field) == (at), #type "." #field " is at byte " #at)
+
+DAMSONYET_SIZE(damsonyet_answer, 24);
+DAMSONYET_AT(damsonyet_answer, first, 8);
+DAMSONYET_AT(damsonyet_answer, second, 16);
+DAMSONYET_SIZE(damsonyet_placing, 32);
+DAMSONYET_AT(damsonyet_placing, length, 24);
+DAMSONYET_SIZE(damsonyet_running, 72);
+DAMSONYET_AT(damsonyet_running, vars, 24);
+DAMSONYET_AT(damsonyet_running, values, 32);
+DAMSONYET_AT(damsonyet_running, places, 44);
+DAMSONYET_AT(damsonyet_running, notified, 60);
+DAMSONYET_AT(damsonyet_running, how_many, 64);
+DAMSONYET_AT(damsonyet_running, of_file, 68);
+DAMSONYET_SIZE(damsonyet_both, 144);
+DAMSONYET_AT(damsonyet_both, table, 72);
+DAMSONYET_SIZE(damsonyet_pointing, 56);
+DAMSONYET_AT(damsonyet_pointing, table, 24);
+DAMSONYET_AT(damsonyet_pointing, count, 48);
+DAMSONYET_SIZE(damsonyet_span, 16);
+DAMSONYET_AT(damsonyet_span, to, 8);
+DAMSONYET_SIZE(damsonyet_variable, 24);
+DAMSONYET_AT(damsonyet_variable, start, 16);
+DAMSONYET_AT(damsonyet_variable, high, 20);
+DAMSONYET_SIZE(damsonyet_method, 24);
+DAMSONYET_AT(damsonyet_method, first, 16);
+DAMSONYET_SIZE(damsonyet_region, 40);
+DAMSONYET_AT(damsonyet_region, body, 16);
+DAMSONYET_AT(damsonyet_region, number, 32);
+DAMSONYET_SIZE(damsonyet_outline, 1080);
+DAMSONYET_AT(damsonyet_outline, vars, 24);
+DAMSONYET_AT(damsonyet_outline, start, 64);
+DAMSONYET_AT(damsonyet_outline, title, 72);
+DAMSONYET_AT(damsonyet_outline, keep, 88);
+DAMSONYET_AT(damsonyet_outline, variable, 104);
+DAMSONYET_AT(damsonyet_outline, method, 248);
+DAMSONYET_AT(damsonyet_outline, region, 440);
+DAMSONYET_SIZE(damsonyet_state, 88);
+DAMSONYET_AT(damsonyet_state, known, 24);
+DAMSONYET_AT(damsonyet_state, kept, 25);
+DAMSONYET_AT(damsonyet_state, vars, 32);
+DAMSONYET_AT(damsonyet_state, values, 40);
+DAMSONYET_AT(damsonyet_state, holds, 52);
+DAMSONYET_AT(damsonyet_state, after, 54);
+DAMSONYET_SIZE(damsonyet_values, 12);
+DAMSONYET_SIZE(damsonyet_numbered, 40);
+DAMSONYET_AT(damsonyet_numbered, known, 24);
+DAMSONYET_AT(damsonyet_numbered, number, 32);
+
+#undef DAMSONYET_AT
+#undef DAMSONYET_SIZE
+#undef DAMSONYET_ASSERT
+
+#endif
