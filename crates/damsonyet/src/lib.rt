@@ -7,6 +7,7 @@ use lookup::State;
 use monitor::Placing;
 use monitor::Pointing;
 use outline::Outline;
+use run::Both;
 use run::Running;
 ghost use mathlib.Core.Path.{_≡_};
 ghost use mathlib.Core.List.{List};
@@ -19,7 +20,7 @@ ghost use Rattle.meaning.specs.Lines.{placer, runner};
 ghost use Rattle.meaning.specs.Points.{pointsOf};
 ghost use Rattle.answers.specs.Says.{Is};
 ghost use Rattle.run.specs.Results.{Runs, machineOf};
-ghost use Rattle.monitor.specs.Results.{Places, Points, PointsSay, Starts, startOf};
+ghost use Rattle.monitor.specs.Results.{Places, Points, PointsSay, Agrees, Starts, startOf};
 ghost use Rattle.output.specs.Printed.{Prints};
 ghost use Rattle.survey.specs.Told.{OutlineTold, StateTold, NumberTold};
 ghost use Rattle.damsonyet.specs.Flat.{RanAs, Flattens, BothAgree};
@@ -65,7 +66,7 @@ pub extern "C" fn damsonyet_place(file: &[u8], table: &mut [u8]) -> Placing
     monitor::place(file, table)
 }
 
-// A run's results with no enum in them.
+// A run's results with no enum in them, and both machines'.
 fn flat(running: Running) -> Ran
     ensures { λ r. ⌜ Flattens running r ⌝ }
 {
@@ -84,6 +85,18 @@ fn flat(running: Running) -> Ran
     }
 }
 
+fn flat_both(both: Both) -> BothRan
+    ensures { λ r. ⌜ ((file bytes : List ℕ) (s : ℕ) → Agrees file bytes s (both .plain) (both .table)
+        → BothAgree file bytes s r) ⌝ }
+{
+    let plain = both.plain;
+    let table = both.table;
+    BothRan {
+        plain: flat(plain),
+        table: flat(table),
+    }
+}
+
 // A run of a trace from a start state on the plain machine or, where `table` is true, on the table's.
 #[no_mangle]
 pub extern "C" fn damsonyet_run(file: &[u8], trace: &[u8], start: usize, table: bool) -> Ran
@@ -99,12 +112,7 @@ pub extern "C" fn damsonyet_run_both(file: &[u8], trace: &[u8], start: usize) ->
     ensures { λ r. ⌜ BothAgree (now (file .entry)) (now (trace .entry)) start r ⌝ }
 {
     let both = monitor::run_both(file, trace, start);
-    let plain = both.plain;
-    let table = both.table;
-    BothRan {
-        plain: flat(plain),
-        table: flat(table),
-    }
+    flat_both(both)
 }
 
 // Both machines on one trace, from the start values.
@@ -114,12 +122,7 @@ pub extern "C" fn damsonyet_run_both_from_start(file: &[u8], trace: &[u8]) -> Bo
         (startOf (meaning.check (now (file .entry)))) r ⌝ }
 {
     let both = monitor::run_both_from_start(file, trace);
-    let plain = both.plain;
-    let table = both.table;
-    BothRan {
-        plain: flat(plain),
-        table: flat(table),
-    }
+    flat_both(both)
 }
 
 // The number of the state at the start values of an accepted file; 0 of a refused one.
