@@ -277,7 +277,7 @@ pub fn find_misnamed(file: &[u8], kinds: &[u8], values: &[u16], places: &[u16]) 
 }
 
 // The variables of a file, in order.
-pub fn variables(kinds: &[u8], values: &[u16], places: &[u16]) -> Names
+fn variables(kinds: &[u8], values: &[u16], places: &[u16]) -> Names
     ensures { λ r. ⌜ ((file : List ℕ) (ts : List Token)
         → Words file ts (now (kinds .entry)) (now (values .entry)) (now (places .entry))
         → pastLimit 0 0 0 ts ≡ none → Titles file (titlesOf ts) r) ⌝ }

@@ -16,42 +16,17 @@ use Rattle.machine.specs.Monitor as machine
 use Rattle.meaning.specs.Decide.Frames.{ended, linesFrom, isHex, hexValue, allHex, pairAt, isFrame, frameOf, Frames}
 use Rattle.meaning.specs.Decide.Frames.{frames, none-at, prepend, framesFrom, framesOf}
 use Rattle.meaning.specs.Decide.Frames as meaning
-use Rattle.meaning.proofs.Digits.{decides-hex, low-value, high-value, pair-digits}
+use Rattle.meaning.proofs.Digits.{pair-digits}
 use Rattle.meaning.proofs.Frames.{frameAt, is-frame}
 use Rattle.logic.proofs.Bools.{both, and, split, clash, is-false, is-true}
 use Rattle.logic.proofs.Bools.{different}
 use Rattle.trace.specs.Lined.{lineFor, firstOf, lineAt, countedAs, countedOf}
-use Rattle.trace.specs.Pairs.{digitOf, pairOf}
-use Rattle.trace.specs.declared.Line.the-variants as line
+use Rattle.trace.specs.Pairs.{pairOf}
+use Rattle.trace.specs.Lined as line
 use Rattle.trace.specs.declared.Counted as counted
 use Rattle.trace.specs.declared.Counted.the-variants.{Frames as Counting, BadAt}
 
--- Digits
-
-digit-is : (b : ℕ) → isHex b ≡ true → digitOf b ≡ hexValue b
-unfolding digitOf
-digit-is b h = rw (h, digitOf)
-
-digit-none : (b : ℕ) → isHex b ≡ false → digitOf b ≡ 16
-unfolding digitOf
-digit-none b h = rw (h, digitOf)
-
-digit-hex : (b : ℕ) → digitOf b ≤ 15 → isHex b ≡ true
-digit-hex b h = is-true (λ e. omega (arith, digit-none b e))
-
-digit-below : (b : ℕ) → isHex b ≡ true → digitOf b ≤ 15
-digit-below b h = omega (arith, digit-is b h, pair-digits b b h h .0)
-
--- what the code computes of one byte
-pub digit-low : (b : ℕ) → 48 ≤ b → b ≤ 57 → b - 48 ≡ digitOf b
-digit-low b h g = rw (digit-is b (decides-hex b .1 (inl (h, g))), low-value b g)
-
-pub digit-high : (b : ℕ) → 65 ≤ b → b ≤ 70 → b - 55 ≡ digitOf b
-digit-high b h g = let l : 57 < b = omega arith in rw (digit-is b (decides-hex b .1 (inr (h, g))), high-value b l)
-
-pub digit-other : (b : ℕ) → (48 ≤ b → b ≤ 57 → ⊥) → (65 ≤ b → b ≤ 70 → ⊥) → 16 ≡ digitOf b
-digit-other b h g =
-    sym (digit-none b (is-false (λ e. ⊎-elim (λ p. h (p .0) (p .1)) (λ p. g (p .0) (p .1)) (decides-hex b .0 e))))
+-- Two digits
 
 pub pair-is : (a b : ℕ) → isHex a ≡ true → isHex b ≡ true → pairOf a b ≡ hexValue a * 16 + hexValue b
 unfolding pairOf
@@ -60,18 +35,6 @@ pair-is a b h g = rw (h, g, pairOf)
 pair-none : (a b : ℕ) → isHex a && isHex b ≡ false → pairOf a b ≡ 256
 unfolding pairOf
 pair-none a b h = rw (h, pairOf)
-
--- what the code computes of two digits
-pub pair-value : (a b : ℕ) → digitOf a ≤ 15 → digitOf b ≤ 15 → digitOf a * 16 + digitOf b ≡ pairOf a b
-pair-value a b h g =
-    let p = digit-hex a h in
-    let q = digit-hex b g in
-    rw (digit-is a p, digit-is b q, pair-is a b p q)
-
--- and what it gives where one is none
-pub pair-over : (a b : ℕ) → (digitOf a ≤ 15 → digitOf b ≤ 15 → ⊥) → 256 ≡ pairOf a b
-pair-over a b h =
-    sym (pair-none a b (is-false (λ e. let (p, q) = both _ _ e in h (digit-below a p) (digit-below b q))))
 
 pub pair-hex : (a b : ℕ) → pairOf a b ≤ 255 → (isHex a ≡ true) × (isHex b ≡ true)
 pair-hex a b h = both _ _ (is-true (λ e. omega (arith, pair-none a b e)))

@@ -20,8 +20,7 @@ use Rattle.meaning.specs.Hex.{hexDigit, hex2, hexBool}
 use Rattle.logic.proofs.Bools.{different}
 use Rattle.trace.specs.Decoded.{valueOf, numbersAt}
 use Rattle.trace.specs.Lined.{lineFor, firstOf, lineAt, countedAs, countedOf}
-use Rattle.trace.specs.declared.Line as code
-use Rattle.trace.specs.declared.Line.the-variants as line
+use Rattle.trace.specs.Lined as line
 use Rattle.trace.specs.declared.Counted.the-variants.{Frames as Counting, BadAt}
 
 -- what the code finds where a frame's line begins
@@ -37,7 +36,7 @@ pub record EndAt (trace : List ℕ) (at : ℕ) : Type 0 where
   pub whole : at ≡ length trace
 
 -- the first frame of lines that are all frames
-firstFrame : List machine.Frame → code.Line
+firstFrame : List machine.Frame → line.Line
 firstFrame [] = line.End
 firstFrame (f ∷ fs) = lineFor (some f)
 

@@ -1,18 +1,10 @@
-// Reads the frames of a trace: the line at a byte, and how many frames a whole trace has or its first line that is none
-// (12).
+// Reads the frames of a trace: how many frames a whole trace has or its first line that is none (12), and the numbers of
+// the frame at a byte.
 ghost use mathlib.Core.Path.{_≡_};
 ghost use Prim.Native.Nat.{_<_};
 ghost use Rattle.meaning.specs.Decide.Frames.{isHex};
-ghost use Rattle.trace.specs.Lined.{lineAt, Tells, countedOf};
-ghost use Rattle.trace.specs.Pairs.{digitOf, pairOf};
+ghost use Rattle.trace.specs.Lined.{Tells, countedOf};
 ghost use Rattle.trace.specs.Decoded.{valueOf, numbersAt};
-
-// A frame with its thread, region and flag; a line that is no frame; or the trace's end.
-pub enum Line {
-    Frame(u8, u8, bool),
-    Bad,
-    End,
-}
 
 // The numbers of a frame's line.
 pub struct Numbers {
@@ -29,50 +21,6 @@ pub enum Counted {
 
 // Bytes in a frame's line, with its 0A.
 pub const FRAME: usize = 7;
-
-// The value of a digit 0-9 or A-F, and 16 of any other byte.
-fn hex_value(b: u8) -> u8
-    ensures { λ r. ⌜ r ≡ digitOf b ⌝ }
-{
-    if 48 <= b && b <= 57 {
-        b - 48
-    } else if 65 <= b && b <= 70 {
-        b - 55
-    } else {
-        16
-    }
-}
-
-// The value of two digits, and 256 where one is none.
-fn pair(a: u8, b: u8) -> u16
-    ensures { λ r. ⌜ r ≡ pairOf a b ⌝ }
-{
-    let high = hex_value(a);
-    let low = hex_value(b);
-    if 15 < high || 15 < low {
-        return 256;
-    }
-    high as u16 * 16 + low as u16
-}
-
-// The line that begins at a byte.
-pub fn line_at(trace: &[u8], at: usize) -> Line
-    ensures { λ r. ⌜ r ≡ lineAt (now (trace .entry)) at ⌝ }
-{
-    if trace.len() <= at {
-        return Line::End;
-    }
-    if trace.len() - at < FRAME || trace[at + 6] != 10 {
-        return Line::Bad;
-    }
-    let thread = pair(trace[at], trace[at + 1]);
-    let region = pair(trace[at + 2], trace[at + 3]);
-    let flag = pair(trace[at + 4], trace[at + 5]);
-    if 15 < thread || 255 < region || 1 < flag {
-        return Line::Bad;
-    }
-    Line::Frame(thread as u8, region as u8, flag == 1)
-}
 
 // The value of a byte that is a digit.
 fn digit(b: u8) -> u8
