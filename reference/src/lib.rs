@@ -1,7 +1,7 @@
 //! Panel monitors by brute force: the second program.
 //!
-//! Everything here is rendered from document 01 alone (and `points` from the text
-//! at its head), as plainly as it goes, so that its results can be laid beside
+//! Everything here is rendered from document 01 alone (and `points` and `outline` from the
+//! texts at their heads), as plainly as it goes, so that its results can be laid beside
 //! those of the first program. The modules stand in the order of the document.
 
 pub mod answer;
@@ -27,6 +27,9 @@ pub mod machines;
 
 // Every point of a run.
 pub mod points;
+
+// What a file has and where, and its states.
+pub mod outline;
 
 // What the programs print.
 pub mod lines;

@@ -1,0 +1,158 @@
+//! What a tool reads: one object on one line, the same for the same input.
+use crate::sheet::Sheet;
+use damsonyet::{Both, Notices, Place, Point, Record, Refusal};
+use std::fmt::Display;
+use std::io::{self, Write};
+
+/// A text as JSON has it; what is not printable ASCII is escaped.
+pub fn text(text: &str) -> String {
+    let mut out = String::from("\"");
+    for c in text.chars() {
+        match c {
+            '"' => out.push_str("\\\""),
+            '\\' => out.push_str("\\\\"),
+            ' '..='~' => out.push(c),
+            _ => c.encode_utf16(&mut [0; 2]).iter().for_each(|unit| out.push_str(&format!("\\u{unit:04x}"))),
+        }
+    }
+    out.push('"');
+    out
+}
+
+/// A list of what is written as it is.
+pub fn list<T: Display>(items: impl IntoIterator<Item = T>) -> String {
+    format!("[{}]", items.into_iter().map(|item| item.to_string()).collect::<Vec<_>>().join(","))
+}
+
+/// An answer's number and places.
+pub fn answer(result: &Result<(), Refusal>) -> String {
+    match result {
+        Ok(()) => list([0, 0, 0]),
+        Err(Refusal { number, first, second }) => list([usize::from(*number), *first, *second]),
+    }
+}
+
+fn places(places: &[Place; 16]) -> String {
+    list(places.map(Place::byte))
+}
+
+fn members(set: u16) -> String {
+    list(damsonyet::members(set))
+}
+
+fn machine(run: &Result<Record, Refusal>) -> String {
+    match run {
+        Ok(record) => format!(
+            "{{\"answer\":[0,0,0],\"values\":{},\"places\":{},\"notified\":{}}}",
+            list(&record.values),
+            places(&record.places),
+            list(&record.notified)
+        ),
+        Err(refusal) => format!("{{\"answer\":{}}}", answer(&Err(*refusal))),
+    }
+}
+
+fn notices(notices: &Notices) -> String {
+    format!("{{\"notified\":{},\"told\":{}}}", members(notices.notified), members(notices.told))
+}
+
+fn point(point: &Point, vars: usize) -> String {
+    format!(
+        "{{\"values\":{},\"places\":{},\"guards\":{},\"plain\":{},\"table\":{}}}",
+        list(&point.values[..vars.min(point.values.len())]),
+        places(&point.places),
+        members(point.guards),
+        notices(&point.plain),
+        point.table.as_ref().map_or_else(|| "null".into(), notices)
+    )
+}
+
+/// The object of `check`.
+pub fn check(to: &mut dyn Write, file: &[u8]) -> io::Result<()> {
+    write!(to, "{{\"answer\":{}}}", answer(&damsonyet::check(file)))
+}
+
+/// The object of `place`.
+pub fn place(to: &mut dyn Write, file: &[u8]) -> io::Result<()> {
+    match damsonyet::place(file) {
+        Ok(table) => {
+            let lines = table.text.split(|&byte| byte == b'\n').filter(|line| !line.is_empty());
+            let lines = lines.map(|line| text(&String::from_utf8_lossy(line)));
+            write!(to, "{{\"answer\":[0,0,0],\"table\":{}}}", list(lines))
+        }
+        Err(refusal) => write!(to, "{{\"answer\":{}}}", answer(&Err(refusal))),
+    }
+}
+
+/// The object of `run`, from a state's number or the start values.
+pub fn run(to: &mut dyn Write, file: &[u8], trace: &[u8], start: Option<usize>, points: bool) -> io::Result<()> {
+    let both = match start {
+        Some(start) => damsonyet::run_both(file, trace, start),
+        None => damsonyet::run_both_from_start(file, trace),
+    };
+    let Both { plain, table } = match both {
+        Ok(both) => both,
+        Err(refusal) => return write!(to, "{{\"answer\":{}}}", answer(&Err(refusal))),
+    };
+    write!(to, "{{\"answer\":[0,0,0],\"plain\":{},\"table\":{}", machine(&plain), machine(&table))?;
+    if points {
+        write!(to, ",\"points\":[")?;
+        let start = start.unwrap_or_else(|| damsonyet::start_state(file));
+        let vars = damsonyet::outline(file).map_or(0, |(outline, _)| outline.variables.len());
+        let points = damsonyet::points(file, trace, start).map(|points| points.points).unwrap_or_default();
+        for (k, each) in points.iter().enumerate() {
+            write!(to, "{}{}", if k > 0 { "," } else { "" }, point(each, vars))?;
+        }
+        write!(to, "]")?;
+    }
+    write!(to, "}}")
+}
+
+/// What a file has. Texts have their blanks collapsed.
+fn outline(sheet: &Sheet) -> String {
+    let o = &sheet.outline;
+    let variables = o.variables.iter().enumerate().map(|(k, variable)| {
+        let name = text(&sheet.variable_name(k));
+        format!("{{\"name\":{name},\"start\":{},\"low\":{},\"high\":{}}}", variable.start, variable.low, variable.high)
+    });
+    let methods = o.methods.iter().enumerate().map(|(j, method)| {
+        let name = text(&sheet.method_name(j));
+        format!("{{\"name\":{name},\"regions\":{}}}", list(method.regions.clone()))
+    });
+    let regions = o.regions.iter().enumerate().map(|(r, region)| {
+        let guard = text(&crate::sheet::collapsed(sheet.bytes(&region.guard)));
+        format!("{{\"guard\":{guard},\"body\":{},\"guard_number\":{}}}", text(&sheet.body_text(r)), region.guard_number)
+    });
+    format!(
+        "{{\"name\":{},\"keep\":{},\"variables\":{},\"methods\":{},\"regions\":{},\"guards\":{},\"states\":{},\"start\":{}}}",
+        text(&sheet.title()),
+        text(&sheet.keep_text()),
+        list(variables),
+        list(methods),
+        list(regions),
+        o.guards,
+        o.states,
+        o.start
+    )
+}
+
+/// The object of `show`: the verdict, the outline where there is one, and what `place` and `run` say.
+pub fn show(to: &mut dyn Write, file: &[u8], trace: Option<&[u8]>, start: Option<usize>, points: bool) -> io::Result<()> {
+    let (verdict, o) = match damsonyet::outline(file) {
+        Ok((outline, verdict)) => (verdict, Some(outline)),
+        Err(refusal) => (Err(refusal), None),
+    };
+    write!(to, "{{\"answer\":{}", answer(&verdict))?;
+    if let Some(o) = o {
+        write!(to, ",\"outline\":{}", outline(&Sheet::new(file, o)))?;
+    }
+    if verdict.is_ok() {
+        write!(to, ",\"place\":")?;
+        place(to, file)?;
+        if let Some(trace) = trace {
+            write!(to, ",\"run\":")?;
+            run(to, file, trace, start, points)?;
+        }
+    }
+    write!(to, "}}")
+}

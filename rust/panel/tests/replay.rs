@@ -1,0 +1,189 @@
+//! The JSON of every case of crates/replay, made back into what the programs print for it, byte for byte.
+mod common;
+use common::{panel, root, stdout, Json, Scratch};
+use std::fs;
+
+/// The monitor files and traces.
+fn cases() -> Vec<(Vec<u8>, Vec<u8>)> {
+    let data = fs::read(root().join("crates/replay/data/cases.bin")).expect("the cases");
+    let mut rest = &data[..];
+    let mut take = |n: usize| {
+        let (head, tail) = rest.split_at(n);
+        rest = tail;
+        head.to_vec()
+    };
+    let mut cases = Vec::new();
+    let mut left = data.len();
+    while left > 0 {
+        let lengths = take(8);
+        let length = |at: usize| u32::from_le_bytes(lengths[at..at + 4].try_into().expect("four bytes")) as usize;
+        cases.push((take(length(0)), take(length(4))));
+        left -= 8 + length(0) + length(4);
+    }
+    cases
+}
+
+fn answer_line(answer: &Json) -> String {
+    let numbers = answer.numbers();
+    format!("{:02X}{:04X}{:04X}\n", numbers[0], numbers[1], numbers[2])
+}
+
+fn is_accepted(object: &Json) -> bool {
+    object.at("answer").numbers()[0] == 0
+}
+
+fn placer_lines(place: &Json) -> String {
+    if !is_accepted(place) {
+        return answer_line(place.at("answer"));
+    }
+    place.at("table").list().iter().map(|line| format!("{}\n", line.text())).collect()
+}
+
+fn machine_line(machine: &Json) -> String {
+    if !is_accepted(machine) {
+        assert_eq!(machine.keys(), ["answer"]);
+        return answer_line(machine.at("answer"));
+    }
+    let pairs = |key: &str, raised: i64| machine.at(key).numbers().iter().map(|n| format!("{:02X}", n + raised)).collect::<String>();
+    format!("00{}{}\n", pairs("values", 128), pairs("places", 0))
+}
+
+fn runner_lines(run: &Json) -> String {
+    if !is_accepted(run) {
+        assert_eq!(run.keys(), ["answer"]);
+        return answer_line(run.at("answer"));
+    }
+    machine_line(run.at("plain")) + &machine_line(run.at("table"))
+}
+
+fn set(members: &Json) -> [u8; 2] {
+    members.numbers().iter().fold(0u16, |set, member| set | 1 << member).to_le_bytes()
+}
+
+/// The 33 bytes of a point.
+fn point(point: &Json) -> Vec<u8> {
+    let mut bytes = [128; 6].to_vec();
+    for (slot, value) in bytes.iter_mut().zip(point.at("values").numbers()) {
+        *slot = (value + 128) as u8;
+    }
+    bytes.extend(point.at("places").numbers().iter().map(|place| *place as u8));
+    bytes.extend(set(point.at("guards")));
+    let notices = |bytes: &mut Vec<u8>, machine: &Json| {
+        bytes.extend(set(machine.at("notified")));
+        bytes.extend(set(machine.at("told")));
+    };
+    notices(&mut bytes, point.at("plain"));
+    match point.at("table") {
+        Json::Null => bytes.extend([0; 5]),
+        table => {
+            bytes.push(1);
+            notices(&mut bytes, table);
+        }
+    }
+    assert_eq!(bytes.len(), 33);
+    bytes
+}
+
+fn checksum(bytes: &[u8]) -> u32 {
+    bytes.iter().fold(1, |sum, byte| (sum * 31 + u32::from(*byte)) % 65521)
+}
+
+/// The five lines about points, whose buffers hold A5 before: see tools/gate/src/replay_data.rs.
+fn points_lines(run: &Json, trace: usize) -> String {
+    let needed = 33 * (trace / 7 + 1);
+    let count_line = |count: usize, buffer: &[u8]| format!("00{count:04X}{:04X}\n", checksum(buffer));
+    let short = count_line(0, &vec![0xA5; needed - 1]);
+    if !is_accepted(run) {
+        let answer = answer_line(run.at("answer"));
+        return format!("{answer}{answer}{}{answer}{short}", count_line(0, &vec![0xA5; needed + 33]));
+    }
+    let points = run.at("points").list();
+    let mut buffer: Vec<u8> = points.iter().flat_map(point).collect();
+    buffer.resize(needed + 33, 0xA5);
+    let answers = [run.at("plain"), run.at("table")].map(|machine| answer_line(machine.at("answer"))).concat();
+    format!("{answers}{}0A00000000\n{short}", count_line(points.len(), &buffer))
+}
+
+fn written(write: impl FnOnce(&mut dyn std::io::Write) -> std::io::Result<()>) -> Json {
+    let mut bytes = Vec::new();
+    write(&mut bytes).expect("written");
+    common::assert_tame(&bytes);
+    Json::read(&String::from_utf8(bytes).expect("ASCII"))
+}
+
+/// All that is told of a case, from the four objects of it.
+fn told(check: &Json, place: &Json, run: &Json, show: &Json, trace: usize) -> String {
+    assert_eq!(check.keys(), ["answer"]);
+    assert_eq!(check.at("answer"), place.at("answer"));
+    assert_eq!(check.at("answer"), show.at("answer"));
+    if is_accepted(check) {
+        assert_eq!(show.at("place"), place);
+        assert_eq!(show.at("run"), run);
+        let variables = show.at("outline").at("variables").list().len();
+        assert!(run.at("points").list().iter().all(|point| point.at("values").list().len() == variables));
+    } else {
+        assert!(show.get("place").is_none() && show.get("run").is_none());
+    }
+    placer_lines(place) + &runner_lines(run) + &points_lines(run, trace)
+}
+
+/// On a thread with room for the library's calls, as the program has it.
+fn on_a_stack(test: impl FnOnce() + Send + 'static) {
+    std::thread::Builder::new().stack_size(panel::STACK).spawn(test).expect("a thread").join().expect("the test")
+}
+
+#[test]
+fn objects_hold_what_the_programs_print() {
+    on_a_stack(|| {
+        let expected = fs::read_to_string(root().join("crates/replay/stdout")).expect("what is printed");
+        let cases = cases();
+        assert!(cases.len() > 800, "{}", cases.len());
+        let mut at = 0;
+        for (k, (file, trace)) in cases.iter().enumerate() {
+            let check = written(|to| panel::json::check(to, file));
+            let place = written(|to| panel::json::place(to, file));
+            let run = written(|to| panel::json::run(to, file, trace, None, true));
+            let show = written(|to| panel::json::show(to, file, Some(trace), None, true));
+            let lines = told(&check, &place, &run, &show, trace.len());
+            assert!(expected[at..].starts_with(&lines), "case {k}: {lines}");
+            at += lines.len();
+        }
+        assert_eq!(at, expected.len());
+    });
+}
+
+/// The program itself on every 23rd case, by files and by standard input.
+#[test]
+fn the_program_prints_these_objects() {
+    let expected = fs::read_to_string(root().join("crates/replay/stdout")).expect("what is printed");
+    let scratch = Scratch::new();
+    let mut told_some = 0;
+    for (file, trace) in cases().iter().step_by(23) {
+        let at = scratch.put("monitor.txt", file);
+        let trace_at = scratch.put("trace.txt", trace);
+        let object = |arguments: &[&str]| {
+            let mut all: Vec<&std::ffi::OsStr> = vec![arguments[0].as_ref(), at.as_os_str()];
+            if matches!(arguments[0], "run" | "show") {
+                all.push(trace_at.as_os_str());
+            }
+            all.extend(arguments[1..].iter().map(|argument| std::ffi::OsStr::new(*argument)));
+            let output = panel(&all);
+            let text = stdout(&output);
+            assert_eq!(text.matches('\n').count(), 1);
+            (Json::read(&text), common::status(&output))
+        };
+        let (check, check_status) = object(&["check", "--json"]);
+        let (place, place_status) = object(&["place", "--json"]);
+        let (run, run_status) = object(&["run", "--json", "--points"]);
+        let (show, show_status) = object(&["show", "--points", "--json"]);
+        let lines = told(&check, &place, &run, &show, trace.len());
+        assert!(expected.contains(&lines), "{lines}");
+        let file_status = i32::from(!is_accepted(&check));
+        let both = is_accepted(&run) && is_accepted(run.at("plain")) && is_accepted(run.at("table"));
+        assert_eq!([check_status, place_status, run_status, show_status], [file_status, file_status, i32::from(!both), i32::from(!both)]);
+        let piped = common::panel_reading(&["check", "-", "--json"], file);
+        assert_eq!(Json::read(&stdout(&piped)), check);
+        told_some += 1;
+    }
+    assert!(told_some > 30);
+}

@@ -1,0 +1,504 @@
+//! The library beside the second program (`reference/`): every call gives the same, on generated cases and on hostile input.
+use damsonyet::{Entry, Machine, Notices, Outcome, Place, Point, Points, Record, Refusal};
+use reference::cases::{make_case, Case, Size};
+use reference::hostile::Bases;
+use reference::machines::Machines;
+use reference::outline as second;
+use reference::points::needed;
+use reference::{table, Answer};
+use std::fmt::Debug;
+use std::time::Instant;
+
+/// The archive's own calls, for what the wrappers leave out: slots behind the counts, and lent buffers.
+#[allow(dead_code)]
+#[path = "../src/ffi.rs"]
+mod ffi;
+
+/// An input, and how to make it again.
+struct Input {
+    name: String,
+    file: Vec<u8>,
+    trace: Vec<u8>,
+}
+
+impl Input {
+    fn of(name: String, case: Case) -> Input {
+        Input { name, file: case.monitor, trace: case.trace }
+    }
+
+    /// Both programs' results of a call are equal.
+    fn same<T: PartialEq + Debug>(&self, call: impl Debug, library: T, second: T) {
+        if library != second {
+            let shown = |bytes: &[u8]| format!("{} bytes: {}", bytes.len(), bytes[..bytes.len().min(2000)].escape_ascii());
+            let Input { name, file, trace } = self;
+            let (file, trace) = (shown(file), shown(trace));
+            panic!("{name}: {call:?} differs\nlibrary {library:?}\nsecond  {second:?}\nfile of {file}\ntrace of {trace}");
+        }
+    }
+}
+
+fn cases(seed: u64, count: usize, size: Size, word: &'static str) -> impl Iterator<Item = Input> {
+    (0..count).map(move |number| Input::of(format!("case {number} of seed {seed}, {word}"), make_case(seed, number, size)))
+}
+
+fn hostile(seed: u64, count: usize) -> impl Iterator<Item = Input> {
+    let mut bases = Bases::of(seed);
+    (0..count).map(move |number| Input::of(format!("hostile input {number} of seed {seed}"), bases.input(number)))
+}
+
+/// A thread with the stack that a call may need, and more for the second program.
+fn with_stack(test: impl FnOnce() + Send + 'static) {
+    let thread = std::thread::Builder::new().stack_size(16 * damsonyet::STACK).spawn(test).expect("a thread");
+    thread.join().expect("the test");
+}
+
+// What the second program gives, in the wrappers' types.
+
+fn refusal(answer: Answer) -> Refusal {
+    Refusal { number: answer.number, first: answer.first, second: answer.second }
+}
+
+fn place_of(place: reference::Place) -> Place {
+    match place {
+        reference::Place::Idle => Place::Idle,
+        reference::Place::Waiting(region) => Place::Waiting(region as u8),
+        reference::Place::Due(region) => Place::Due(region as u8),
+    }
+}
+
+fn values(values: &[i64]) -> Vec<i16> {
+    values.iter().map(|&value| value as i16).collect()
+}
+
+fn record(record: reference::Record) -> Record {
+    Record {
+        values: values(&record.values),
+        places: record.places.map(place_of),
+        notified: (0..16).filter(|&thread| record.notified[usize::from(thread)]).collect(),
+    }
+}
+
+fn run_of(machines: &Result<Machines, Refusal>, trace: &[u8], start: usize, machine: reference::Machine) -> Result<Record, Refusal> {
+    machines.as_ref().map_err(|refused| *refused)?.run(trace, start, machine).map(record).map_err(refusal)
+}
+
+/// A point of the second program, from its bytes.
+fn point(bytes: &[u8]) -> Point {
+    let set = |at: usize| u16::from(bytes[at]) + 256 * u16::from(bytes[at + 1]);
+    let place = |byte: u8| match byte {
+        255 => Place::Idle,
+        byte if byte < 16 => Place::Waiting(byte),
+        byte => Place::Due(byte - 16),
+    };
+    Point {
+        values: std::array::from_fn(|slot| i16::from(bytes[slot]) - 128),
+        places: std::array::from_fn(|thread| place(bytes[6 + thread])),
+        guards: set(22),
+        plain: Notices { notified: set(24), told: set(26) },
+        table: if bytes[28] == 1 { Some(Notices { notified: set(29), told: set(31) }) } else { None },
+    }
+}
+
+fn points(file: &[u8], trace: &[u8], start: usize) -> Result<Points, Refusal> {
+    let mut buffer = vec![0; needed(trace.len())];
+    let given = reference::points(file, trace, start, &mut buffer);
+    match given.plain {
+        Err(answer) if answer.number < 13 => Err(refusal(answer)),
+        _ => Ok(Points {
+            plain: given.plain.map_err(refusal),
+            table: given.table.map_err(refusal),
+            points: buffer.chunks(33).take(given.count).map(point).collect(),
+        }),
+    }
+}
+
+fn outline((verdict, told): second::Told<second::Outline>) -> Result<(damsonyet::Outline, Result<(), Refusal>), Refusal> {
+    let verdict = verdict.map_err(refusal);
+    let Some(told) = told else {
+        return Err(verdict.expect_err("told of every file that is accepted"));
+    };
+    let variable = |v: &second::Variable| damsonyet::Variable {
+        name: v.name.clone(),
+        start: v.start as i16,
+        low: v.lowest as i16,
+        high: v.highest as i16,
+    };
+    let behind = |method: usize| told.methods.get(method + 1).map_or(told.regions.len(), |next| next.first);
+    let methods =
+        told.methods.iter().enumerate().map(|(n, m)| damsonyet::Method { name: m.name.clone(), regions: m.first..behind(n) }).collect();
+    let region = |r: &second::Region| damsonyet::Region { guard: r.guard.clone(), body: r.body.clone(), guard_number: r.number as u8 };
+    let outline = damsonyet::Outline {
+        title: told.title,
+        keep: told.keep,
+        variables: told.variables.iter().map(variable).collect(),
+        methods,
+        regions: told.regions.iter().map(region).collect(),
+        guards: told.guards,
+        states: told.states,
+        start: told.start,
+    };
+    Ok((outline, verdict))
+}
+
+fn bits(holds: &[bool]) -> u16 {
+    holds.iter().rev().fold(0, |set, &holds| 2 * set + u16::from(holds))
+}
+
+fn state((verdict, told): second::Told<second::State>) -> Result<Option<damsonyet::State>, Refusal> {
+    match verdict {
+        Err(answer) if answer.number != 9 => return Err(refusal(answer)),
+        _ => {}
+    }
+    let outcome = |after: second::After| match after {
+        second::After::Never => None,
+        second::After::Fault => Some(Outcome::Faults),
+        second::After::Ends(number) => Some(Outcome::Ends(number as u16)),
+    };
+    Ok(told.map(|told| damsonyet::State {
+        kept: told.kept,
+        values: values(&told.values),
+        holds: bits(&told.holds),
+        after: std::array::from_fn(|region| told.after.get(region).copied().and_then(outcome)),
+    }))
+}
+
+/// Six numbers: the values, and then one that is in no range.
+fn six(values: &[i16]) -> [i64; 6] {
+    std::array::from_fn(|slot| values.get(slot).map_or(9_999, |&value| value.into()))
+}
+
+fn number((verdict, told): second::Told<usize>) -> Result<Option<usize>, Refusal> {
+    match verdict {
+        Err(answer) if answer.number < 8 => Err(refusal(answer)),
+        _ => Ok(told),
+    }
+}
+
+/// What was compared.
+#[derive(Debug, Default)]
+struct Counts {
+    inputs: usize,
+    accepted: usize,
+    refused: [usize; 10],
+    /// Runs by their answers, on both machines.
+    runs: [usize; 15],
+    points: usize,
+    parted: usize,
+    states: usize,
+    faults: usize,
+    not_kept: usize,
+    numbers: usize,
+}
+
+/// From where runs start: the start values, the first and the last state, one that is not kept, some between, and numbers of no state.
+fn starts(machines: &Result<Machines, Refusal>) -> Vec<usize> {
+    let Ok(machines) = machines else { return vec![0, usize::MAX] };
+    let monitor = &machines.monitor;
+    let (start, count) = (monitor.start_number(), monitor.count_of_states());
+    let not_kept = (0..count).find(|&number| !monitor.is_kept(&monitor.state_values(number)));
+    let mut starts = vec![start, 0, count / 3, count - 1, count, start + 65_536, usize::MAX];
+    starts.extend(not_kept);
+    starts.sort();
+    starts.dedup();
+    starts
+}
+
+fn compare(input: &Input, counts: &mut Counts) {
+    let file = &input.file;
+    counts.inputs += 1;
+    let monitor = reference::check(file).map_err(refusal);
+    match &monitor {
+        Ok(_) => counts.accepted += 1,
+        Err(refused) => counts.refused[usize::from(refused.number)] += 1,
+    }
+    input.same("check", damsonyet::check(file), monitor.as_ref().map(|_| ()).map_err(|refused| *refused));
+    let machines = monitor.map(Machines::of);
+    tables_and_lines(input, &machines);
+    runs(input, &machines, counts);
+    outlines_and_states(input, counts);
+}
+
+fn tables_and_lines(input: &Input, machines: &Result<Machines, Refusal>) {
+    let Input { file, trace, .. } = input;
+    let entry =
+        |e: &table::Entry| Entry { region: e.region as u8, guard: e.guard as u8, unconditional: e.unconditional, broadcast: e.broadcast };
+    let placed = machines
+        .as_ref()
+        .map(|m| damsonyet::Table { entries: m.entries.iter().map(entry).collect(), text: table::table_lines(&m.entries) })
+        .map_err(|refused| *refused);
+    input.same("place", damsonyet::place(file), placed);
+    input.same("placer_lines", damsonyet::placer_lines(file), reference::lines::placer(file));
+    input.same("runner_lines", damsonyet::runner_lines(file, trace), reference::lines::runner(file, trace));
+    let start = machines.as_ref().map_or(0, |machines| machines.monitor.start_number());
+    input.same("start_state", damsonyet::start_state(file), start);
+}
+
+fn runs(input: &Input, machines: &Result<Machines, Refusal>, counts: &mut Counts) {
+    let Input { file, trace, .. } = input;
+    let both_from = |start: usize| -> Result<damsonyet::Both, Refusal> {
+        machines.as_ref().map_err(|refused| *refused)?;
+        let [plain, table] = [reference::Machine::Plain, reference::Machine::Table].map(|machine| run_of(machines, trace, start, machine));
+        Ok(damsonyet::Both { plain, table })
+    };
+    let from_start = machines.as_ref().map_or(0, |machines| machines.monitor.start_number());
+    input.same("run_both_from_start", damsonyet::run_both_from_start(file, trace), both_from(from_start));
+    for start in starts(machines) {
+        let both = both_from(start);
+        input.same(("run_both", start), damsonyet::run_both(file, trace, start), both.clone());
+        let [plain, table] = match both {
+            Ok(both) => [both.plain, both.table],
+            Err(refused) => [Err(refused), Err(refused)],
+        };
+        for run in [&plain, &table] {
+            counts.runs[run.as_ref().map_or_else(|refused| usize::from(refused.number), |_| 0)] += 1;
+        }
+        counts.parted += usize::from(plain.is_ok() != table.is_ok());
+        input.same(("run plain", start), damsonyet::run(file, trace, start, Machine::Plain), plain);
+        input.same(("run table", start), damsonyet::run(file, trace, start, Machine::Table), table);
+        let points = points(file, trace, start);
+        counts.points += points.as_ref().map_or(0, |points| points.points.len());
+        input.same(("points", start), damsonyet::points(file, trace, start), points);
+    }
+}
+
+fn outlines_and_states(input: &Input, counts: &mut Counts) {
+    let file = &input.file;
+    let told = outline(second::outline(file));
+    input.same("outline", damsonyet::outline(file), told.clone());
+    let Ok((told, verdict)) = told else {
+        for wanted in [0, 1, usize::MAX] {
+            input.same(("state_at", wanted), damsonyet::state_at(file, wanted), state(second::state_at(file, wanted)));
+        }
+        for values in [&[0; 6][..], &[1]] {
+            input.same(("number_of", values), damsonyet::number_of(file, values), number(second::number_of(file, six(values))));
+        }
+        return;
+    };
+    // Every state of a small file; of a large one the ends, the start, that of a refusal 9, and some between.
+    let count = told.states;
+    let mut numbers: Vec<usize> = match count {
+        0..=64 => (0..count).collect(),
+        _ => (0..8).map(|part| part * count / 8 + part).chain([told.start, count - 1]).collect(),
+    };
+    numbers.extend(verdict.err().filter(|refused| refused.number == 9).map(|refused| refused.second));
+    numbers.extend([count, count + 1, told.start + 65_536, told.start + (1 << 32), usize::MAX]);
+    for wanted in numbers {
+        let state = state(second::state_at(file, wanted));
+        if let Ok(Some(state)) = &state {
+            counts.states += 1;
+            counts.not_kept += usize::from(!state.kept);
+            counts.faults += usize::from(state.after.contains(&Some(Outcome::Faults)));
+        }
+        input.same(("state_at", wanted), damsonyet::state_at(file, wanted), state.clone());
+        if let Ok(Some(state)) = state {
+            let back = number(second::number_of(file, six(&state.values)));
+            assert_eq!(back, Ok(Some(wanted)), "{}: the second program's own numbers", input.name);
+            input.same(("number_of", &state.values), damsonyet::number_of(file, &state.values), back);
+            counts.numbers += 1;
+        }
+    }
+    // The start values, each value in turn about its range and far from it; then too few and too many, which are no state's.
+    let start: Vec<i16> = told.variables.iter().map(|variable| variable.start).collect();
+    for (slot, variable) in told.variables.iter().enumerate() {
+        let about = [variable.low - 1, variable.low, variable.high, variable.high + 1, -128, 127, -129, 128, i16::MIN, i16::MAX];
+        // The second program checks the file anew for each.
+        let every = if count <= 64 { 1 } else { 3 };
+        for &value in about.iter().step_by(every) {
+            let mut values = start.clone();
+            values[slot] = value;
+            let second = number(second::number_of(file, six(&values)));
+            input.same(("number_of", &values), damsonyet::number_of(file, &values), second);
+            counts.numbers += 1;
+        }
+    }
+    let longer = [&start[..], &[0]].concat();
+    for values in [&start[1..], &longer] {
+        input.same(("number_of", values), damsonyet::number_of(file, values), Ok(None));
+    }
+}
+
+/// What the archive's structs and lent buffers hold beyond what the wrappers tell.
+fn compare_slots(input: &Input) {
+    let Input { file, trace, .. } = input;
+    let machines = reference::check(file).map(Machines::of);
+    let start = machines.as_ref().map_or(0, |machines| machines.monitor.start_number());
+    lent_buffers(input, &machines, start);
+    for start in [start, usize::MAX] {
+        for (table, machine) in [(false, reference::Machine::Plain), (true, reference::Machine::Table)] {
+            let given = unsafe { ffi::damsonyet_run(file.as_ptr(), file.len(), trace.as_ptr(), trace.len(), start, table) };
+            let run = machines.as_ref().map_err(|answer| *answer).and_then(|machines| machines.run(trace, start, machine));
+            let (values, places, notified, how_many) = match &run {
+                Ok(record) => (&record.values[..], record.places.map(reference::Place::byte), record.notified_bits(), record.how_many()),
+                Err(_) => (&[][..], [255; 16], 0, 0),
+            };
+            let library =
+                (three(given.answer), given.vars, given.values, given.places, given.notified, given.how_many as usize, given.of_file);
+            let second = (numbers(run.as_ref().err()), values.len(), held(values), places, notified, how_many, machines.is_err());
+            input.same(("run's slots", start, table), library, second);
+        }
+    }
+    let (verdict, told) = second::outline(file);
+    let given = unsafe { ffi::damsonyet_outline_of(file.as_ptr(), file.len()) };
+    input.same("outline's slots", outline_numbers(&given), second_numbers(verdict, told.as_ref()));
+    for wanted in [start, told.as_ref().map_or(1, |told| told.states - 1), told.map_or(2, |told| told.states)] {
+        let given = unsafe { ffi::damsonyet_state_at(file.as_ptr(), file.len(), wanted) };
+        let library = (three(given.answer), given.known, given.kept, given.vars, given.values, given.holds, given.after);
+        let (verdict, told) = second::state_at(file, wanted);
+        let answer = numbers(verdict.as_ref().err());
+        let second = match told {
+            Some(told) => {
+                let after = std::array::from_fn(|region| match told.after.get(region) {
+                    None | Some(second::After::Never) => 65_535,
+                    Some(second::After::Fault) => 65_534,
+                    Some(second::After::Ends(number)) => *number as u16,
+                });
+                (answer, true, told.kept, told.values.len(), held(&told.values), bits(&told.holds), after)
+            }
+            None => (answer, false, false, 0, [0; 6], 0, [0; 16]),
+        };
+        input.same(("state_at's slots", wanted), library, second);
+    }
+    // Any six numbers: those of the start values with others behind them, and some that are no byte's.
+    let values = machines.as_ref().map_or(vec![], |machines| machines.monitor.start_values());
+    for other in [0, 127, 128, 129, 255, 256, 32_768, 65_535] {
+        for kept in [values.len(), 1] {
+            let held: [u16; 6] = std::array::from_fn(|slot| values.get(slot).filter(|_| slot < kept).map_or(other, |v| (v + 128) as u16));
+            let given = unsafe { ffi::damsonyet_number_of(file.as_ptr(), file.len(), ffi::Values { held }) };
+            let (verdict, told) = second::number_of(file, held.map(|held| i64::from(held) - 128));
+            let second = (numbers(verdict.as_ref().err()), told.is_some(), told.unwrap_or(0));
+            input.same(("number_of's slots", held), (three(given.answer), given.known, given.number), second);
+        }
+    }
+}
+
+/// Tables, lines and points in buffers that are too short, just long enough, or longer: every byte, those that stay included.
+fn lent_buffers(input: &Input, machines: &Result<Machines, Answer>, start: usize) {
+    const BEFORE: u8 = 0xA5;
+    let Input { file, trace, .. } = input;
+    let written = |lines: &[u8], length: usize| {
+        let mut buffer = lines.to_vec();
+        buffer.resize(length, BEFORE);
+        buffer
+    };
+    let length = machines.as_ref().map_or(0, |machines| 9 * machines.entries.len());
+    for room in [0, length.saturating_sub(1), length, length + 9] {
+        let mut buffer = vec![BEFORE; room];
+        let given = unsafe { ffi::damsonyet_place(file.as_ptr(), file.len(), buffer.as_mut_ptr(), room) };
+        let second = reference::place(file, room);
+        let lines = second.as_deref().unwrap_or_default();
+        let wanted = (numbers(second.as_ref().err()), lines.len(), written(lines, room));
+        input.same(("place's buffer", room), (three(given.answer), given.length, buffer), wanted);
+    }
+    let mut buffer = Box::new([BEFORE; ffi::OUTPUT_BYTES]);
+    let count = unsafe { ffi::damsonyet_placer_lines(file.as_ptr(), file.len(), &mut *buffer) };
+    let lines = reference::lines::placer(file);
+    input.same("placer_lines' buffer", (count, buffer.to_vec()), (lines.len(), written(&lines, buffer.len())));
+    buffer.fill(BEFORE);
+    let count = unsafe { ffi::damsonyet_runner_lines(file.as_ptr(), file.len(), trace.as_ptr(), trace.len(), &mut *buffer) };
+    let lines = reference::lines::runner(file, trace);
+    input.same("runner_lines' buffer", (count, buffer.to_vec()), (lines.len(), written(&lines, buffer.len())));
+    for room in [0, needed(trace.len()) - 1, needed(trace.len()) + 33] {
+        let [mut library, mut second] = [vec![BEFORE; room], vec![BEFORE; room]];
+        let (file_at, trace_at, out) = (file.as_ptr(), trace.as_ptr(), library.as_mut_ptr());
+        let given = unsafe { ffi::damsonyet_points(file_at, file.len(), trace_at, trace.len(), start, out, room) };
+        let wanted = reference::points(file, trace, start, &mut second);
+        let answers = [numbers(wanted.plain.as_ref().err()), numbers(wanted.table.as_ref().err())];
+        input.same(("points' answers", room), ([three(given.plain), three(given.table)], given.count), (answers, wanted.count));
+        input.same(("points' buffer", room), library, second);
+    }
+}
+
+fn three(answer: ffi::Answer) -> (u8, usize, usize) {
+    (answer.number, answer.first, answer.second)
+}
+
+fn numbers(answer: Option<&Answer>) -> (u8, usize, usize) {
+    answer.map_or((0, 0, 0), |answer| (answer.number, answer.first, answer.second))
+}
+
+/// Six slots: the values with 128 added, and 128 behind them.
+fn held(values: &[i64]) -> [u16; 6] {
+    std::array::from_fn(|slot| (values.get(slot).unwrap_or(&0) + 128) as u16)
+}
+
+/// All numbers of an outline in the header's order.
+fn outline_numbers(o: &ffi::Outline) -> Vec<usize> {
+    let mut all = vec![o.answer.number.into(), o.answer.first, o.answer.second];
+    all.extend([o.vars, o.methods, o.regions, o.guards, o.states, o.start]);
+    all.extend([o.title.from, o.title.to, o.keep.from, o.keep.to]);
+    for v in &o.variable {
+        all.extend([v.name.from, v.name.to, v.start.into(), v.low.into(), v.high.into()]);
+    }
+    for m in &o.method {
+        all.extend([m.name.from, m.name.to, m.first]);
+    }
+    for r in &o.region {
+        all.extend([r.guard.from, r.guard.to, r.body.from, r.body.to, r.number]);
+    }
+    all
+}
+
+/// The same of the second program's: slots behind the counts are 0.
+fn second_numbers(verdict: Result<(), Answer>, told: Option<&second::Outline>) -> Vec<usize> {
+    let (number, first, place) = numbers(verdict.as_ref().err());
+    let mut all = vec![number.into(), first, place];
+    if let Some(o) = told {
+        all.extend([o.variables.len(), o.methods.len(), o.regions.len(), o.guards, o.states, o.start]);
+        all.extend([o.title.start, o.title.end, o.keep.start, o.keep.end]);
+        for v in &o.variables {
+            all.extend([v.name.start, v.name.end]);
+            all.extend([v.start, v.lowest, v.highest].map(|value| (value + 128) as usize));
+        }
+        all.resize(13 + 6 * 5, 0);
+        for m in &o.methods {
+            all.extend([m.name.start, m.name.end, m.first]);
+        }
+        all.resize(13 + 6 * 5 + 8 * 3, 0);
+        for r in &o.regions {
+            all.extend([r.guard.start, r.guard.end, r.body.start, r.body.end, r.number]);
+        }
+    }
+    all.resize(13 + 6 * 5 + 8 * 3 + 16 * 5, 0);
+    all
+}
+
+#[test]
+fn generated_cases() {
+    with_stack(|| {
+        let begun = Instant::now();
+        let mut counts = Counts::default();
+        for input in cases(31, 200, Size::SMALL, "small").chain(cases(32, 100, Size::FULL, "full")) {
+            compare(&input, &mut counts);
+        }
+        println!("{counts:?} in {:?}", begun.elapsed());
+        assert!(counts.accepted >= 100 && counts.refused[1..].iter().all(|&refused| refused >= 6), "{counts:?}");
+        assert!([0, 11, 12, 13, 14].iter().all(|&answer| counts.runs[answer] >= 20), "{counts:?}");
+        assert!(counts.parted >= 10 && counts.faults >= 5 && counts.not_kept >= 50, "{counts:?}");
+    });
+}
+
+#[test]
+fn hostile_inputs() {
+    with_stack(|| {
+        let begun = Instant::now();
+        let mut counts = Counts::default();
+        for input in hostile(33, 600) {
+            compare(&input, &mut counts);
+        }
+        println!("{counts:?} in {:?}", begun.elapsed());
+        assert!(counts.accepted >= 100 && counts.refused[1..].iter().all(|&refused| refused >= 6), "{counts:?}");
+        assert!([0, 11, 12, 13, 14].iter().all(|&answer| counts.runs[answer] >= 20), "{counts:?}");
+    });
+}
+
+#[test]
+fn slots_and_lent_buffers() {
+    with_stack(|| {
+        let begun = Instant::now();
+        let inputs = cases(34, 150, Size::SMALL, "small").chain(cases(35, 50, Size::FULL, "full")).chain(hostile(36, 150));
+        for input in inputs {
+            compare_slots(&input);
+        }
+        println!("slots in {:?}", begun.elapsed());
+    });
+}

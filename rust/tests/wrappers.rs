@@ -1,0 +1,260 @@
+//! The wrappers against the examples' tables and lines, and on any bytes.
+use damsonyet::{Machine, Outcome, Place, Reason, Refusal};
+use std::fs;
+use std::path::{Path, PathBuf};
+
+fn examples() -> Vec<PathBuf> {
+    let root = Path::new(env!("CARGO_MANIFEST_DIR")).join("../examples");
+    let mut folders = Vec::new();
+    for folder in [root.clone(), root.join("refusals")] {
+        folders.extend(fs::read_dir(folder).expect("a folder").map(|entry| entry.expect("an entry").path()));
+    }
+    folders.retain(|folder| folder.join("monitor.txt").is_file());
+    folders.sort();
+    assert!(folders.len() > 30);
+    folders
+}
+
+fn read(path: &Path) -> Vec<u8> {
+    fs::read(path).unwrap_or_default()
+}
+
+/// A thread with the stack that a call may need, and some more for the test.
+fn with_stack(test: impl FnOnce() + Send + 'static) {
+    let thread = std::thread::Builder::new().stack_size(4 * damsonyet::STACK).spawn(test).expect("a thread");
+    thread.join().expect("the test");
+}
+
+fn refusal_line(refusal: &Refusal) -> String {
+    format!("{:02X}{:04X}{:04X}\n", refusal.number, refusal.first, refusal.second)
+}
+
+fn record_line(run: &Result<damsonyet::Record, Refusal>) -> String {
+    match run {
+        Ok(record) => {
+            let values: String = record.values.iter().map(|value| format!("{:02X}", value + 128)).collect();
+            let places: String = record.places.iter().map(|place| format!("{:02X}", place.byte())).collect();
+            format!("00{values}{places}\n")
+        }
+        Err(refusal) => refusal_line(refusal),
+    }
+}
+
+/// What placer and runner print, made from what the calls return.
+fn lines(file: &[u8], trace: &[u8]) -> (String, String) {
+    let placer = match damsonyet::place(file) {
+        Ok(table) => {
+            let entry =
+                |e: &damsonyet::Entry| format!("{:02X}{:02X}{:02X}{:02X}\n", e.region, e.guard, e.unconditional as u8, e.broadcast as u8);
+            let entries: String = table.entries.iter().map(entry).collect();
+            assert_eq!(table.text, entries.as_bytes());
+            entries
+        }
+        Err(refusal) => refusal_line(&refusal),
+    };
+    let runner = match damsonyet::run_both_from_start(file, trace) {
+        Ok(both) => record_line(&both.plain) + &record_line(&both.table),
+        Err(refusal) => refusal_line(&refusal),
+    };
+    (placer, runner)
+}
+
+#[test]
+fn examples_have_their_tables_and_lines() {
+    with_stack(|| {
+        for folder in examples() {
+            let name = folder.display();
+            for (monitor, trace, table, told) in [
+                ("monitor.txt", "trace.txt", "table.txt", "lines.txt"),
+                ("monitor.txt", "trace-plain-only.txt", "table.txt", "lines-plain-only.txt"),
+                ("monitor.txt", "trace-recheck.txt", "table.txt", "lines-recheck.txt"),
+                ("monitor-kept.txt", "", "table-kept.txt", ""),
+                ("monitor-published.txt", "", "table-published.txt", ""),
+            ] {
+                if !folder.join(monitor).is_file() || !folder.join(table).is_file() {
+                    continue;
+                }
+                let file = read(&folder.join(monitor));
+                let trace = if trace.is_empty() { Vec::new() } else { read(&folder.join(trace)) };
+                let (placer, runner) = lines(&file, &trace);
+                assert_eq!(placer.as_bytes(), read(&folder.join(table)), "{name}");
+                assert_eq!(placer.as_bytes(), damsonyet::placer_lines(&file), "{name}");
+                assert_eq!(runner.as_bytes(), damsonyet::runner_lines(&file, &trace), "{name}");
+                if !told.is_empty() && folder.join(told).is_file() {
+                    assert_eq!(runner.as_bytes(), read(&folder.join(told)), "{name} {told}");
+                }
+            }
+        }
+    });
+}
+
+/// All calls on one input, and what they must have in common.
+fn agree(file: &[u8], trace: &[u8], start: usize) {
+    let verdict = damsonyet::check(file);
+    assert_eq!(damsonyet::place(file).map(|_| ()), verdict);
+    let outlined = damsonyet::outline(file);
+    match &outlined {
+        Ok((_, told)) => assert_eq!(*told, verdict),
+        Err(refusal) => assert_eq!(Err(*refusal), verdict),
+    }
+    if let Err(refusal) = verdict {
+        assert!(refusal.of_file() && !matches!(refusal.reason(), Reason::Unknown { .. }));
+        assert_eq!(damsonyet::run(file, trace, start, Machine::Plain), Err(refusal));
+        assert_eq!(damsonyet::run_both(file, trace, start), Err(refusal));
+        assert_eq!(damsonyet::points(file, trace, start), Err(refusal));
+        assert_eq!(damsonyet::start_state(file), 0);
+        assert!(!refusal.to_string().is_empty());
+    }
+    let (_, runner) = lines(file, trace);
+    if trace.len() <= 65_536 {
+        assert_eq!(runner.as_bytes(), damsonyet::runner_lines(file, trace));
+    }
+    let Ok((outline, told)) = outlined else { return };
+    assert!(outline.start < outline.states && outline.states <= 4096);
+    let start_values: Vec<i16> = outline.variables.iter().map(|variable| variable.start).collect();
+    assert_eq!(damsonyet::number_of(file, &start_values), Ok(Some(outline.start)));
+    assert_eq!(damsonyet::number_of(file, &start_values[1..]), Ok(None));
+    assert_eq!(
+        outline.methods.iter().flat_map(|method| method.regions.clone()).collect::<Vec<_>>(),
+        (0..outline.regions.len()).collect::<Vec<_>>()
+    );
+    for (k, region) in outline.regions.iter().enumerate() {
+        assert!(region.guard.end < region.body.start && region.body.end < file.len());
+        assert_eq!((file[region.guard.end], file[region.body.start - 1], file[region.body.end]), (b')', b'{', b'}'));
+        assert!(usize::from(region.guard_number) < outline.guards);
+        assert!(outline.first_with(region.guard_number.into()).is_some_and(|first| first <= k));
+    }
+    if told.is_err() {
+        return;
+    }
+    for number in [0, outline.start, outline.states - 1, outline.states, usize::MAX] {
+        let state = damsonyet::state_at(file, number).expect("of an accepted file");
+        assert_eq!(state.is_some(), number < outline.states);
+        if let Some(state) = state {
+            assert_eq!(damsonyet::number_of(file, &state.values), Ok(Some(number)));
+            for (r, after) in state.after.iter().enumerate() {
+                let runs = r < outline.regions.len() && state.kept && state.holds >> outline.regions[r].guard_number & 1 == 1;
+                assert_eq!(after.is_some(), runs);
+                assert!(!matches!(after, Some(Outcome::Faults)), "an accepted file");
+            }
+        }
+    }
+    assert_eq!(damsonyet::start_state(file), outline.start);
+    let both = damsonyet::run_both(file, trace, start).expect("an accepted file");
+    assert_eq!(damsonyet::run(file, trace, start, Machine::Plain), both.plain);
+    assert_eq!(damsonyet::run(file, trace, start, Machine::Table), both.table);
+    match damsonyet::points(file, trace, start) {
+        Err(refusal) => assert_eq!((Err(refusal), Err(refusal)), (both.plain.clone(), both.table.clone())),
+        Ok(points) => {
+            assert_eq!(points.plain, both.plain.clone().map(|_| ()));
+            assert_eq!(points.table, both.table.clone().map(|_| ()));
+            let frames = trace.len() / 7;
+            assert_eq!(points.points.len(), points.plain.map_or_else(|refusal| refusal.first, |()| frames) + 1);
+            assert_eq!(points.points[0].places, [Place::Idle; 16]);
+            let last = points.points.last().expect("a point");
+            if let Ok(record) = &both.plain {
+                assert_eq!(record.places, last.places);
+                assert_eq!(record.values, last.values[..record.values.len()]);
+                assert_eq!(record.notified, damsonyet::members(last.plain.notified));
+            }
+            if let Ok(record) = &both.table {
+                assert_eq!(record.notified, damsonyet::members(last.table.expect("to the end").notified));
+            }
+        }
+    }
+}
+
+/// A plain generator, the same in every run.
+struct Draw(u64);
+
+impl Draw {
+    fn below(&mut self, n: usize) -> usize {
+        self.0 = self.0.wrapping_mul(6364136223846793005).wrapping_add(1442695040888963407);
+        (self.0 >> 33) as usize % n.max(1)
+    }
+}
+
+/// Frames that are often taken, by few threads.
+fn drawn_trace(draw: &mut Draw, n: usize) -> Vec<u8> {
+    let line = |draw: &mut Draw| format!("{:02X}{:02X}{:02X}\n", draw.below(3), draw.below(3), draw.below(2));
+    (0..n).map(|_| line(draw)).collect::<String>().into_bytes()
+}
+
+#[test]
+fn calls_agree_on_any_bytes() {
+    with_stack(|| {
+        let mut draw = Draw(31);
+        agree(b"", b"", 0);
+        agree(&vec![b' '; 8192], b"", 0);
+        agree(&vec![b' '; 8193], b"", 0);
+        for folder in examples() {
+            let file = read(&folder.join("monitor.txt"));
+            let trace = read(&folder.join("trace.txt"));
+            let start = damsonyet::start_state(&file);
+            agree(&file, &trace, start);
+            agree(&file, &trace, usize::MAX);
+            agree(&file, &file, start);
+            for _ in 0..20 {
+                let number = draw.below(300);
+                let frames = draw.below(12);
+                agree(&file, &drawn_trace(&mut draw, frames), number);
+                let mut bytes = file.clone();
+                let at = draw.below(bytes.len());
+                bytes[at] = draw.below(256) as u8;
+                agree(&bytes, &trace, start);
+            }
+        }
+        for _ in 0..300 {
+            let n = draw.below(200);
+            let bytes: Vec<u8> = (0..n).map(|_| draw.below(256) as u8).collect();
+            agree(&bytes, &bytes, draw.below(9));
+        }
+    });
+}
+
+/// Runs of many frames: each is drawn, and kept where the plain machine takes it.
+#[test]
+fn long_runs_agree() {
+    with_stack(|| {
+        let mut draw = Draw(5);
+        let mut frames = 0;
+        for folder in examples().iter().filter(|folder| folder.join("README.md").is_file()) {
+            let file = read(&folder.join("monitor.txt"));
+            let start = damsonyet::start_state(&file);
+            let regions = damsonyet::outline(&file).expect("an outline").0.regions.len();
+            let mut trace = Vec::new();
+            for _ in 0..300 {
+                let frame = format!("{:02X}{:02X}{:02X}\n", draw.below(16), draw.below(regions), draw.below(2));
+                let longer = [&trace[..], frame.as_bytes()].concat();
+                if damsonyet::run(&file, &longer, start, Machine::Plain).is_ok() {
+                    trace = longer;
+                }
+            }
+            agree(&file, &trace, start);
+            frames += trace.len() / 7;
+        }
+        assert!(frames > 200, "{frames}");
+    });
+}
+
+/// A fault and a broken kept condition are told of a file that is refused with 9.
+#[test]
+fn states_of_a_file_refused_with_9() {
+    with_stack(|| {
+        let at = |name: &str| read(&Path::new(env!("CARGO_MANIFEST_DIR")).join("../examples/refusals").join(name).join("monitor.txt"));
+        for (name, faults) in [("9-midway", true), ("9-late-closed", false), ("9-not-reached", true)] {
+            let file = at(name);
+            let Err(refusal) = damsonyet::check(&file) else { panic!("{name} is accepted") };
+            let Reason::Breaks { region, state } = refusal.reason() else { panic!("{name}: {refusal}") };
+            let from = damsonyet::state_at(&file, state).expect("told").expect("a state");
+            assert!(from.kept);
+            match from.after[region].expect("it runs") {
+                Outcome::Faults => assert!(faults, "{name}"),
+                Outcome::Ends(next) => {
+                    assert!(!faults, "{name}");
+                    assert!(!damsonyet::state_at(&file, next.into()).expect("told").expect("a state").kept);
+                }
+            }
+        }
+    });
+}
