@@ -179,6 +179,9 @@ fn number((verdict, told): second::Told<usize>) -> Result<Option<usize>, Refusal
 struct Counts {
     inputs: usize,
     accepted: usize,
+    /// Accepted files with 4,096 states, and traces of more bytes than `runner` judges beside accepted files.
+    most_states: usize,
+    longer_traces: usize,
     refused: [usize; 10],
     /// Runs by their answers, on both machines.
     runs: [usize; 15],
@@ -208,7 +211,11 @@ fn compare(input: &Input, counts: &mut Counts) {
     counts.inputs += 1;
     let monitor = reference::check(file).map_err(refusal);
     match &monitor {
-        Ok(_) => counts.accepted += 1,
+        Ok(monitor) => {
+            counts.accepted += 1;
+            counts.most_states += usize::from(monitor.count_of_states() == 4_096);
+            counts.longer_traces += usize::from(input.trace.len() > reference::lines::MOST_TRACE_BYTES);
+        }
         Err(refused) => counts.refused[usize::from(refused.number)] += 1,
     }
     input.same("check", damsonyet::check(file), monitor.as_ref().map(|_| ()).map_err(|refused| *refused));
@@ -488,6 +495,7 @@ fn hostile_inputs() {
         println!("{counts:?} in {:?}", begun.elapsed());
         assert!(counts.accepted >= 100 && counts.refused[1..].iter().all(|&refused| refused >= 6), "{counts:?}");
         assert!([0, 11, 12, 13, 14].iter().all(|&answer| counts.runs[answer] >= 20), "{counts:?}");
+        assert!(counts.most_states >= 3 && counts.longer_traces >= 3, "{counts:?}");
     });
 }
 
