@@ -22,7 +22,7 @@ pub use points::{points, Notices, Point, Points};
 pub use refusal::{Reason, Refusal};
 
 /// The stack that a call may need, in bytes.
-pub const STACK: usize = 1 << 20;
+pub const STACK: usize = 655_360;
 
 /// Which machine: the plain one wakes everybody whose guard holds, the table's those whom the table says.
 #[derive(Clone, Copy, Debug, PartialEq, Eq)]
