@@ -219,6 +219,10 @@ of-accepted a =
       names = a .names;
     }
 
+-- an accepted file passes 1 to 7; one that is refused with 8 or 9 does by the words of its refusal
+pub accepted-past-7 : {file : List ℕ} {m : Monitor} (a : Accepted file m) → Past7 file (a .ts) m
+accepted-past-7 a = record { past = of-accepted a; ranges = a .sound .ranges; few = a .sound .few }
+
 says : (file : List ℕ) (v : Verdict) → HasVerdict file v → check file ≡ v
 says file (accepted m) a = says-judged (of-accepted a) (sound (a .sound))
 says file (refused a) r = refusal r

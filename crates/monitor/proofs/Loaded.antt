@@ -1,11 +1,10 @@
 -- What was loaded of a file, by its verdict: a number other than 0 is its refusal, and with 0 there is its monitor.
 -- Runs over it, and its start state.
-use Prim.Native.Nat.{ℕ, _≤_}
+use Prim.Native.Nat.{ℕ}
 use native.Mathlib.Omega.{arith}
 use mathlib.Core.Path.{_≡_, refl}
 use mathlib.Core.Bool.{true}
 use mathlib.Core.List.{List}
-use lib.ListN.{length, replicate, length-replicate}
 use lib.IntN.{ℤ}
 use Rattle.syntax.specs.Tree.{Var, Monitor}
 use Rattle.meaning.specs.Answer.{Answer, Verdict, accepted, refused}
@@ -26,10 +25,6 @@ use Rattle.run.specs.declared.Running.{Running}
 use Rattle.loader.specs.Loading.{Loads}
 use Rattle.loader.specs.declared.Loaded.{Loaded}
 use Rattle.monitor.specs.Results.{startOf}
-
--- an array of one number is as long as it says
-pub long : (n x : ℕ) → n ≤ length (replicate n x)
-long n x = omega (arith, length-replicate n x)
 
 module _ (file : List ℕ) (r : code.Answer) (is : Is r (check file)) where
   pub monitor-of : r .number ≡ 0 → (m : Monitor) × (check file ≡ accepted m)

@@ -6,7 +6,7 @@ use mathlib.Core.Path.{_≡_, refl, sym, subst, ap, _∙_}
 use mathlib.Core.Bool.{true, false, _||_}
 use mathlib.Core.Logic.{⊎-elim}
 use mathlib.Core.List.{List}
-use lib.ListN.{length, replicate, length-replicate}
+use lib.ListN.{length}
 use lib.Dec.{eqb, leb}
 use Rattle.syntax.specs.Token.{Lexeme, Token, lexemes}
 use Rattle.syntax.specs.Tree.{Var, Monitor, all, spell}
@@ -35,10 +35,6 @@ use Rattle.lookup.specs.declared.Numbered.{Numbered}
 use Rattle.survey.specs.Told.{OutlineTold, StateTold, NumberTold}
 use Rattle.answers.specs.Says.{Is, answerOf}
 use Rattle.answers.specs.declared.Answer as code
-
--- an array of one number is as long as it says
-pub long : (n x : ℕ) → n ≤ length (replicate n x)
-long n x = omega (arith, length-replicate n x)
 
 -- a number passes the test, or is one from 1 up to below the bound
 pub passes : (n k : ℕ) → eqb n 0 || leb (suc k) n ≡ true → 1 ≤ n → n ≤ k → ⊥

@@ -1,6 +1,6 @@
 -- `monitor::check` meets its contract: the answer of `load`, whose arrays are as long as it asks.
 use borrow.Author.Needs.{needs}
-use Rattle.monitor.proofs.Loaded.{long}
+use Rattle.logic.proofs.Lists.{long}
 use Rattle.monitor.proofs.check.Statement.{statement}
 use Rattle.monitor.proofs.check.Tie as tie
 

@@ -2,7 +2,7 @@
 -- table says.
 use native.Mathlib.Omega.{arith}
 use borrow.Author.Needs.{needs}
-use Rattle.monitor.proofs.Loaded.{long}
+use Rattle.logic.proofs.Lists.{long}
 use Rattle.monitor.proofs.Places.{not-placed, too-short, placed}
 use Rattle.monitor.proofs.place.Statement.{statement}
 use Rattle.monitor.proofs.place.Tie as tie

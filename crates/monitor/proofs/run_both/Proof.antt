@@ -1,6 +1,6 @@
 -- `monitor::run_both` meets its contract: what `both_loaded` says of what was loaded.
 use borrow.Author.Needs.{needs}
-use Rattle.monitor.proofs.Loaded.{long}
+use Rattle.logic.proofs.Lists.{long}
 use Rattle.monitor.proofs.run_both.Statement.{statement}
 use Rattle.monitor.proofs.run_both.Tie as tie
 

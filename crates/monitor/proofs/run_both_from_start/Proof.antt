@@ -1,6 +1,6 @@
 -- `monitor::run_both_from_start` meets its contract: what `both_loaded` says of what was loaded, at the start state.
 use borrow.Author.Needs.{needs}
-use Rattle.monitor.proofs.Loaded.{long}
+use Rattle.logic.proofs.Lists.{long}
 use Rattle.monitor.proofs.run_both_from_start.Statement.{statement}
 use Rattle.monitor.proofs.run_both_from_start.Tie as tie
 

@@ -3,7 +3,8 @@ use mathlib.Core.Path.{sym, _∙_}
 use borrow.Author.Needs.{needs}
 use borrow.Author.Tests.{not-false}
 use Rattle.logic.proofs.Bools.{not-true}
-use Rattle.survey.proofs.Passed.{long, number-untold, number-told}
+use Rattle.logic.proofs.Lists.{long}
+use Rattle.survey.proofs.Passed.{number-untold, number-told}
 use Rattle.survey.proofs.number_of.Statement.{statement}
 use Rattle.survey.proofs.number_of.Tie as tie
 

@@ -1,6 +1,6 @@
 -- `survey::outline` meets its contract: what `outline_loaded` says of what was loaded.
 use borrow.Author.Needs.{needs}
-use Rattle.survey.proofs.Passed.{long}
+use Rattle.logic.proofs.Lists.{long}
 use Rattle.survey.proofs.outline.Statement.{statement}
 use Rattle.survey.proofs.outline.Tie as tie
 

@@ -3,7 +3,8 @@ use mathlib.Core.Path.{sym, _∙_}
 use borrow.Author.Needs.{needs}
 use borrow.Author.Tests.{not-false}
 use Rattle.logic.proofs.Bools.{not-true}
-use Rattle.survey.proofs.Passed.{long, state-untold, state-told}
+use Rattle.logic.proofs.Lists.{long}
+use Rattle.survey.proofs.Passed.{state-untold, state-told}
 use Rattle.survey.proofs.state_at.Statement.{statement}
 use Rattle.survey.proofs.state_at.Tie as tie
 
