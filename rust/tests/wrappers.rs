@@ -258,3 +258,29 @@ fn states_of_a_file_refused_with_9() {
         }
     });
 }
+
+/// The deepest conditions that a file of 1,024 tokens can have: every call fits the stack that is stated.
+#[test]
+fn deepest_files_fit_the_stated_stack() {
+    let bangs = |n: usize| "!".repeat(n);
+    let files = [
+        format!("monitor m {{ var x = 0 in 0..1; keep {}true; method a {{ waituntil (true) {{ }} }} }}", bangs(998)),
+        format!("monitor m {{ var x = 0 in 0..1; keep true; method a {{ waituntil ({}true) {{ }} }} }}", bangs(998)),
+        format!("monitor m {{ var x = 0 in 0..1; keep true; method a {{ waituntil (true) {{ if ({}true) {{ }} }} }} }}", bangs(992)),
+    ];
+    for file in files {
+        let calls = move || {
+            let (file, trace) = (file.as_bytes(), b"000001\n000001\n");
+            assert_eq!(damsonyet::check(file), Ok(()));
+            assert_eq!(damsonyet::place(file).unwrap().entries, []);
+            assert!(damsonyet::run_both_from_start(file, trace).unwrap().table.is_ok());
+            assert_eq!(damsonyet::points(file, trace, 0).unwrap().points.len(), 3);
+            assert_eq!(damsonyet::outline(file).unwrap().0.states, 2);
+            assert!(damsonyet::state_at(file, 1).unwrap().unwrap().kept);
+            assert_eq!(damsonyet::number_of(file, &[1]), Ok(Some(1)));
+            assert_eq!(damsonyet::runner_lines(file, trace).len(), 2 * 37);
+        };
+        // Beside the call stands what the thread itself takes.
+        std::thread::Builder::new().stack_size(damsonyet::STACK + (32 << 10)).spawn(calls).unwrap().join().unwrap();
+    }
+}
