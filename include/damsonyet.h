@@ -9,7 +9,7 @@
  *   - A buffer that a call writes overlaps nothing else that is passed to it, and nobody else writes the memory during the call.
  *   - DAMSONYET_STACK bytes of stack are left.
  * Nothing else: any bytes are a file and a trace, any number is a start state. No call allocates, keeps anything or ends the program; calls
- * may be made from many threads at once. */
+ * may be made from many threads at once. Bytes between the fields of a result mean nothing, so compare results by their fields. */
 #ifndef DAMSONYET_H
 #define DAMSONYET_H
 
@@ -50,7 +50,7 @@ typedef struct {
     size_t second;
 } damsonyet_answer;
 
-/* What placing answers, and the table's length in bytes where it is placed. */
+/* What placing answers, and the table's length in bytes where it is placed, else 0. */
 typedef struct {
     damsonyet_answer answer;
     size_t length;
@@ -127,8 +127,8 @@ typedef struct {
     damsonyet_region region[DAMSONYET_REGIONS];
 } damsonyet_outline;
 
-/* A state, by its number. It is told beside 0 and 9. `known`: there is a state with this number; where there is none, or the answer is
- * another, all that follows is 0. `kept`: the kept condition holds there. Values as in damsonyet_running; `holds`: bit g where guard g
+/* A state, by its number. It is told beside 0 and 9. `known`: there is a state with this number; where there is none, and beside 1 to 8,
+ * it is false and all that follows is 0. `kept`: the kept condition holds there. Values as in damsonyet_running; `holds`: bit g where guard g
  * holds; `after`: for each region the number of the state after its body; DAMSONYET_FAULT where the body assigns outside a range;
  * DAMSONYET_NEVER where it does not run (the state is not kept, or the guard does not hold) and in the slots behind the regions. */
 typedef struct {
@@ -146,7 +146,8 @@ typedef struct {
     uint16_t held[DAMSONYET_VARIABLES];
 } damsonyet_values;
 
-/* A state's number by its values. It is told beside 0, 8 and 9. `known`: each value is in its variable's range; else the number is 0. */
+/* A state's number by its values. It is told beside 0, 8 and 9. `known`: each value is in its variable's range; where one is not, and
+ * beside 1 to 7, it is false and the number 0. */
 typedef struct {
     damsonyet_answer answer;
     bool known;

@@ -53,9 +53,9 @@ impl Refusal {
         }
     }
 
-    /// Whether the file is refused, and not a run of it.
+    /// Whether the file is refused, and not the buffer, the start or the trace (10 to 14).
     pub fn of_file(&self) -> bool {
-        self.number <= 9
+        !matches!(self.number, 10..=14)
     }
 
     /// The number's meaning, with its places.

@@ -60,7 +60,8 @@ pub record Loads (file : List ℕ) (l : Loaded) (kept holds after : List ℕ) : 
       → Rows m kept holds after
 
 -- what loading leaves in the slices that it is lent: those of a file refused with 1 to 8 are as they were, and none
--- changes its length. Left free is what 9 leaves in them, and what stands behind the states of an accepted file.
+-- changes its length. What they hold where 8 passes, so beside 0 and 9, `Loads` says; left free is what stands behind
+-- the states.
 pub record Leaves (number : ℕ) (kept₀ holds₀ after₀ kept holds after : List ℕ) : Type 0 where
   pub untouched : 1 ≤ number → number ≤ 8 → (kept ≡ kept₀) × (holds ≡ holds₀) × (after ≡ after₀)
   pub as-long : (length kept ≡ length kept₀) × (length holds ≡ length holds₀) × (length after ≡ length after₀)

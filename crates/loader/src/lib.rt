@@ -253,7 +253,8 @@ fn load_tokens(
     )
 }
 
-// 1 to 9: the verdict of a file, and of an accepted one all that the table and the machines look up.
+// 1 to 9: the verdict of a file, of an accepted one all that the table and the machines look up, and of one that is
+// refused with 8 or 9 what is known of it.
 pub fn load(file: &[u8], kept: &mut [u8], holds: &mut [u16], after: &mut [u16]) -> Loaded
     ensures { λ r. ⌜ (mostStates ≤ length (now (kept .entry)) → mostStates ≤ length (now (holds .entry))
         → mostAfter ≤ length (now (after .entry))

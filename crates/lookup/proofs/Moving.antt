@@ -28,8 +28,8 @@ use Rattle.layout.specs.declared.Layout.{Layout}
 use Rattle.states.specs.Rows.{GuardNumbers, KeptAll, HoldsAll, Outcomes, outcomeNumber}
 use Rattle.states.proofs.Holding.{kept-truth, guards-few}
 use Rattle.states.proofs.Lanes.{outcome-state}
-use Rattle.lookup.specs.Slices.{moveBy, moveIn, faultsMark, neverMark}
-use Rattle.lookup.specs.Looked.{Looked, moveNumber}
+use Rattle.lookup.specs.Slices.{moveBy, moveIn}
+use Rattle.lookup.specs.Looked.{Looked, faultsMark, neverMark, moveNumber}
 
 -- by cases of the code
 

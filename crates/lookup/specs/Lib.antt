@@ -1,2 +1,2 @@
-pub mod Slices
 pub mod Looked
+pub mod Slices

@@ -20,7 +20,6 @@ use Rattle.variables.specs.Bounded.{Bounded}
 use Rattle.variables.specs.declared.Bounds.{Bounds}
 use Rattle.layout.specs.declared.Layout.{Layout}
 use Rattle.states.specs.Rows.{GuardNumbers, KeptAll, HoldsAll, Outcomes}
-use Rattle.lookup.specs.Slices.{faultsMark, neverMark}
 use Rattle.lookup.specs.declared.State as code
 use Rattle.lookup.specs.declared.Numbered.{Numbered}
 
@@ -35,7 +34,13 @@ pub record Looked (m : Monitor) (b : Bounds) (l : Layout) (kept′ holds′ afte
   pub by-holds : HoldsAll m holds′
   pub outcomes : Outcomes m (keptAt m) after′
 
--- a move as a number (R 16.14)
+-- a move as a number: in the place of a state after a body, that it assigns outside a range or does not run (R 16.14)
+abbrev pub faultsMark : ℕ
+faultsMark = 65534
+
+abbrev pub neverMark : ℕ
+neverMark = 65535
+
 unfoldable pub moveNumber : Move → ℕ
 moveNumber never = neverMark
 moveNumber faults = faultsMark

@@ -12,14 +12,7 @@ use Rattle.sets.specs.Set.{member}
 use Rattle.syntax.specs.Tree.{Var}
 use Rattle.meaning.specs.Accepted.{State}
 use Rattle.meaning.specs.Outline.{heldValues}
-
--- In the place of a state after a body: it assigns outside a range; it does not run
-
-abbrev pub faultsMark : ℕ
-faultsMark = 65534
-
-abbrev pub neverMark : ℕ
-neverMark = 65535
+use Rattle.lookup.specs.Looked.{faultsMark, neverMark}
 
 -- what a body does, by whether the kept condition and its guard hold and by how its outcome is held
 unfoldable pub moveBy : Bool → Bool → ℕ → ℕ

@@ -170,7 +170,7 @@ fn within(bounds: Bounds, values: [u16; syntax::VARIABLES]) -> bool
     true
 }
 
-// The first n values, and 0 behind them.
+// The first n values, and 128 behind them, as slots without a variable hold it.
 fn slot(values: [u16; syntax::VARIABLES], n: usize, k: usize) -> u16
     requires { ⌜ k < mostVars ⌝ }
     ensures { λ r. ⌜ r ≡ slotOf n values k ⌝ }

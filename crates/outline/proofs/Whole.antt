@@ -31,9 +31,9 @@ use Rattle.layout.specs.Laid.{Laid}
 use Rattle.layout.specs.declared.Layout.{Layout}
 use Rattle.layout.proofs.Same.{kinds-length}
 use Rattle.outline.specs.Found.{countOf}
-use Rattle.outline.specs.Slices.{noVariable, noMethod, noRegion, nameIn, keepIn, variableIn, methodIn, regionIn}
+use Rattle.outline.specs.Slices.{nameIn, keepIn, variableIn, methodIn, regionIn}
 use Rattle.outline.specs.Slices.{Listed}
-use Rattle.outline.specs.Outlined.{VariableIs, MethodIs, RegionIs, Outlines}
+use Rattle.outline.specs.Outlined.{noVariable, noMethod, noRegion, VariableIs, MethodIs, RegionIs, Outlines}
 use Rattle.outline.specs.declared.Outline.{Outline}
 use Rattle.outline.proofs.Stands.{count-at}
 use Rattle.outline.proofs.Parts.{title-is, keep-is, variable-is, method-is, first-is, guard-is, body-is}

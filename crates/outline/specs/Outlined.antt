@@ -14,11 +14,25 @@ use Rattle.meaning.specs.Accepted.{regionsOf}
 use Rattle.meaning.specs.Model.{guardOf}
 use Rattle.meaning.specs.Model as model
 use Rattle.meaning.specs.Outline.{TitleAt, KeepAt, VariableAt, MethodAt, GuardAt, BodyAt}
-use Rattle.outline.specs.Slices.{noSpan, noVariable, noMethod, noRegion}
+use Rattle.outline.specs.declared.Span.{Span}
 use Rattle.outline.specs.declared.Outline.{Outline}
 use Rattle.outline.specs.declared.Variable as code
 use Rattle.outline.specs.declared.Method as code-method
 use Rattle.outline.specs.declared.Region as code-region
+
+-- What an empty slot holds (R 16.2, 16.3)
+
+abbrev pub noSpan : Span
+noSpan = record { from = 0; to = 0 }
+
+abbrev pub noVariable : code.Variable
+noVariable = record { name = noSpan; start = 0; low = 0; high = 0 }
+
+abbrev pub noMethod : code-method.Method
+noMethod = record { name = noSpan; first = 0 }
+
+abbrev pub noRegion : code-region.Region
+noRegion = record { guard = noSpan; body = noSpan; number = 0 }
 
 module _ (ts : List Token) (m : Monitor) where
   -- the variable behind some: its name, and its start value and bounds, each with 128 added (R 16.5, 16.10)

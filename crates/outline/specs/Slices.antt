@@ -14,18 +14,6 @@ use Rattle.outline.specs.declared.Variable.{Variable}
 use Rattle.outline.specs.declared.Method.{Method}
 use Rattle.outline.specs.declared.Region.{Region}
 
-abbrev pub noSpan : Span
-noSpan = record { from = 0; to = 0 }
-
-abbrev pub noVariable : Variable
-noVariable = record { name = noSpan; start = 0; low = 0; high = 0 }
-
-abbrev pub noMethod : Method
-noMethod = record { name = noSpan; first = 0 }
-
-abbrev pub noRegion : Region
-noRegion = record { guard = noSpan; body = noSpan; number = 0 }
-
 -- where the name at a token stands
 unfoldable pub nameIn : List ℕ → List ℕ → ℕ → Span
 nameIn values places at = record { from = getD places at 0; to = getD places at 0 + getD values at 0 }

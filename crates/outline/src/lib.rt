@@ -15,9 +15,9 @@ ghost use Rattle.meaning.specs.Model.{vars};
 ghost use Rattle.variables.specs.Bounded.{Bounded};
 ghost use Rattle.layout.specs.Laid.{Laid};
 ghost use Rattle.outline.specs.Found.{nthOf, countOf};
-ghost use Rattle.outline.specs.Slices.{noSpan, noVariable, noMethod, noRegion, nameIn, betweenIn, keepIn};
+ghost use Rattle.outline.specs.Slices.{nameIn, betweenIn, keepIn};
 ghost use Rattle.outline.specs.Slices.{variableIn, methodIn, regionIn, Listed};
-ghost use Rattle.outline.specs.Outlined.{Outlines, NoOutline};
+ghost use Rattle.outline.specs.Outlined.{noSpan, noVariable, noMethod, noRegion, Outlines, NoOutline};
 
 // From a byte on, up to another.
 #[repr(C)]

@@ -189,6 +189,16 @@ fn standing_before(file: &[u8], at: usize) -> &[u8] {
     &head[end - if run > 0 { run } else { mark.min(end) }..]
 }
 
+/// The last three that stand before a byte, the nearest first.
+fn three_before(file: &[u8], at: usize) -> [&[u8]; 3] {
+    let mut end = at.min(file.len());
+    std::array::from_fn(|_| {
+        let found = standing_before(file, end);
+        end = file[..end].iter().rposition(|&byte| !is_blank(byte)).map_or(0, |last| last + 1) - found.len();
+        found
+    })
+}
+
 /// How many brackets and braces are open behind a byte. Each is a token of its own, so that bytes can be counted.
 fn open_behind(file: &[u8], at: usize) -> isize {
     let step = |byte: &u8| match byte {
@@ -210,7 +220,7 @@ fn no_token(file: &[u8], at: usize) -> Refused {
     if byte.is_ascii_digit() {
         let digits = file[at..].iter().take_while(|byte| byte.is_ascii_digit()).count();
         let reason = format!("This number has {} digits; 3 are allowed, leading zeros counted.", grouped(digits));
-        return put("a number of more than 3 digits", reason, "Values lie within -128 to 127: write a smaller number.");
+        return put("a number of more than 3 digits", reason, "Write at most three digits; values lie within -128 to 127.");
     }
     let quoted = if is_printable(byte) { format!("'{}'", char::from(byte)) } else { format!("the byte {byte:02X} (hexadecimal)") };
     let reason = format!("No token begins with {quoted}.");
@@ -256,9 +266,12 @@ const RESERVED: [&[u8]; 10] = [b"monitor", b"var", b"in", b"keep", b"method", b"
 /// What to do about a token that cannot stand where it does: by the token and what stands before it.
 fn grammar_remedy(file: &[u8], at: usize) -> String {
     let token = standing(file, at);
-    let before = standing_before(file, at);
+    let [before, second, third] = three_before(file, at);
     let reserved = |word: &[u8]| RESERVED.contains(&word);
-    let is_name = token.first().is_some_and(u8::is_ascii_alphabetic) && !reserved(token);
+    let named = |word: &[u8]| word.first().is_some_and(u8::is_ascii_alphabetic) && !reserved(word);
+    let is_name = named(token);
+    // A name at which a statement may begin.
+    let begins_statement = named(before) && matches!(second, b"{" | b"}" | b";");
     let head = &file[..at.min(file.len())];
     if head.iter().all(|&byte| is_blank(byte)) {
         return "A file begins with 'monitor', its name and '{'.".into();
@@ -269,6 +282,14 @@ fn grammar_remedy(file: &[u8], at: usize) -> String {
     let lower = token.to_ascii_lowercase();
     let text = match (before, token) {
         (b"else", b"if") => "After 'else' comes '{': write else { if (..) { .. } }.",
+        (b"else", _) => "After 'else' comes '{': write else { .. }.",
+        (_, b":=" | b"==" | b"in" | b";") if second == b"var" => "A variable has a start value and a range: var x = 0 in 0..3;",
+        (_, b"(") if second == b"method" => "A method takes no brackets: behind its name comes '{'.",
+        (b"{", _) if third == b"method" && token != b"waituntil" => "A method has regions: write waituntil (guard) { .. }.",
+        (b")", _) if is_name => "Behind the brackets comes a block: write { .. }.",
+        (_, b"==") if begins_statement => "':=' assigns: write name := value;",
+        (_, b"+" | b"-") if begins_statement => "':=' assigns: write name := name + 1;",
+        (_, b"var" | b"keep") if before.last().is_some_and(u8::is_ascii_digit) => "A variable ends with ';', which is missing before.",
         (b"monitor" | b"var" | b"method", word) if reserved(word) => "This word is reserved: choose another name.",
         (_, b"=") => "A single '=' stands only in a 'var': ':=' assigns, '==' compares.",
         (_, b":=") => "':=' assigns, in a body and behind one name; to compare write '=='.",
@@ -414,7 +435,7 @@ fn breaks(file: &[u8], r: usize, number: usize) -> Refused {
     let whose = region(&sheet, r as u8);
     let state = |number: usize| damsonyet::state_at(file, number).ok().flatten();
     let Some(from) = state(number) else { return Refused::new(headline, format!("The body of {whose}, from state {number}."), "", at) };
-    let start = format!("From state {number} ({}) the body of {whose}", sheet.state_text(&from.values));
+    let start = format!("From state {number} ({}) the body of {whose}, which begins here,", sheet.state_text(&from.values));
     match from.after.get(r).copied().flatten() {
         Some(Outcome::Ends(next)) => {
             let values = state(next.into()).map(|next| sheet.state_text(&next.values)).unwrap_or_default();
@@ -482,8 +503,10 @@ fn line_refused(trace: &[u8], k: usize) -> Refused {
         ("it is not ended by a line feed".into(), "End every line with a line feed, the last one too.")
     } else if line.is_empty() {
         ("it is empty".into(), "Take out the empty line.")
-    } else if line.last() == Some(&b'\r') {
+    } else if ended && line.last() == Some(&b'\r') {
         ("a carriage return (0D) stands before its line feed".into(), "Save the trace with line feeds only.")
+    } else if line.contains(&b'\r') {
+        ("it has a carriage return (0D) where a line feed must be".into(), "Save the trace with line feeds only.")
     } else if let Some(bad) = bad {
         let byte = line[bad];
         match byte {
@@ -552,23 +575,38 @@ fn not_allowed(sheet: &Sheet, frame: &Frame, before: &Point) -> (String, String)
 fn not_taken(sheet: &Sheet, frame: &Frame, before: &Point, machine: Machine) -> (String, String) {
     let Frame { thread, region: r, flag } = *frame;
     let text = guard_of_region(sheet, r);
-    if flag != true_flag(sheet, before, r) {
-        let says = if flag { "holds, and it does not" } else { "does not hold, and it does" };
-        return (
-            format!("flag {} says that {text} {says}", pair(flag.into())),
-            "The flag must be the guard's truth at that moment: mend the flag, or let another frame change the values first.".into(),
-        );
-    }
     let notices = match machine {
         Machine::Plain => before.plain,
         Machine::Table => before.table.unwrap_or(Notices { notified: 0, told: 0 }),
     };
     let is_in = |set: u16| set >> (thread & 15) & 1 == 1;
+    if flag != true_flag(sheet, before, r) {
+        let says = if flag { "holds, and it does not" } else { "does not hold, and it does" };
+        let place = before.places.get(usize::from(thread));
+        let remedy = match place {
+            Some(Place::Idle) => "mend the flag, or let another frame change the values first.",
+            Some(Place::Waiting(_)) if !is_in(notices.notified) => {
+                "mend the flag. And the thread waits and is not notified: leave this frame out until it is."
+            }
+            _ => "mend the flag.",
+        };
+        return (
+            format!("flag {} says that {text} {says}", pair(flag.into())),
+            format!("The flag must be the guard's truth at that moment: {remedy}"),
+        );
+    }
     if !is_in(notices.notified) {
         if machine == Machine::Table && is_in(before.plain.notified) && !flag {
             return (
                 format!("thread {} waits and is not notified; the plain machine has notified it", pair(thread)),
                 "Nothing is wrong: the recheck would be in vain, and the table spares it. Leave this frame out, and both go on.".into(),
+            );
+        }
+        // The guard holds, so the first waiter on it is notified (demand 3): that one goes on, and not this.
+        if let (true, Some(&first)) = (flag, damsonyet::members(on_guard(sheet, before, r, notices.notified)).first()) {
+            return (
+                format!("thread {} waits and is not notified; thread {} is, on the same guard", pair(thread), pair(first)),
+                format!("A waiter goes on only with a notice: let thread {} run first.", pair(first)),
             );
         }
         return (

@@ -48,6 +48,16 @@ fn slips_in_files() {
             ("full := 1", "full = 1", 4, "=", "':=' assigns"),
             ("full == 0", "full = 0", 4, "=", "'==' compares"),
             ("full == 0", "full := 0", 4, ":=", "to compare write '=='"),
+            ("0..1;", "0..1", 4, "keep", "A variable ends with ';'"),
+            ("full = 0", "full := 0", 4, ":=", "var x = 0 in 0..3;"),
+            ("full = 0", "full", 4, "in 0", "var x = 0 in 0..3;"),
+            ("full := 1;", "full == 1;", 4, "== 1;", "':=' assigns: write name := value;"),
+            ("full := 1;", "full += 1;", 4, "+= 1;", "write name := name + 1;"),
+            ("method put", "method put()", 4, "()", "takes no brackets"),
+            ("waituntil (full == 0) { full := 1; }", "full := 1;", 4, "full := 1", "write waituntil (guard)"),
+            ("full := 1;", "if (full == 0) full := 1;", 4, "full := 1;", "comes a block"),
+            ("full := 1;", "if (true) { } else full := 1;", 4, "full := 1;", "After 'else' comes '{'"),
+            ("full = 0", "full = 0000", 2, "0000", "at most three digits"),
             ("full := 1;", "full := -full;", 4, "full;", "write 0 - name"),
             ("full := 1;", "full := 1", 4, "}", "missing before this '}'"),
             ("full := 1;", "if (true) { };", 4, ";", "no ';' behind it"),
@@ -71,7 +81,7 @@ fn slips_in_files() {
             ("full == 0", "Full == 0", 6, "Full", "no variable 'Full'"),
             ("0..1", "1..0", 7, "var full", "'var full = 0 in 1..0;'"),
             ("keep true", "keep full == 1", 8, "keep", "At full = 0"),
-            ("full := 1", "full := 2", 9, "full := 2", "From state 0 (full = 0) the body of put (region 00) assigns outside a range"),
+            ("full := 1", "full := 2", 9, "full := 2", "the body of put (region 00), which begins here, assigns outside a range"),
             ("keep true", "keep full == 0", 9, "full := 1", "ends at state 1 (full = 1), where the kept condition is false"),
         ] {
             slip(&changed(from, to), number, at, said);
@@ -119,7 +129,8 @@ fn slips_in_traces() {
         for (file, trace, said) in [
             (BOX, "000100", "not ended by a line feed"),
             (BOX, "000100\n\n", "Line 1 of the trace, counted from 0, is no frame: it is empty"),
-            (BOX, "000100\r\n", "carriage return"),
+            (BOX, "000100\r\n", "a carriage return (0D) stands before its line feed"),
+            (BOX, "000100\r000100\r", "a carriage return (0D) where a line feed must be"),
             (BOX, "00 01 00\n", "blank"),
             (BOX, "0a0100\n", "'a' is a small letter"),
             (BOX, "0G0100\n", "'G' is no digit"),
@@ -136,6 +147,8 @@ fn slips_in_traces() {
             (BOX, "000101\n", "Flag 01 says that full == 1 holds, and it does not"),
             (BOX, "000000\n", "Flag 00 says that full == 0 does not hold, and it does"),
             (BOX, "000100\n000100\n", "Thread 00 waits and is not notified"),
+            (BOX, "000100\n000101\n", "mend the flag. And the thread waits and is not notified"),
+            (twice, "000001\n000101\n", "at that moment: mend the flag."),
         ] {
             let told = reasons(file, trace.as_bytes(), None);
             assert!(told[0].contains(said), "{trace}: {told:?}");
@@ -143,7 +156,7 @@ fn slips_in_traces() {
         }
         let told = reasons(BOX, b"010100\n000100\n020001\n010101\n", None);
         assert!(told[0].contains("Thread 00 is notified on the same guard and comes first"), "{told:?}");
-        assert!(told[1].contains("Thread 01 waits and is not notified"), "{told:?}");
+        assert!(told[1].contains("Thread 01 waits and is not notified; thread 00 is, on the same guard"), "{told:?}");
         let told = reasons(BOX, b"000100\n010100\n020001\n030101\n010100\n", None);
         assert!(told[0].is_empty() && told[1].contains("the plain machine has notified it. Nothing is wrong"), "{told:?}");
         assert!(reasons(BOX, b"", Some(2))[0].contains("There is no state 2: the states are 0 to 1"));

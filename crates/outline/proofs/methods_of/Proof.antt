@@ -4,7 +4,8 @@ use Prim.Native.Nat.{_-_}
 use native.Mathlib.Omega.{arith}
 use borrow.Author.Tests.{ltb-true, ltb-false}
 use Rattle.syntax.specs.Limits.{mostMethods}
-use Rattle.outline.specs.Slices.{noMethod, methodIn}
+use Rattle.outline.specs.Outlined.{noMethod}
+use Rattle.outline.specs.Slices.{methodIn}
 use Rattle.outline.proofs.Filling.{Filling, begins, turn, ends}
 use Rattle.outline.proofs.methods_of.Statement.{statement}
 use Rattle.outline.proofs.methods_of.Tie as tie

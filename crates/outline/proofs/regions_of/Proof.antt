@@ -5,7 +5,8 @@ use native.Mathlib.Omega.{arith}
 use borrow.Author.Tests.{ltb-true, ltb-false}
 use lib.ListN.{getD}
 use Rattle.machine.specs.Limits.{mostRegions}
-use Rattle.outline.specs.Slices.{noRegion, regionIn}
+use Rattle.outline.specs.Outlined.{noRegion}
+use Rattle.outline.specs.Slices.{regionIn}
 use Rattle.outline.proofs.Filling.{Filling, begins, turn, ends}
 use Rattle.outline.proofs.regions_of.Statement.{statement}
 use Rattle.outline.proofs.regions_of.Tie as tie

@@ -4,7 +4,8 @@ use Prim.Native.Nat.{_-_}
 use native.Mathlib.Omega.{arith}
 use borrow.Author.Tests.{ltb-true, ltb-false}
 use Rattle.syntax.specs.Limits.{mostVars}
-use Rattle.outline.specs.Slices.{noVariable, variableIn}
+use Rattle.outline.specs.Outlined.{noVariable}
+use Rattle.outline.specs.Slices.{variableIn}
 use Rattle.outline.proofs.Filling.{Filling, begins, turn, ends}
 use Rattle.outline.proofs.variables_of.Statement.{statement}
 use Rattle.outline.proofs.variables_of.Tie as tie
