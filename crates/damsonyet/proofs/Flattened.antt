@@ -2,15 +2,13 @@
 use Prim.Native.Nat.{ℕ, _<_}
 use native.Mathlib.Omega.{arith}
 use mathlib.Core.Path.{_≡_, refl, sym, ap, subst, _∙_}
-use mathlib.Core.Bool.{Bool, true, false}
 use mathlib.Core.Logic.{inl, inr, ⊎-elim}
 use mathlib.Core.List.{List, map}
-use lib.ListN.{length, getD, replicate, getD-replicate, List·getD-map}
+use lib.ListN.{getD, replicate, getD-replicate, List·getD-map}
 use lib.IntN.{pos}
-use Rattle.machine.specs.Monitor.{Place, idle, waiting, due}
+use Rattle.machine.specs.Monitor.{Place, idle, due}
 use Rattle.meaning.specs.Held.{Offset}
 use Rattle.meaning.specs.Answer.{Answer}
-use Rattle.meaning.specs.Lines.{placeByte}
 use Rattle.meaning.specs.Calls.{Record, Running, Machine, ran, refused-file, not-run, plain-machine, table-machine}
 use Rattle.meaning.specs.Decide.Calls.{running}
 use Rattle.demands.proofs.Demand1.{running-iff}
@@ -23,10 +21,9 @@ use Rattle.run.specs.Results as results
 use Rattle.run.specs.declared.Running as code
 use Rattle.answers.specs.Says.{Says}
 use Rattle.answers.specs.declared.Answer as code-answer
-use Rattle.monitor.specs.Results.{SameResults, Agrees}
-use Rattle.damsonyet.specs.Flat.{Records, NoRecord, RanAs, SameRan, BothAgree, Flattens}
+use Rattle.monitor.specs.Results.{Agrees}
+use Rattle.damsonyet.specs.Flat.{Records, NoRecord, RanAs, BothAgree, Flattens}
 use Rattle.damsonyet.specs.declared.Ran.{Ran}
-use Rattle.damsonyet.specs.declared.BothRan.{BothRan}
 
 module _ (y : code.Running) (r : Ran) (f : Flattens y r) where
   says : {a : Answer} → Says (y .answer) a → Says (r .answer) a

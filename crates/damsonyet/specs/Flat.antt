@@ -2,14 +2,14 @@
 -- `run/specs/Results` and `monitor/specs/Results` say it of the code's own.
 use Prim.Native.Nat.{ℕ, _<_, _≤_}
 use mathlib.Core.Path.{_≡_}
-use mathlib.Core.Bool.{Bool, true, false}
+use mathlib.Core.Bool.{true, false}
 use mathlib.Core.Logic.{_⊎_}
 use mathlib.Core.List.{List}
 use lib.ListN.{length, getD}
 use lib.IntN.{pos}
 use Rattle.syntax.specs.Limits.{mostVars}
 use Rattle.syntax.specs.Tree.{Monitor}
-use Rattle.machine.specs.Monitor.{Frame, idle, due}
+use Rattle.machine.specs.Monitor.{Frame, idle}
 use Rattle.machine.specs.Recheck.{Recheck}
 use Rattle.machine.specs.Agreement.{AgreeOn}
 use Rattle.meaning.specs.Held.{Offset}
@@ -20,7 +20,7 @@ use Rattle.meaning.specs.Trace.{FrameRecords, linesOf}
 use Rattle.meaning.specs.Decide.Check.{check}
 use Rattle.meaning.specs.Calls.{Record, Running, ran, refused-file, not-run, plain-machine, table-machine, Startable}
 use Rattle.meaning.specs.Decide.Calls.{runList, running}
-use Rattle.stepper.specs.Shown.{placeOf, placesOf}
+use Rattle.stepper.specs.Shown.{placesOf}
 use Rattle.points.specs.Held.{heldByte}
 use Rattle.run.specs.declared.Running as code
 use Rattle.answers.specs.Says.{Says}
@@ -37,7 +37,7 @@ pub record Records (rec : Record) (r : Ran) : Type 0 where
   pub notified : r .notified ≡ rec .notified
   pub how-many : r .«how_many» ≡ rec .howMany
 
--- the record that stands beside a refusal: no values, all idle, none notified
+-- the record that stands beside a refusal: no values, all idle, none notified (R 16.17)
 pub record NoRecord (r : Ran) : Type 0 where
   pub vars : r .vars ≡ 0
   pub values : (k : ℕ) → k < mostVars → getD (r .values) k 0 ≡ 128
@@ -45,6 +45,7 @@ pub record NoRecord (r : Ran) : Type 0 where
   pub notified : r .notified ≡ 0
   pub how-many : r .«how_many» ≡ 0
 
+-- what a run gives, and whether its refusal is the file's (R 10.5, 16.17)
 unfoldable pub RanAs : Running → Ran → Type 0
 RanAs (ran rec) r = Says (r .answer) (answer 0 0 0) × Records rec r × (r .«of_file» ≡ false)
 RanAs (refused-file a) r = Says (r .answer) a × NoRecord r × (r .«of_file» ≡ true)

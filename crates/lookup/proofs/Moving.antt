@@ -9,18 +9,17 @@ use lib.ListN.{length, getD}
 use lib.Dec.{eqb, ltb}
 use lib.IntN.{ℤ}
 use borrow.Author.Tests.{ltb-true, ltb-false, lt-ltb, le-ltb, eq-eqb, ne-eqb}
-use Rattle.syntax.specs.Tree.{Monitor, Var}
+use Rattle.syntax.specs.Tree.{Monitor}
 use Rattle.syntax.proofs.Grammar.{one-cond}
 use Rattle.sets.specs.Set.{member}
 use Rattle.logic.specs.Tests.{bit}
 use Rattle.logic.proofs.Bools.{split, is-false}
-use Rattle.meaning.specs.State.{count, stateAt, numberOf}
-use Rattle.meaning.specs.Kept.{keptAt}
+use Rattle.meaning.specs.State.{count, stateAt}
 use Rattle.meaning.specs.Value.{truth}
 use Rattle.meaning.specs.Accepted.{State}
 use Rattle.meaning.specs.Decide.Bodies.{outcome}
 use Rattle.meaning.specs.Model.{vars, regions, guards, region, guardOf, holds, kept}
-use Rattle.meaning.specs.Outline.{Move, never, faults, ends, moveOf, move}
+use Rattle.meaning.specs.Outline.{never, faults, ends, moveOf, move}
 use Rattle.meaning.proofs.ModelLaws.{guard-below, holds-guard, holds-below}
 use Rattle.meaning.proofs.StateLaws.{number-below}
 use Rattle.variables.specs.declared.Bounds.{Bounds}

@@ -3,8 +3,8 @@
 use Prim.Native.Nat.{ℕ, zero, suc, _+_, _<_, _≤_}
 use native.Mathlib.Omega.{arith}
 use native.Mathlib.Numerals.{add-one}
-use mathlib.Core.Path.{_≡_, refl, sym, ap, _∙_, subst}
-use mathlib.Core.Bool.{Bool, true, false, not, _&&_}
+use mathlib.Core.Path.{_≡_, refl, sym, ap, _∙_}
+use mathlib.Core.Bool.{true, false, not}
 use mathlib.Core.List.{List, [], _∷_, map}
 use mathlib.Core.Option.{some}
 use lib.ListN.{length, getD, drop, take, getElem?, drop-of-length-le, length-map, List·getD-eq-default}
@@ -19,7 +19,7 @@ use Rattle.meaning.specs.Held.{Offset, Biased}
 use Rattle.meaning.specs.Outline.{heldValues}
 use Rattle.variables.specs.Bounded.{Bounded, Shifted}
 use Rattle.variables.specs.declared.Bounds.{Bounds}
-use Rattle.variables.proofs.Indices.{at-index, getD-elem}
+use Rattle.variables.proofs.Indices.{at-index}
 use Rattle.variables.proofs.Offsets.{shifted-le, le-shifted}
 use Rattle.lookup.specs.Slices.{slotOf, Trimmed}
 

@@ -1,11 +1,9 @@
 -- A state by its number and back, as the code returns it, against `meaning/specs/Outline`: every part.
 use Prim.Native.Nat.{ℕ, _<_, _≤_}
 use mathlib.Core.Path.{_≡_}
-use mathlib.Core.Bool.{Bool, true, false}
-use mathlib.Core.Logic.{_↔_}
+use mathlib.Core.Bool.{true, false}
 use mathlib.Core.List.{List}
 use lib.ListN.{length, getD, replicate}
-use lib.Dec.{ltb}
 use Rattle.syntax.specs.Limits.{mostVars}
 use Rattle.machine.specs.Limits.{mostRegions}
 use Rattle.sets.specs.Set.{member}

@@ -196,10 +196,10 @@ method-waits x =
     let b = regions-wait (all (x .regions)) in
     omega arith
 
-methods-once : (ms : List Method) → times k-method (each spellMethod ms) ≡ length ms
+pub methods-once : (ms : List Method) → times k-method (each spellMethod ms) ≡ length ms
 methods-once = each-one k-method spellMethod method-once
 
-methods-wait : (ms : List Method) → times k-waituntil (each spellMethod ms) ≡ length (regionsOf ms)
+pub methods-wait : (ms : List Method) → times k-waituntil (each spellMethod ms) ≡ length (regionsOf ms)
 unfolding each regionsOf times
 methods-wait [] = refl
 methods-wait (x ∷ ms) =

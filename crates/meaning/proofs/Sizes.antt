@@ -9,8 +9,8 @@ use lib.ListN.{length, drop, length-append}
 use lib.Dec.{ltb}
 use Rattle.syntax.specs.Token.{Lexeme, name, key, mark, lbrace, rbrace, semicolon, Keyword, k-monitor, k-var, k-keep}
 use Rattle.syntax.specs.Token.{k-method, k-waituntil, Token, lexemes}
-use Rattle.syntax.specs.Decide.Lexeme.{isKey, keywordNumber}
-use Rattle.syntax.specs.Tree.{Cond, Region, Method, Var, Monitor, all, each, spellRegion, spellMethod, spellVar}
+use Rattle.syntax.specs.Decide.Lexeme.{isKey}
+use Rattle.syntax.specs.Tree.{Cond, Region, Var, Monitor, all, each, spellMethod, spellVar}
 use Rattle.syntax.specs.Tree.{spellCond, spell}
 use Rattle.meaning.specs.Accepted.{regionsOf, NoneOffends, howMany, PastLimit, Declared, Accepted}
 use Rattle.meaning.specs.Model.{placeIn, guardsOf, regions, guards}
@@ -19,6 +19,7 @@ use Rattle.syntax.proofs.Lexemes.{decides-key}
 use Rattle.meaning.proofs.GrammarPlace.{cut}
 use Rattle.meaning.specs.Refusal.{upTo}
 use Rattle.meaning.proofs.KeywordPlaces.{times, times-append, vars-times, each-append}
+use Rattle.meaning.proofs.KeywordCounts.{methods-once, methods-wait}
 use Rattle.meaning.specs.Held.{behindKeep}
 
 pub record Sizes (m : Monitor) : Type 0 where
@@ -50,38 +51,6 @@ times-front k as′ bs = let e = times-append k as′ bs in omega arith
 
 times-behind : (k : Keyword) (as′ bs : List Lexeme) → times k bs ≤ times k (as′ ++ bs)
 times-behind k as′ bs = let e = times-append k as′ bs in omega arith
-
-each-times : {A : Type 0} (k : Keyword) (f : A → List Lexeme) → ((a : A) → 1 ≤ times k (f a)) → (as′ : List A)
-    → length as′ ≤ times k (each f as′)
-unfolding each
-each-times k f h [] = omega arith
-each-times k f h (a ∷ as′) =
-    let e = times-append k (f a) (each f as′) in let one = h a in let rest = each-times k f h as′ in omega arith
-
-method-once : (x : Method) → 1 ≤ times k-method (spellMethod x)
-unfolding spellMethod times isKey keywordNumber
-method-once x = omega arith
-
-region-once : (r : Region) → 1 ≤ times k-waituntil (spellRegion r)
-unfolding spellRegion times isKey keywordNumber
-region-once r = omega arith
-
-method-regions : (x : Method) → length (all (x .regions)) ≤ times k-waituntil (spellMethod x)
-unfolding spellMethod times isKey keywordNumber
-method-regions x =
-    let a = each-times k-waituntil spellRegion region-once (all (x .regions)) in
-    let b = times-front k-waituntil (each spellRegion (all (x .regions))) (mark rbrace ∷ []) in
-    omega arith
-
-regions-times : (ms : List Method) → length (regionsOf ms) ≤ times k-waituntil (each spellMethod ms)
-unfolding each regionsOf
-regions-times [] = omega arith
-regions-times (x ∷ ms) =
-    let l = length-append (all (x .regions)) (regionsOf ms) in
-    let e = times-append k-waituntil (spellMethod x) (each spellMethod ms) in
-    let one = method-regions x in
-    let rest = regions-times ms in
-    omega arith
 
 -- of the variables, and of the methods, in a file
 in-vars : (k : Keyword) (m : Monitor) → times k (each spellVar (all (m .vars))) ≤ times k (spell m)
@@ -124,16 +93,10 @@ sizes-of ts m grammar counts =
     let ms = few k-method 8 ts (λ b c t e l h. counts b c t e (inr (inl (l, h)))) in
     let ws = few k-waituntil 16 ts (λ b c t e l h. counts b c t e (inr (inr (l, h)))) in
     let few-regions : length (regionsOf (all (m .methods))) ≤ 16 =
-    omega (arith, at k-waituntil, in-methods k-waituntil m, regions-times (all (m .methods))) in
+    omega (arith, at k-waituntil, in-methods k-waituntil m, methods-wait (all (m .methods))) in
     record {
       vars = omega (arith, at k-var, in-vars k-var m, vars-times (all (m .vars)));
-      methods =
-          omega (
-            arith,
-            at k-method,
-            in-methods k-method m,
-            each-times k-method spellMethod method-once (all (m .methods)),
-          );
+      methods = omega (arith, at k-method, in-methods k-method m, methods-once (all (m .methods)));
       regions = few-regions;
       guards = omega (arith, guards-few [] (regionsOf (all (m .methods))));
     }

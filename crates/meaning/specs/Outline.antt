@@ -1,8 +1,8 @@
 -- What a file has and where it stands among the file's bytes, of every file that the checks 1 to 7 pass: what the call
 -- `outline` gives, in the order of the file. And a state by its number, and back: what `state_at` and `number_of` give.
-use Prim.Native.Nat.{ℕ, _+_, _<_, _≤_}
+use Prim.Native.Nat.{ℕ, _+_}
 use mathlib.Core.Path.{_≡_}
-use mathlib.Core.Bool.{Bool, true, false, _&&_}
+use mathlib.Core.Bool.{true, false, _&&_}
 use mathlib.Core.List.{List, [], _∷_, _++_, map}
 use mathlib.Core.Option.{Option, none, some}
 use lib.ListN.{length, take}

@@ -1,13 +1,11 @@
 -- `lookup::state_of` meets its contract: of a number that is no state's nothing, and of a state what the slices hold.
-use Prim.Native.Nat.{ℕ, _<_}
 use native.Mathlib.Omega.{arith}
-use mathlib.Core.Path.{_≡_, refl, sym, ap, _∙_}
+use mathlib.Core.Path.{refl, ap, _∙_}
 use mathlib.Core.Bool.{Bool}
 use denote.Ref.{now}
 use borrow.Author.Needs.{needs}
 use Rattle.meaning.specs.Model.{vars}
 use Rattle.lookup.specs.Slices.{moveIn}
-use Rattle.lookup.specs.Looked.{Looked}
 use Rattle.lookup.proofs.Moving.{kept-is, guards-are, moved}
 use Rattle.lookup.proofs.state_of.Statement.{statement}
 use Rattle.lookup.proofs.state_of.Tie as tie
