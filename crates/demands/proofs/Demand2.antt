@@ -29,7 +29,8 @@ use Rattle.meaning.specs.Decide.Check.{check}
 use Rattle.meaning.specs.Model.{vars, kept, model, numberAfter, region, holds, after}
 use Rattle.meaning.specs.Calls.{Machine, plain-machine, table-machine, Startable, noticesOf}
 use Rattle.meaning.specs.Decide.Calls.{toldBy, runList}
-use Rattle.meaning.specs.Accepted.{State, Keeps, Meets, Sound, BlockRuns, GoodRanges, Accepted}
+use Rattle.meaning.specs.Accepted.{Keeps, Meets, Sound, GoodRanges, Accepted}
+use Rattle.meaning.specs.Runs.{State, BlockRuns}
 use Rattle.meaning.proofs.StateLaws.{state-at, number-below, state-at-number, number-of-state-at, earlier-iff}
 use Rattle.meaning.proofs.ModelLaws.{kept-below, keeps, outside, leaves, follows-below, region-numbered, holds-guard}
 use Rattle.meaning.proofs.ModelLaws.{startable-iff, holds-region, holds-below, guard-below, each-guard}

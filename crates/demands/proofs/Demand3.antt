@@ -22,7 +22,8 @@ use Rattle.meaning.specs.State.{stateAt}
 use Rattle.meaning.specs.Answer.{answer, accepted}
 use Rattle.meaning.specs.Decide.Check.{check}
 use Rattle.meaning.specs.Model.{vars, kept, model, guardOf, holds}
-use Rattle.meaning.specs.Calls.{Machine, plain-machine, table-machine, eachThread, bits, Startable}
+use Rattle.meaning.specs.Calls.{Machine, plain-machine, table-machine, Startable}
+use Rattle.meaning.specs.Bits.{eachFrom, bits}
 use Rattle.meaning.specs.Calls.{Record, threadsOf, recordOf, Running, ran, not-run}
 use Rattle.meaning.specs.Decide.Calls.{place, toldBy, runningOf, runList, running}
 use Rattle.meaning.specs.Accepted.{Accepted}
@@ -83,7 +84,7 @@ same-records : (m : Monitor) (c d : Config) → SamePoint (model m) d c
 unfolding recordOf
 same-records m c d p = (
   ap (stateAt (vars m)) (p .same-state),
-  ap (λ (q : Threads). eachThread threads 0 (q .place)) (p .same-threads),
+  ap (λ (q : Threads). eachFrom threads 0 (q .place)) (p .same-threads),
 )
 
 module _ (file bytes : List ℕ) (s : ℕ) where
@@ -145,21 +146,21 @@ module _ (file bytes : List ℕ) (s : ℕ) where
 
 -- Lists of all threads
 
-pub each-read : {A : Type 0} (n t : ℕ) (f : ℕ → A) (d : A) (u : ℕ) → u < n → getD (eachThread n t f) u d ≡ f (t + u)
-unfolding eachThread
+pub each-read : {A : Type 0} (n t : ℕ) (f : ℕ → A) (d : A) (u : ℕ) → u < n → getD (eachFrom n t f) u d ≡ f (t + u)
+unfolding eachFrom
 each-read zero t f d u h = absurd (omega arith)
 each-read (suc n) t f d zero h = ap f (omega arith)
 each-read (suc n) t f d (suc u) h = each-read n (t + 1) f d u (omega arith) ∙ ap f (omega arith)
 
-each-at : {A : Type 0} (n t : ℕ) (f : ℕ → A) (u : ℕ) → u < n → getElem? (eachThread n t f) u ≡ some (f (t + u))
-unfolding eachThread
+each-at : {A : Type 0} (n t : ℕ) (f : ℕ → A) (u : ℕ) → u < n → getElem? (eachFrom n t f) u ≡ some (f (t + u))
+unfolding eachFrom
 each-at zero t f u h = absurd (omega arith)
 each-at (suc n) t f zero h = ap some (ap f (omega arith))
 each-at (suc n) t f (suc u) h = each-at n (t + 1) f u (omega arith) ∙ ap some (ap f (omega arith))
 
-each-is : {A : Type 0} (n t : ℕ) (f : ℕ → A) (u : ℕ) (a : A) → getElem? (eachThread n t f) u ≡ some a
+each-is : {A : Type 0} (n t : ℕ) (f : ℕ → A) (u : ℕ) (a : A) → getElem? (eachFrom n t f) u ≡ some a
     → (u < n) × (f (t + u) ≡ a)
-unfolding eachThread
+unfolding eachFrom
 each-is zero t f u a e = no-some e
 each-is (suc n) t f zero a e = (omega arith, ap f (omega arith) ∙ Option·some-injective _ _ e)
 each-is (suc n) t f (suc u) a e = let x = each-is n (t + 1) f u a e in (omega arith, ap f (omega arith) ∙ x .1)
@@ -200,7 +201,7 @@ module _ (m : Monitor) (c : Config) where
   pub in-set : (u : ℕ) → u < threads → member (recordOf m c .notified) u ≡ c .notified u
   unfolding recordOf
   in-set u h =
-      bit-at (eachThread threads 0 (c .notified)) u (c .notified u)
+      bit-at (eachFrom threads 0 (c .notified)) u (c .notified u)
       (each-at threads 0 (c .notified) u h ∙ ap some (ap (c .notified) (omega arith)))
 
   -- the record says of all threads what the point does

@@ -17,7 +17,8 @@ use Rattle.meaning.specs.State.{stateAt}
 use Rattle.meaning.specs.Decide.Table.{forEach}
 use Rattle.meaning.specs.Decide.Calls.{runList, toldBy}
 use Rattle.meaning.specs.Model.{vars, model, holds}
-use Rattle.meaning.specs.Calls.{Machine, plain-machine, table-machine, eachThread, bits}
+use Rattle.meaning.specs.Calls.{Machine, plain-machine, table-machine}
+use Rattle.meaning.specs.Bits.{eachFrom, bits}
 use Rattle.meaning.specs.Points.{pointSize, valueBytes, placeBytes, setBytes, sharedBytes, noticeBytes, noticesAt}
 use Rattle.meaning.specs.Points.{plainPart, tablePart, pointAt, pointCount, listPoints}
 use Rattle.demands.specs.Points.{DemandPoints, ToldFrom}
@@ -197,7 +198,7 @@ module _ (m : Monitor) (s : ℕ) (fs : List Frame) where
 
   -- at the start nobody is notified
   start-tells : (f : ℕ → Bool) → setBytes (λ u. allIdle s .notified u && f u) ≡ 0 ∷ 0 ∷ []
-  unfolding setBytes allIdle threads eachThread bits
+  unfolding setBytes allIdle threads eachFrom bits
   start-tells f = refl
 
   idle-first : (w : Machine) → runList m w s (take 0 fs) ≡ machine.accepted (allIdle s)

@@ -18,10 +18,13 @@ use Rattle.meaning.specs.Answer.{Answer}
 use Rattle.meaning.specs.Model.{noRegion, vars, regions, model}
 use Rattle.meaning.specs.Hex.{hex2}
 use Rattle.meaning.specs.Decide.Table.{tableOf}
-use Rattle.meaning.specs.Calls.{Machine, eachThread, recordOf, Record, Running, ran, refused-file, not-run}
+use Rattle.meaning.specs.Calls.{Machine, recordOf, Record, Running, ran, refused-file, not-run}
+use Rattle.meaning.specs.Bits.{eachFrom}
 use Rattle.meaning.specs.Lines.{hex4, refusalLine, valueDigits, placeDigits, recordLine, runLine}
-use Rattle.meaning.specs.Accepted.{FirstOffends, Crowded, PastLimit, Misnamed, IsRegion, AtMost, GoodRange, GoodRanges}
-use Rattle.meaning.specs.Accepted.{one-var, State, no-values, one-value}
+use Rattle.meaning.specs.Accepted.{FirstOffends, Crowded, PastLimit, Misnamed, AtMost, GoodRange, GoodRanges}
+use Rattle.meaning.specs.Runs.{IsRegion}
+use Rattle.meaning.specs.Accepted.{one-var}
+use Rattle.meaning.specs.Runs.{State, no-values, one-value}
 use Rattle.logic.proofs.Bools.{both, and, not-true, true-not}
 use Rattle.meaning.proofs.TableLines.{rowsOf, row-lines-length}
 use Rattle.meaning.proofs.Integers.{not-less-trans, distance-in-range}
@@ -110,14 +113,14 @@ state-length : {vs : List Var} {as′ : List ℤ} → State vs as′ → length 
 state-length no-values = refl
 state-length (one-value r s) = ap suc (state-length s)
 
-pub each-length : {A : Type 0} (n t : ℕ) (f : ℕ → A) → length (eachThread n t f) ≡ n
-unfolding eachThread
+pub each-length : {A : Type 0} (n t : ℕ) (f : ℕ → A) → length (eachFrom n t f) ≡ n
+unfolding eachFrom
 each-length zero t f = refl
 each-length (suc n) t f = ap suc (each-length n (t + 1) f)
 
 each-has : (P : Place → Type 0) (n t : ℕ) (f : ℕ → Place) → P idle → ((u : ℕ) → P (f u)) → (k : ℕ)
-    → P (getD (eachThread n t f) k idle)
-unfolding eachThread
+    → P (getD (eachFrom n t f) k idle)
+unfolding eachFrom
 each-has P zero t f none h k = none
 each-has P (suc n) t f none h zero = h t
 each-has P (suc n) t f none h (suc k) = each-has P n (t + 1) f none h k

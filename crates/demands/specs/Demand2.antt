@@ -22,7 +22,8 @@ use Rattle.meaning.specs.Model.{vars, model, noGuard, regions, guards, region, 
 use Rattle.meaning.specs.Decide.Table.{tableOf}
 use Rattle.meaning.specs.Calls.{noticesOf, Machine, plain-machine, table-machine, Startable}
 use Rattle.meaning.specs.Decide.Calls.{runList}
-use Rattle.meaning.specs.Accepted.{Accepted, BlockRuns, Meets, State}
+use Rattle.meaning.specs.Accepted.{Accepted, Meets}
+use Rattle.meaning.specs.Runs.{BlockRuns, State}
 use Rattle.meaning.specs.Table.{Row, rowLines, Increasing, Small}
 use Rattle.meaning.specs.Refusal.{Refusal}
 use lib.IntN.{ℤ}

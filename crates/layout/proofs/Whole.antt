@@ -16,7 +16,7 @@ use Rattle.syntax.specs.Tree.{Region, Method, Monitor, all, spell, spellCond}
 use Rattle.logic.specs.Tests.{bit}
 use Rattle.machine.specs.Held.{followsBy}
 use Rattle.machine.specs.Monitor as machine
-use Rattle.meaning.specs.Accepted.{regionsOf}
+use Rattle.meaning.specs.Runs.{regionsOf}
 use Rattle.meaning.specs.Model.{guardsOf, beginsIn, goesOnIn, noRegion, regions, guards, region, guardOf, follows}
 use Rattle.meaning.proofs.MethodLaws.{InMethod, in-method, begins-in-method, goes-on-in-method}
 use Rattle.logic.proofs.Bools.{split}

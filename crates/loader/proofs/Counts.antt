@@ -34,7 +34,7 @@ unfolding NoneOffends Crowded
 few-tokens ts e = at-most 1024 ts (λ b a t p h. crowded-none ts .0 e b a t p (inl h))
 
 -- 5: at most 6 variables, 8 methods, 16 regions, and as many guards
-pub few-parts : (ts : List Token) (m : Monitor) → spell m ≡ lexemes ts → pastLimit 0 0 0 ts ≡ none → Sizes m
+pub few-parts : (ts : List Token) (m : Monitor) → spell m ≡ lexemes ts → pastLimit 0 0 0 0 ts ≡ none → Sizes m
 few-parts ts m spelt e = sizes-of ts m spelt (past-none ts .0 e)
 
 pub ends-kept : (us : List Lexeme) → EndsCond (mark semicolon ∷ us)

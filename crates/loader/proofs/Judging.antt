@@ -58,7 +58,7 @@ module _ {file : List ℕ} {ts : List Token} {kinds values places : List ℕ} (w
         ∙ ap (λ (k : ℕ). refused (answer 4 k 0)) (sym (List·getD-eq-default places (length file) past)))
 
     -- 3 to 7 do not arise
-    pub past-7 : (m : Monitor) (spelt : spell m ≡ lexemes ts) → pastLimit 0 0 0 ts ≡ none
+    pub past-7 : (m : Monitor) (spelt : spell m ≡ lexemes ts) → pastLimit 0 0 0 0 ts ≡ none
         → misnamed (number 0) [] [] ts ≡ none
         → (d : Declared) → RangedBy true (all (m .vars)) (lexemes ts) (key k-keep ∷ behindKeep m) firstVar d
         → (j : Judged) → j .keep ≡ d .token → j .bounds ≡ d .bounds → Past7 ts m j

@@ -80,10 +80,10 @@ module _ {file : List ℕ} {ts : List Token} {kinds values places : List ℕ} (w
       tree = ap read (sym spelt) ∙ spelled-read m
 
       -- 5
-      pub says-5 : {k : ℕ} → pastLimit 0 0 0 ts ≡ some k → check file ≡ refused (answer 5 k 0)
+      pub says-5 : {k : ℕ} → pastLimit 0 0 0 0 ts ≡ some k → check file ≡ refused (answer 5 k 0)
       says-5 = check-5 file (w .short) (w .cut) room tree
 
-      module _ (few : pastLimit 0 0 0 ts ≡ none) where
+      module _ (few : pastLimit 0 0 0 0 ts ≡ none) where
         -- 6
         pub says-6 : {k : ℕ} → misnamed (number 0) [] [] ts ≡ some k → check file ≡ refused (answer 6 k 0)
         says-6 = check-6 file (w .short) (w .cut) room tree few

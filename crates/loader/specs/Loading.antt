@@ -27,7 +27,7 @@ use Rattle.loader.specs.declared.Loaded.{Loaded}
 pub record Past7 (ts : List Token) (m : Monitor) (j : Judged) : Type 0 where
   pub uncrowded : crowded 0 0 0 ts ≡ none
   pub grammar : spell m ≡ lexemes ts
-  pub counts : pastLimit 0 0 0 ts ≡ none
+  pub counts : pastLimit 0 0 0 0 ts ≡ none
   pub names : misnamed (number 0) [] [] ts ≡ none
   pub ranges : illRanged 1 (vars m) (placesOf k-var ts) ≡ none
   pub bounded : Bounded (vars m) (j .bounds)

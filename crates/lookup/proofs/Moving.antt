@@ -16,7 +16,7 @@ use Rattle.logic.specs.Tests.{bit}
 use Rattle.logic.proofs.Bools.{split, is-false}
 use Rattle.meaning.specs.State.{count, stateAt}
 use Rattle.meaning.specs.Value.{truth}
-use Rattle.meaning.specs.Accepted.{State}
+use Rattle.meaning.specs.Runs.{State}
 use Rattle.meaning.specs.Decide.Bodies.{outcome}
 use Rattle.meaning.specs.Model.{vars, regions, guards, region, guardOf, holds, kept}
 use Rattle.meaning.specs.Outline.{never, faults, ends, moveOf, move}

@@ -14,7 +14,7 @@ use lib.IntN.{ℤ, pos, _-ℤ_}
 use Rattle.syntax.specs.Tree.{Var}
 use Rattle.logic.proofs.Bools.{split, both, not-true, true-not, and}
 use Rattle.meaning.specs.Value.{intOf, less, inRange}
-use Rattle.meaning.specs.Accepted.{State, no-values, one-value}
+use Rattle.meaning.specs.Runs.{State, no-values, one-value}
 use Rattle.meaning.specs.Held.{Offset, Biased}
 use Rattle.meaning.specs.Outline.{heldValues}
 use Rattle.variables.specs.Bounded.{Bounded, Shifted}

@@ -11,7 +11,7 @@ use Rattle.syntax.specs.Tree.{Var, Monitor}
 use Rattle.meaning.specs.State.{count, stateAt, numberOf}
 use Rattle.meaning.specs.Kept.{keptAt}
 use Rattle.meaning.specs.Held.{Biased}
-use Rattle.meaning.specs.Accepted.{State}
+use Rattle.meaning.specs.Runs.{State}
 use Rattle.meaning.specs.Model.{vars, regions, guards, holds, kept}
 use Rattle.meaning.specs.Outline.{Move, never, faults, ends, move, heldValues}
 use Rattle.variables.specs.Bounded.{Bounded}

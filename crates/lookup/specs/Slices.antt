@@ -10,7 +10,7 @@ use Rattle.syntax.specs.Limits.{mostVars}
 use Rattle.machine.specs.Limits.{mostStates}
 use Rattle.sets.specs.Set.{member}
 use Rattle.syntax.specs.Tree.{Var}
-use Rattle.meaning.specs.Accepted.{State}
+use Rattle.meaning.specs.Runs.{State}
 use Rattle.meaning.specs.Outline.{heldValues}
 use Rattle.lookup.specs.Looked.{faultsMark, neverMark}
 

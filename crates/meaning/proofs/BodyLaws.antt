@@ -10,8 +10,8 @@ use Rattle.syntax.specs.Bytes.{sameBytes}
 use Rattle.syntax.specs.Tree.{Block, end, then, Stmt, assign, if-then, if-else, Region, Var}
 use Rattle.meaning.specs.Value.{inRange, exprValue, truth}
 use Rattle.meaning.specs.Decide.Bodies.{assigned, andThen, runBlock, runStmt, outcome}
-use Rattle.meaning.specs.Accepted.{State, one-value, Assigns, here, later, BlockRuns, ends, goes-on, StmtRuns}
-use Rattle.meaning.specs.Accepted.{assigns, if-true, if-false, else-true, else-false}
+use Rattle.meaning.specs.Runs.{State, one-value, Assigns, here, later, BlockRuns, ends, goes-on, StmtRuns}
+use Rattle.meaning.specs.Runs.{assigns, if-true, if-false, else-true, else-false}
 use Rattle.logic.proofs.Bools.{split, clash, is-false, no-some}
 use Rattle.syntax.proofs.Lexemes.{decides-same}
 

@@ -11,8 +11,8 @@ use Rattle.syntax.specs.Bytes.{sameBytes}
 use Rattle.syntax.specs.Tree.{Expr, Cond, Block, end, then, Stmt, assign, if-then, if-else, Var}
 use Rattle.meaning.specs.Value.{inRange, exprValue, truth}
 use Rattle.meaning.specs.Decide.Bodies.{assigned, andThen, runBlock, runStmt}
-use Rattle.meaning.specs.Accepted.{State, no-values, one-value, Assigns, here, later, BlockRuns, ends, goes-on}
-use Rattle.meaning.specs.Accepted.{StmtRuns, assigns, if-true, if-false, else-true, else-false}
+use Rattle.meaning.specs.Runs.{State, no-values, one-value, Assigns, here, later, BlockRuns, ends, goes-on}
+use Rattle.meaning.specs.Runs.{StmtRuns, assigns, if-true, if-false, else-true, else-false}
 use Rattle.logic.proofs.Bools.{split, clash, is-false}
 use Rattle.syntax.proofs.Lexemes.{decides-same}
 use Rattle.meaning.proofs.BodyLaws.{run-of-stmt-runs, stmt-runs-state}

@@ -1,5 +1,6 @@
--- How often the keywords that begin a file's parts stand in what a tree spells: none in conditions and bodies, so
--- `method` as often as there are methods and `waituntil` as often as there are regions, in the file and before each.
+-- How often the keywords that begin a file's parts stand in what a tree spells: none in conditions and bodies, so `try`
+-- as often as there are tries, `method` as there are methods and `waituntil` as there are regions, in the file and before
+-- each.
 use Prim.Native.Nat.{suc, _+_}
 use native.Mathlib.Omega.{arith}
 use mathlib.Core.Path.{_≡_, refl, ap, _∙_}
@@ -8,17 +9,17 @@ use mathlib.Core.List.{List, [], _∷_, _++_, head-eq-of-cons-eq}
 use lib.ListN.{length, length-append}
 use Rattle.syntax.specs.Token.{Lexeme, name, key, number, mark, lbrace, rbrace, lparen, rparen, semicolon, equals, dots}
 use Rattle.syntax.specs.Token.{becomes, minus, bang, and-and, or-or, Keyword, k-monitor, k-var, k-in, k-keep, k-method}
-use Rattle.syntax.specs.Token.{k-waituntil, k-if, k-else, k-true, k-false}
+use Rattle.syntax.specs.Token.{k-waituntil, k-if, k-else, k-true, k-false, k-try}
 use Rattle.syntax.specs.Decide.Lexeme.{isKey, keywordNumber}
 use Rattle.syntax.specs.Tree.{Int, plain, negated, Atom, literal, variable, Term, Expr, Cond, only, or, Conj, just, and}
 use Rattle.syntax.specs.Tree.{Simple, negation, bracketed, constant, compare, Block, end, then, Stmt, assign, if-then}
 use Rattle.syntax.specs.Tree.{if-else, Region, Method, Var, Monitor, all, each, spell, spellInt, spellAtom, signMark}
 use Rattle.syntax.specs.Tree.{spellTerm, spellExpr, comparisonMark, spellConstant, spellCond, spellConj, spellSimple}
-use Rattle.syntax.specs.Tree.{spellBlock, spellStmt, spellRegion, spellMethod, spellVar}
+use Rattle.syntax.specs.Tree.{spellBlock, spellStmt, spellRegion, spellMethod, spellVar, spellTry}
 use Rattle.logic.proofs.Bools.{different}
-use Rattle.meaning.specs.Accepted.{regionsOf}
+use Rattle.meaning.specs.Runs.{regionsOf}
 use Rattle.meaning.specs.Refusal.{upTo}
-use Rattle.meaning.specs.Outline.{upToMethod, upToRegion}
+use Rattle.meaning.specs.Outline.{upToTry, upToMethod, upToRegion}
 use Rattle.meaning.proofs.KeywordPlaces.{times, times-append}
 
 -- A keyword that is not there
@@ -122,6 +123,11 @@ module _ (k : Keyword) (outer : Outer k) where
       ++ (mark rparen ∷ mark lbrace ∷ (spellBlock (q .body) ++ (mark rbrace ∷ [])))))
   behind-wait q = bracketed-then (of-cond (q .guard)) (braced-then (of-block (q .body)) (nil k))
 
+  -- a try but its word
+  behind-try : (c : Cond) → Free k (spellCond c ++ (mark semicolon ∷ []))
+  unfolding isKey
+  behind-try c = join k (of-cond c) (next k (mark semicolon) refl (nil k))
+
 -- What stands before the variables, and they, have no other keyword
 
 module _ (k : Keyword) (no-monitor : isKey k (key k-monitor) ≡ false) (no-var : isKey k (key k-var) ≡ false)
@@ -140,7 +146,11 @@ module _ (k : Keyword) (no-monitor : isKey k (key k-monitor) ≡ false) (no-var 
   of-front m vs =
       next k (key k-monitor) no-monitor (next k (name (m .title)) refl (next k (mark lbrace) refl (of-vars vs)))
 
--- `method` and `waituntil`
+-- `try`, `method` and `waituntil`
+
+outer-try : Outer k-try
+unfolding isKey keywordNumber
+outer-try = record { no-if = refl; no-else = refl; no-true = refl; no-false = refl }
 
 outer-method : Outer k-method
 unfolding isKey keywordNumber
@@ -149,6 +159,10 @@ outer-method = record { no-if = refl; no-else = refl; no-true = refl; no-false =
 outer-wait : Outer k-waituntil
 unfolding isKey keywordNumber
 outer-wait = record { no-if = refl; no-else = refl; no-true = refl; no-false = refl }
+
+try-here : (ls : List Lexeme) → times k-try (key k-try ∷ ls) ≡ suc (times k-try ls)
+unfolding times isKey keywordNumber
+try-here ls = refl
 
 method-here : (ls : List Lexeme) → times k-method (key k-method ∷ ls) ≡ suc (times k-method ls)
 unfolding times isKey keywordNumber
@@ -171,6 +185,17 @@ each-none : {A : Type 0} (k : Keyword) (f : A → List Lexeme) → ((a : A) → 
 unfolding each
 each-none k f h [] = nil k
 each-none k f h (a ∷ as′) = join k (h a) (each-none k f h as′)
+
+try-once : (c : Cond) → times k-try (spellTry c) ≡ 1
+unfolding spellTry
+try-once c = try-here _ ∙ ap suc (behind-try k-try outer-try c .none)
+
+pub tries-once : (cs : List Cond) → times k-try (each spellTry cs) ≡ length cs
+tries-once = each-one k-try spellTry try-once
+
+tries-free : (k : Keyword) → Outer k → isKey k (key k-try) ≡ false → (cs : List Cond) → Free k (each spellTry cs)
+unfolding spellTry
+tries-free k outer h = each-none k spellTry (λ c. next k (key k-try) h (behind-try k outer c))
 
 region-waits : (q : Region) → times k-waituntil (spellRegion q) ≡ 1
 unfolding spellRegion
@@ -211,12 +236,12 @@ methods-wait (x ∷ ms) =
 
 -- Before each part, and in the file
 
--- what stands before the first method
-to-methods : (k : Keyword) → Outer k → isKey k (key k-monitor) ≡ false → isKey k (key k-var) ≡ false
+-- what stands before the first try
+to-tries : (k : Keyword) → Outer k → isKey k (key k-monitor) ≡ false → isKey k (key k-var) ≡ false
     → isKey k (key k-in) ≡ false → isKey k (key k-keep) ≡ false → (m : Monitor) (ls : List Lexeme)
     → times k (upTo m (all (m .vars)) ++ (key k-keep ∷ (spellCond (m .keep) ++ (mark semicolon ∷ ls)))) ≡ times k ls
 unfolding isKey
-to-methods k outer p q r s m ls =
+to-tries k outer p q r s m ls =
     over k (of-front k p q r m (all (m .vars))) (key k-keep ∷ rest)
     ∙ over k (next k (key k-keep) s (nil k)) rest
     ∙ over k (of-cond k outer (m .keep)) (mark semicolon ∷ ls)
@@ -225,17 +250,31 @@ to-methods k outer p q r s m ls =
     rest : List Lexeme
     rest = spellCond (m .keep) ++ (mark semicolon ∷ ls)
 
+pub try-number : (m : Monitor) (before : List Cond) → times k-try (upToTry m before) ≡ length before
+unfolding upToTry isKey keywordNumber
+try-number m before = to-tries k-try outer-try refl refl refl refl m (each spellTry before) ∙ tries-once before
+
+-- what stands before the first method
+to-methods : (k : Keyword) → Outer k → isKey k (key k-monitor) ≡ false → isKey k (key k-var) ≡ false
+    → isKey k (key k-in) ≡ false → isKey k (key k-keep) ≡ false → isKey k (key k-try) ≡ false → (m : Monitor)
+    (ls : List Lexeme) → times k (upToTry m (m .tries) ++ ls) ≡ times k ls
+unfolding upToTry
+to-methods k outer p q r s t m ls =
+    let e = times-append k (upToTry m (m .tries)) ls in
+    let a = to-tries k outer p q r s m (each spellTry (m .tries)) in
+    omega (arith, tries-free k outer t (m .tries) .none)
+
 pub method-number : (m : Monitor) (before : List Method) → times k-method (upToMethod m before) ≡ length before
 unfolding upToMethod isKey keywordNumber
 method-number m before =
-    to-methods k-method outer-method refl refl refl refl m (each spellMethod before) ∙ methods-once before
+    to-methods k-method outer-method refl refl refl refl refl m (each spellMethod before) ∙ methods-once before
 
 -- the regions before a method, and before a region of it
 pub regions-before : (m : Monitor) (before : List Method)
     → times k-waituntil (upToMethod m before) ≡ length (regionsOf before)
 unfolding upToMethod isKey keywordNumber
 regions-before m before =
-    to-methods k-waituntil outer-wait refl refl refl refl m (each spellMethod before) ∙ methods-wait before
+    to-methods k-waituntil outer-wait refl refl refl refl refl m (each spellMethod before) ∙ methods-wait before
 
 pub region-number : (m : Monitor) (methods : List Method) (x : Method) (before : List Region)
     → times k-waituntil (upToRegion m methods x before) ≡ length (regionsOf methods) + length before
@@ -251,9 +290,28 @@ pub method-count : (m : Monitor) → times k-method (spell m) ≡ length (all (m
 unfolding spell upTo times isKey keywordNumber
 method-count m =
     let ms = each spellMethod (all (m .methods)) in
-    let e = to-methods k-method outer-method refl refl refl refl m (ms ++ (mark rbrace ∷ [])) in
+    let e = to-tries k-method outer-method refl refl refl refl m (each spellTry (m .tries) ++ (ms ++ (mark rbrace ∷ []))) in
+    let f = over k-method (tries-free k-method outer-method refl (m .tries)) (ms ++ (mark rbrace ∷ [])) in
     let a = times-append k-method ms (mark rbrace ∷ []) in
     let b = methods-once (all (m .methods)) in
+    omega arith
+
+-- no method has a `try`
+method-free : (x : Method) → Free k-try (spellMethod x)
+unfolding spellMethod spellRegion isKey keywordNumber
+method-free x =
+    next k-try (key k-method) refl (next k-try (name (x .title)) refl (braced-then k-try outer-try
+    (each-none k-try spellRegion (λ q. next k-try (key k-waituntil) refl (behind-wait k-try outer-try q))
+    (all (x .regions))) (nil k-try)))
+
+pub try-count : (m : Monitor) → times k-try (spell m) ≡ length (m .tries)
+unfolding spell upTo times isKey keywordNumber
+try-count m =
+    let ms = each spellMethod (all (m .methods)) in
+    let e = to-tries k-try outer-try refl refl refl refl m (each spellTry (m .tries) ++ (ms ++ (mark rbrace ∷ []))) in
+    let a = times-append k-try (each spellTry (m .tries)) (ms ++ (mark rbrace ∷ [])) in
+    let b = over k-try (each-none k-try spellMethod method-free (all (m .methods))) (mark rbrace ∷ []) in
+    let c = tries-once (m .tries) in
     omega arith
 
 -- a condition does not begin with `monitor`

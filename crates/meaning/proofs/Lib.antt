@@ -13,9 +13,12 @@ pub mod BodyLaws
 pub mod Faults
 pub mod SameGuards
 pub mod Judged
+pub mod Searching
+pub mod Each
 pub mod Soundness
 pub mod MethodLaws
 pub mod ModelLaws
+pub mod Choosing
 pub mod Verdicts
 pub mod Stages
 pub mod Sizes

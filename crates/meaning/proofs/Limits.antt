@@ -11,7 +11,7 @@ use lib.ListN.{length, length-append}
 use lib.Seq.{append-snoc}
 use lib.Dec.{leb}
 use Rattle.syntax.specs.Bytes.{sameBytes}
-use Rattle.syntax.specs.Token.{Lexeme, name, key, number, mark, Keyword, k-monitor, k-var, k-method, k-waituntil, Token}
+use Rattle.syntax.specs.Token.{Lexeme, name, key, number, mark, Keyword, k-monitor, k-var, k-method, k-waituntil, k-try, Token}
 use Rattle.syntax.specs.Decide.Lexeme.{isKey}
 use Rattle.meaning.specs.Accepted.{opens, closes}
 use Rattle.meaning.specs.Decide.Check.{tally, crowded, pastLimit, member, misnamed}
@@ -166,29 +166,32 @@ crowded-none ts = law crowding (0, 0, 0) ts refl .1
 
 -- 5
 
-limiting : Pass (ℕ × ℕ × ℕ) PastLimit
+limiting : Pass (ℕ × ℕ × ℕ × ℕ) PastLimit
 unfolding pastLimit PastLimit
 limiting =
     record {
-      find = λ s ts. pastLimit (s .0) (s .1) (s .2) ts;
+      find = λ s ts. pastLimit (s .0) (s .1) (s .2) (s .3) ts;
       test = λ s t. (isKey k-var (t .lexeme) && leb 6 (s .0)) || (isKey k-method (t .lexeme) && leb 8 (s .1))
-          || (isKey k-waituntil (t .lexeme) && leb 16 (s .2));
+          || (isKey k-waituntil (t .lexeme) && leb 16 (s .2)) || (isKey k-try (t .lexeme) && leb 16 (s .3));
       update = λ s t. (
         tally (isKey k-var (t .lexeme)) (s .0),
         tally (isKey k-method (t .lexeme)) (s .1),
         tally (isKey k-waituntil (t .lexeme)) (s .2),
+        tally (isKey k-try (t .lexeme)) (s .3),
       );
       Sums = λ s before. s ≡ (
         howMany (isKey k-var) before,
         howMany (isKey k-method) before,
         howMany (isKey k-waituntil) before,
+        howMany (isKey k-try) before,
       );
       at-end = λ s. refl;
       at-token = λ s t ts. refl;
-      goes-on = λ s before t h. rw (h, more-of (isKey k-var), more-of (isKey k-method), more-of (isKey k-waituntil));
-      decides = λ s before t h. rw (h, or-assoc)
+      goes-on = λ s before t h. rw (h, more-of (isKey k-var), more-of (isKey k-method), more-of (isKey k-waituntil), more-of (isKey k-try));
+      decides = λ s before t h. rw (h, or-assoc, or-assoc)
           (decides-or _ _ (past k-var 6 before t)
-          (decides-or _ _ (past k-method 8 before t) (past k-waituntil 16 before t)));
+          (decides-or _ _ (past k-method 8 before t)
+          (decides-or _ _ (past k-waituntil 16 before t) (past k-try 16 before t))));
     }
   where
     past : (k : Keyword) (n : ℕ) (before : List Token) (t : Token)
@@ -196,13 +199,13 @@ limiting =
         ((t .lexeme ≡ key k) × (n ≤ howMany (isKey k) before))
     past k n before t = decides-and _ _ (decides-key k (t .lexeme)) (decides-leb n (howMany (isKey k) before))
 
-pub past-first : (ts : List Token) (k : ℕ) → (pastLimit 0 0 0 ts ≡ some k) ↔ FirstOffends PastLimit ts k
+pub past-first : (ts : List Token) (k : ℕ) → (pastLimit 0 0 0 0 ts ≡ some k) ↔ FirstOffends PastLimit ts k
 unfolding limiting howMany
-past-first ts k = law limiting (0, 0, 0) ts refl .0 k
+past-first ts k = law limiting (0, 0, 0, 0) ts refl .0 k
 
-pub past-none : (ts : List Token) → (pastLimit 0 0 0 ts ≡ none) ↔ NoneOffends PastLimit ts
+pub past-none : (ts : List Token) → (pastLimit 0 0 0 0 ts ≡ none) ↔ NoneOffends PastLimit ts
 unfolding limiting howMany
-past-none ts = law limiting (0, 0, 0) ts refl .1
+past-none ts = law limiting (0, 0, 0, 0) ts refl .1
 
 -- 6: what one more token does to what stands last and to what is declared
 

@@ -10,7 +10,7 @@ use lib.ListN.{length, length-append}
 use lib.Dec.{eqb, ltb}
 use borrow.Author.Tests.{ltb-true, ltb-false, lt-ltb, le-ltb, le-leb, lt-leb, ne-eqb}
 use Rattle.syntax.specs.Tree.{Method, all}
-use Rattle.meaning.specs.Accepted.{regionsOf}
+use Rattle.meaning.specs.Runs.{regionsOf}
 use Rattle.meaning.specs.Model.{beginsIn, goesOnIn}
 use Rattle.logic.proofs.Bools.{split, clash}
 

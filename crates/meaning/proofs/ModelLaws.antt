@@ -19,7 +19,8 @@ use Rattle.meaning.specs.State.{count, stateAt, numberOf}
 use Rattle.meaning.specs.Kept.{keptAt}
 use Rattle.meaning.specs.Model.{sameGuard, placeIn, guardsOf, goesOnIn, noGuard, noRegion, numberAfter, vars}
 use Rattle.meaning.specs.Model.{regions, guards, region, guardOf, holds, kept, after, follows}
-use Rattle.meaning.specs.Accepted.{State, Keeps, Meets, IsRegion, Sound}
+use Rattle.meaning.specs.Accepted.{Keeps, Meets, Sound}
+use Rattle.meaning.specs.Runs.{State, IsRegion}
 use Rattle.logic.proofs.Bools.{both, and, split, clash, no-some}
 use Rattle.logic.proofs.Bools.{Decides, different}
 use Rattle.meaning.proofs.SameGuards.{decides-lexemes}
@@ -188,7 +189,7 @@ earlier found (r ∷ rs) (suc i) q g e low high =
 
 -- The model of a tree
 
-element : {A : Type 0} (as′ : List A) (i : ℕ) (d : A) → i < length as′ → getElem? as′ i ≡ some (getD as′ i d)
+pub element : {A : Type 0} (as′ : List A) (i : ℕ) (d : A) → i < length as′ → getElem? as′ i ≡ some (getD as′ i d)
 element [] i d h = absurd (omega arith)
 element (a ∷ as′) zero d h = refl
 element (a ∷ as′) (suc i) d h = element as′ i d (omega arith)

@@ -9,10 +9,16 @@ use Rattle.machine.specs.Decide.Step.{judged, step, run}
 use Rattle.machine.specs.Decide.Table.{runs, someMove, everyMove, stands, unconditional, broadcast, entryOf, acts}
 use Rattle.machine.specs.Decide.Table.{entryTold, tableTold}
 use Rattle.meaning.specs.Decide.Calls.{written, place, toldBy, runningOf, runList, runFrames, runFrom, running}
-use Rattle.meaning.specs.Calls.{eachThread, bits, ones, recordOf}
-use Rattle.meaning.specs.Accepted.{opens, closes, regionsOf}
+use Rattle.meaning.specs.Calls.{recordOf}
+use Rattle.meaning.specs.Bits.{eachFrom, bits, ones}
+use Rattle.meaning.specs.Accepted.{opens, closes}
+use Rattle.meaning.specs.Runs.{regionsOf}
 use Rattle.meaning.specs.Decide.Check.{tally, crowded, placeOf, leftOf, pastLimit, member, misnamed, placesOf}
-use Rattle.meaning.specs.Decide.Check.{inByte, goodRange, illRanged, keptAfter, breaks, firstFrom, brokenFrom}
+use Rattle.meaning.specs.Decide.Check.{inByte, goodRange, illRanged, keptAfter, breaks}
+use Rattle.meaning.specs.Decide.First.{firstFrom, firstWhere}
+use Rattle.meaning.specs.Decide.Choice.{noTry, endsFalse, isNone, inSet, tryAt, eachTry, allHold, binds}
+use Rattle.meaning.specs.Decide.Choice.{breaksTry, firstBreak, pass, passes, trueAtStart, chosenTries, chosenBits}
+use Rattle.meaning.specs.Decide.Choice.{fateFrom, fateOf}
 use Rattle.meaning.specs.Decide.Check.{broken, checkMeaning, checkTokens, check}
 use Rattle.meaning.specs.Lines.{hex4, refusalLine, placeByte, valueDigits, placeDigits, recordLine, runLine}
 use Rattle.meaning.specs.Lines.{machineLine, placer, runner}
@@ -35,13 +41,13 @@ use Rattle.syntax.specs.Decide.Leading.{leading, startsWith}
 use Rattle.syntax.specs.Decide.Reading.{onwards, _>>=_, give, begins, rest, choose, expect, readName, readNumber}
 use Rattle.syntax.specs.Decide.Reading.{readMany, readSome, readInt, readAtom, readSign, readTerm, isSign, readExpr}
 use Rattle.syntax.specs.Decide.Reading.{readComparison, readCond, readConj, readSimple, readBlock, readStmt, readRegion}
-use Rattle.syntax.specs.Decide.Reading.{readMethod, readVar, atEnd, readMonitor, read}
+use Rattle.syntax.specs.Decide.Reading.{readMethod, readVar, readTry, atEnd, readMonitor, read}
 use Rattle.syntax.specs.Token.{keywords, marks, lexemes}
 use Rattle.syntax.specs.Decide.Lexeme.{markNumber, keywordNumber, isMark, isKey, isName}
 use Rattle.syntax.specs.Decide.Scan.{wordOf, atMost, markOf, scan, prepend as token-prepend, tokensFrom, tokenize}
 use Rattle.syntax.specs.Tree.{spellInt, spellAtom, signMark, spellTerm, each, spellExpr, comparisonMark, spellConstant}
 use Rattle.syntax.specs.Tree.{spellCond, spellConj, spellSimple, spellBlock, spellStmt, spellRegion, spellMethod}
-use Rattle.syntax.specs.Tree.{spellVar, spell, InGrammar, Viable}
+use Rattle.syntax.specs.Tree.{spellVar, spellTry, spell, InGrammar, Viable}
 use Rattle.meaning.specs.Points.{valueBytes, placeBytes, setBytes, sharedBytes, noticeBytes, noticesAt, plainPart}
 use Rattle.meaning.specs.Points.{tablePart, pointAt, stopAnswer, pointCount, listPoints, framePoints, pointsFrom}
 use Rattle.meaning.specs.Points.{pointRoom, pointsOf}
@@ -58,7 +64,7 @@ pub data Case : Type 0 where
   points-of : List ℕ → List ℕ → ℕ → ℕ → Case
 
 unfoldable pub printing : Case → List ℕ
-unfolding any threads put without isDue isWaiting ahead beginWait leave allIdle onGuard waitsOn next firstNotified own plainTold mayBeAt may ran waited rechecked allowed act judged step run runs someMove everyMove stands unconditional broadcast entryOf acts entryTold tableTold written place toldBy eachThread bits ones recordOf runningOf runList runFrames runFrom running opens closes tally crowded placeOf leftOf pastLimit member misnamed placesOf inByte goodRange illRanged regionsOf keptAfter breaks firstFrom brokenFrom broken checkMeaning checkTokens check hex4 refusalLine placeByte valueDigits placeDigits recordLine runLine machineLine placer runner valueBytes placeBytes setBytes sharedBytes noticeBytes noticesAt plainPart tablePart pointAt stopAnswer pointCount listPoints framePoints pointsFrom pointRoom pointsOf sameLexeme sameLexemes sameGuard placeIn guardsOf beginsIn goesOnIn noGuard noRegion numberAfter regions guards region guardOf holds kept after follows model hexDigit hex2 hexBool entryLine forEach tableOf size count stateAt numberOf starts linesFrom isHex hexValue allHex pairAt isFrame frameOf prepend framesFrom framesOf intOf negative less compares valueOf inRange assigned atomValue joined termsValue exprValue truth conjTruth simpleTruth andThen runBlock runStmt outcome keptAt bytes between blank letter digit wordByte leading decimal sameBytes startsWith onwards _>>=_ give begins rest choose expect readName readNumber readMany readSome readInt readAtom readSign readTerm isSign readExpr readComparison readCond readConj readSimple readBlock readStmt readRegion readMethod readVar atEnd readMonitor read keywords marks wordOf atMost markOf scan token-prepend tokensFrom tokenize lexemes markNumber keywordNumber isMark isKey isName spellInt spellAtom signMark spellTerm each spellExpr comparisonMark spellConstant spellCond spellConj spellSimple spellBlock spellStmt spellRegion spellMethod spellVar spell InGrammar Viable
+unfolding any threads put without isDue isWaiting ahead beginWait leave allIdle onGuard waitsOn next firstNotified own plainTold mayBeAt may ran waited rechecked allowed act judged step run runs someMove everyMove stands unconditional broadcast entryOf acts entryTold tableTold written place toldBy eachFrom bits ones recordOf runningOf runList runFrames runFrom running opens closes tally crowded placeOf leftOf pastLimit member misnamed placesOf inByte goodRange illRanged regionsOf keptAfter breaks firstFrom firstWhere broken noTry endsFalse isNone inSet tryAt eachTry allHold binds breaksTry firstBreak pass passes trueAtStart chosenTries chosenBits fateFrom fateOf checkMeaning checkTokens check hex4 refusalLine placeByte valueDigits placeDigits recordLine runLine machineLine placer runner valueBytes placeBytes setBytes sharedBytes noticeBytes noticesAt plainPart tablePart pointAt stopAnswer pointCount listPoints framePoints pointsFrom pointRoom pointsOf sameLexeme sameLexemes sameGuard placeIn guardsOf beginsIn goesOnIn noGuard noRegion numberAfter regions guards region guardOf holds kept after follows model hexDigit hex2 hexBool entryLine forEach tableOf size count stateAt numberOf starts linesFrom isHex hexValue allHex pairAt isFrame frameOf prepend framesFrom framesOf intOf negative less compares valueOf inRange assigned atomValue joined termsValue exprValue truth conjTruth simpleTruth andThen runBlock runStmt outcome keptAt bytes between blank letter digit wordByte leading decimal sameBytes startsWith onwards _>>=_ give begins rest choose expect readName readNumber readMany readSome readInt readAtom readSign readTerm isSign readExpr readComparison readCond readConj readSimple readBlock readStmt readRegion readMethod readVar readTry atEnd readMonitor read keywords marks wordOf atMost markOf scan token-prepend tokensFrom tokenize lexemes markNumber keywordNumber isMark isKey isName spellInt spellAtom signMark spellTerm each spellExpr comparisonMark spellConstant spellCond spellConj spellSimple spellBlock spellStmt spellRegion spellMethod spellVar spellTry spell InGrammar Viable
 printing (placing file) = placer file
 printing (running-of file trace) = runner file trace
 printing (whole file trace) = placer file ++ runner file trace

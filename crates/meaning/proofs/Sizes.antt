@@ -1,4 +1,4 @@
--- How much an accepted file holds: at most 6 variables, 8 methods, 16 regions and 16 guards, by counting the keywords
+-- How much an accepted file holds: at most 6 variables, 16 tries, 8 methods, 16 regions and 16 guards, by counting the keywords
 -- that begin them; and no two variables of one name.
 use Prim.Native.Nat.{ℕ, zero, suc, _+_, _≤_}
 use native.Mathlib.Omega.{arith}
@@ -8,22 +8,24 @@ use mathlib.Core.List.{List, [], _∷_, _++_, append-assoc}
 use lib.ListN.{length, drop, length-append}
 use lib.Dec.{ltb}
 use Rattle.syntax.specs.Token.{Lexeme, name, key, mark, lbrace, rbrace, semicolon, Keyword, k-monitor, k-var, k-keep}
-use Rattle.syntax.specs.Token.{k-method, k-waituntil, Token, lexemes}
+use Rattle.syntax.specs.Token.{k-method, k-waituntil, k-try, Token, lexemes}
 use Rattle.syntax.specs.Decide.Lexeme.{isKey}
-use Rattle.syntax.specs.Tree.{Cond, Region, Var, Monitor, all, each, spellMethod, spellVar}
+use Rattle.syntax.specs.Tree.{Cond, Region, Var, Monitor, all, each, spellMethod, spellTry, spellVar}
 use Rattle.syntax.specs.Tree.{spellCond, spell}
-use Rattle.meaning.specs.Accepted.{regionsOf, NoneOffends, howMany, PastLimit, Declared, Accepted}
+use Rattle.meaning.specs.Accepted.{NoneOffends, howMany, PastLimit, Declared, Accepted}
+use Rattle.meaning.specs.Runs.{regionsOf}
 use Rattle.meaning.specs.Model.{placeIn, guardsOf, regions, guards}
 use Rattle.logic.proofs.Bools.{split, different}
 use Rattle.syntax.proofs.Lexemes.{decides-key}
 use Rattle.meaning.proofs.GrammarPlace.{cut}
 use Rattle.meaning.specs.Refusal.{upTo}
 use Rattle.meaning.proofs.KeywordPlaces.{times, times-append, vars-times, each-append}
-use Rattle.meaning.proofs.KeywordCounts.{methods-once, methods-wait}
+use Rattle.meaning.proofs.KeywordCounts.{methods-once, methods-wait, try-count}
 use Rattle.meaning.specs.Held.{behindKeep}
 
 pub record Sizes (m : Monitor) : Type 0 where
   pub vars : length (all (m .vars)) ≤ 6
+  pub tries : length (m .tries) ≤ 16
   pub methods : length (all (m .methods)) ≤ 8
   pub regions : length (regions m) ≤ 16
   pub guards : length (guards m) ≤ 16
@@ -66,11 +68,12 @@ unfolding spell
 in-methods k m =
     let ms = each spellMethod (all (m .methods)) in
     let tail = ms ++ (mark rbrace ∷ []) in
-    let kept = spellCond (m .keep) ++ (mark semicolon ∷ tail) in
+    let tries = each spellTry (m .tries) in
+    let kept = spellCond (m .keep) ++ (mark semicolon ∷ (tries ++ tail)) in
     let a = times-behind k (key k-monitor ∷ name (m .title) ∷ mark lbrace ∷ each spellVar (all (m .vars)))
     (key k-keep ∷ kept) in
-    let b = times-behind k (key k-keep ∷ spellCond (m .keep)) (mark semicolon ∷ tail) in
-    let c = times-behind k (mark semicolon ∷ []) tail in
+    let b = times-behind k (key k-keep ∷ spellCond (m .keep)) (mark semicolon ∷ (tries ++ tail)) in
+    let c = times-behind k (mark semicolon ∷ tries) tail in
     let d = times-front k ms (mark rbrace ∷ []) in
     omega arith
 
@@ -91,11 +94,13 @@ sizes-of ts m grammar counts =
     let at : (k : Keyword) → times k (spell m) ≡ times k (lexemes ts) = λ k. ap (times k) grammar in
     let vs = few k-var 6 ts (λ b c t e l h. counts b c t e (inl (l, h))) in
     let ms = few k-method 8 ts (λ b c t e l h. counts b c t e (inr (inl (l, h)))) in
-    let ws = few k-waituntil 16 ts (λ b c t e l h. counts b c t e (inr (inr (l, h)))) in
+    let ws = few k-waituntil 16 ts (λ b c t e l h. counts b c t e (inr (inr (inl (l, h))))) in
+    let cs = few k-try 16 ts (λ b c t e l h. counts b c t e (inr (inr (inr (l, h))))) in
     let few-regions : length (regionsOf (all (m .methods))) ≤ 16 =
     omega (arith, at k-waituntil, in-methods k-waituntil m, methods-wait (all (m .methods))) in
     record {
       vars = omega (arith, at k-var, in-vars k-var m, vars-times (all (m .vars)));
+      tries = omega (arith, at k-try, try-count m);
       methods = omega (arith, at k-method, in-methods k-method m, methods-once (all (m .methods)));
       regions = few-regions;
       guards = omega (arith, guards-few [] (regionsOf (all (m .methods))));

@@ -19,172 +19,19 @@ use Rattle.meaning.specs.Decide.Bodies.{outcome}
 use Rattle.meaning.specs.State.{count, stateAt, numberOf, starts}
 use Rattle.meaning.specs.Kept.{keptAt}
 use Rattle.meaning.specs.Answer.{answer, Verdict, accepted, refused}
-use Rattle.meaning.specs.Decide.Check.{placesOf, illRanged, keptAfter, breaks, firstFrom, brokenFrom, broken}
+use Rattle.meaning.specs.Decide.Check.{placesOf, illRanged, keptAfter, breaks, broken}
 use Rattle.meaning.specs.Decide.Check.{checkMeaning}
-use Rattle.meaning.specs.Accepted.{regionsOf, GoodRanges, State, BlockRuns, Keeps, Meets, IsRegion, Sound}
+use Rattle.meaning.specs.Accepted.{GoodRanges, Keeps, Meets, Sound}
+use Rattle.meaning.specs.Runs.{regionsOf, State, BlockRuns, IsRegion}
 use Rattle.meaning.specs.Model.{vars}
 use Rattle.logic.proofs.Bools.{both, and, split, clash, not-true, true-not, is-false, no-some, different}
 use Rattle.meaning.proofs.StateLaws.{state-at, number-of-state-at, number-below, state-at-number}
 use Rattle.meaning.proofs.BodyLaws.{runs-of-outcome, outcome-of-runs, block-runs-state}
 use Rattle.meaning.proofs.RangeLaws.{ill-ranged-first, ill-ranged-good, good-or-ill}
 use Rattle.meaning.specs.Refusal.{FirstBroken}
+use Rattle.meaning.proofs.Searching.{NoneBelow, passesAt, Quiet, FirstIn, quiet-or-first, none-where, some-where}
 use Rattle.meaning.proofs.Judged.{Judged, sound, ill-ranged, start-not-kept}
 use Rattle.meaning.proofs.Judged as judged
-
--- The first number that passes a test
-
--- the test fails from k up to n
-abbrev FailsFrom : (ℕ → Bool) → ℕ → ℕ → Type 0
-FailsFrom p k n = (i : ℕ) → k ≤ i → i < n → p i ≡ false
-
-one-more : (p : ℕ → Bool) (k n : ℕ) → p k ≡ false → FailsFrom p (k + 1) n → FailsFrom p k n
-one-more p k n f h i low high =
-    split (eqb k i) (λ e. rw (← eqb-true k i e) f)
-    (λ e. let ne : (k ≡ i → ⊥) = eqb-false k i e in h i (omega arith) high)
-
-first-none-of : (n k : ℕ) (p : ℕ → Bool) → FailsFrom p k (k + n) → firstFrom n k p ≡ none
-unfolding firstFrom
-first-none-of zero k p h = refl
-first-none-of (suc n) k p h =
-    cc (h k (omega arith) (omega arith), first-none-of n (k + 1) p (λ i low high. h i (omega arith) (omega arith)))
-
-first-some-of : (n k : ℕ) (p : ℕ → Bool) (j : ℕ) → k ≤ j → j < k + n → p j ≡ true → FailsFrom p k j → firstFrom n k p
-    ≡ some j
-unfolding firstFrom
-first-some-of zero k p j low high t h = absurd (omega arith)
-first-some-of (suc n) k p j low high t h =
-    split (eqb k j) (λ e. cc (eqb-true k j e))
-    (λ e. let ne : (k ≡ j → ⊥) = eqb-false k j e in
-    cc (
-      h k (omega arith) (omega arith),
-      first-some-of n (k + 1) p j (omega arith) (omega arith) t (λ i below above. h i (omega arith) above),
-    ))
-
-first-cases : (n k : ℕ) (p : ℕ → Bool)
-    → FailsFrom p k (k + n) ⊎ ((j : ℕ) × (k ≤ j) × (j < k + n) × (p j ≡ true) × FailsFrom p k j)
-first-cases zero k p = inl (λ i low high. absurd (omega arith))
-first-cases (suc n) k p =
-    split (p k) (λ t. inr (k, omega arith, omega arith, t, λ i low high. absurd (omega arith)))
-    (λ f. ⊎-elim
-    (λ h. inl (one-more p k (k + suc n) f (λ i low high. h i low (omega arith))))
-    (λ t. inr (t .0, omega arith, omega arith, t .3, one-more p k (t .0) f (t .4))) (first-cases n (k + 1) p))
-
--- no number below n passes; j is the first that does
-abbrev NoneBelow : (ℕ → Bool) → ℕ → Type 0
-NoneBelow p n = (i : ℕ) → i < n → p i ≡ false
-
-abbrev FirstBelow : (ℕ → Bool) → ℕ → ℕ → Type 0
-FirstBelow p n j = (j < n) × (p j ≡ true) × NoneBelow p j
-
-none-first : (n : ℕ) (p : ℕ → Bool) → NoneBelow p n → firstFrom n 0 p ≡ none
-none-first n p h = first-none-of n 0 p (λ i low high. h i (omega arith))
-
-some-first : (n : ℕ) (p : ℕ → Bool) (j : ℕ) → FirstBelow p n j → firstFrom n 0 p ≡ some j
-some-first n p j t = first-some-of n 0 p j (omega arith) (omega arith) (t .1) (λ i low high. t .2 i high)
-
-none-or-first : (n : ℕ) (p : ℕ → Bool) → NoneBelow p n ⊎ ((j : ℕ) × FirstBelow p n j)
-none-or-first n p =
-    ⊎-elim (λ h. inl (λ i high. h i (omega arith) (omega arith)))
-    (λ t. inr (t .0, (omega arith, t .3, λ i high. t .4 i (omega arith) high))) (first-cases n 0 p)
-
--- 9, by the numbers of states
-
-module _ (vs : List Var) (kept : List ℤ → Bool) where
-  breaksAt : Region → ℕ → Bool
-  breaksAt r n = breaks vs kept r (stateAt vs n)
-
-  -- no state breaks in a region; state n is the first that does
-  abbrev Quiet : Region → Type 0
-  Quiet r = NoneBelow (breaksAt r) (count vs)
-
-  abbrev FirstAt : Region → ℕ → Type 0
-  FirstAt r n = FirstBelow (breaksAt r) (count vs) n
-
-  broken-step : (k : ℕ) (r : Region) (rs : List Region) → Quiet r
-      → brokenFrom vs kept k (r ∷ rs) ≡ brokenFrom vs kept (k + 1) rs
-  unfolding brokenFrom breaksAt
-  broken-step k r rs q = cc (none-first (count vs) (breaksAt r) q)
-
-  broken-stop : (k : ℕ) (r : Region) (rs : List Region) (n : ℕ) → FirstAt r n
-      → brokenFrom vs kept k (r ∷ rs) ≡ some (k, n)
-  unfolding brokenFrom breaksAt
-  broken-stop k r rs n f = cc (some-first (count vs) (breaksAt r) n f)
-
-  -- all regions of a list are quiet; those below number i are
-  abbrev AllQuiet : List Region → Type 0
-  AllQuiet rs = (j : ℕ) (q : Region) → getElem? rs j ≡ some q → Quiet q
-
-  abbrev QuietBelow : List Region → ℕ → Type 0
-  QuietBelow rs i = (j : ℕ) (q : Region) → j < i → getElem? rs j ≡ some q → Quiet q
-
-  all-quiet : (r : Region) (rs : List Region) → Quiet r → AllQuiet rs → AllQuiet (r ∷ rs)
-  all-quiet r rs quiet h zero q e = subst Quiet (Option·some-injective _ _ e) quiet
-  all-quiet r rs quiet h (suc j) q e = h j q e
-
-  quiet-below : (r : Region) (rs : List Region) (i : ℕ) → Quiet r → QuietBelow rs i → QuietBelow (r ∷ rs) (suc i)
-  quiet-below r rs i quiet h zero q low e = subst Quiet (Option·some-injective _ _ e) quiet
-  quiet-below r rs i quiet h (suc j) q low e = h j q (omega arith) e
-
-  broken-none-of : (k : ℕ) (rs : List Region) → AllQuiet rs → brokenFrom vs kept k rs ≡ none
-  unfolding brokenFrom
-  broken-none-of k [] h = refl
-  broken-none-of k (r ∷ rs) h = broken-step k r rs (h 0 r refl) ∙ broken-none-of (k + 1) rs (λ j. h (suc j))
-
-  broken-some-of : (k : ℕ) (rs : List Region) (i : ℕ) (r : Region) (n : ℕ) → getElem? rs i ≡ some r → FirstAt r n
-      → QuietBelow rs i
-      → brokenFrom vs kept k rs ≡ some (k + i, n)
-  broken-some-of k [] i r n e f h = no-some e
-  broken-some-of k (q ∷ rs) zero r n e f h =
-      let same : q ≡ r = Option·some-injective _ _ e in
-      rw (add-zero, same) (broken-stop k r rs n f)
-  broken-some-of k (q ∷ rs) (suc i) r n e f h =
-      let sums : k + suc i ≡ k + 1 + i = omega arith in
-      rw sums (broken-step k q rs (h 0 q (omega arith) refl)
-      ∙ broken-some-of (k + 1) rs i r n e f (λ j u low. h (suc j) u (omega arith)))
-
-  abbrev FirstIn : List Region → ℕ → ℕ → Type 0
-  FirstIn rs i n = (r : Region) × (getElem? rs i ≡ some r) × FirstAt r n × QuietBelow rs i
-
-  quiet-or-first : (rs : List Region) → AllQuiet rs ⊎ ((i n : ℕ) × FirstIn rs i n)
-  quiet-or-first [] = inl (λ j q e. no-some e)
-  quiet-or-first (r ∷ rs) =
-      ⊎-elim
-      (λ quiet. ⊎-elim (λ h. inl (all-quiet r rs quiet h))
-      (λ t. let (q, e, f, h) = t .2 in inr (suc (t .0), t .1, (q, e, f, quiet-below r rs (t .0) quiet h)))
-      (quiet-or-first rs))
-      (λ t. inr (0, t .0, (r, refl, t .1, λ j q low. absurd (omega arith)))) (none-or-first (count vs) (breaksAt r))
-
-  none-broken : (rs : List Region) → AllQuiet rs → brokenFrom vs kept 0 rs ≡ none
-  none-broken rs h = broken-none-of 0 rs h
-
-  some-broken : (rs : List Region) (i n : ℕ) → FirstIn rs i n → brokenFrom vs kept 0 rs ≡ some (i, n)
-  some-broken rs i n (r, e, f, h) = rw (zero-add) at (broken-some-of 0 rs i r n e f h)
-
-  pub broken-none-iff : (rs : List Region)
-      → (brokenFrom vs kept 0 rs ≡ none)
-      ↔ ((j : ℕ) (q : Region) → getElem? rs j ≡ some q → (n : ℕ) → n < count vs
-      → breaks vs kept q (stateAt vs n) ≡ false)
-  unfolding breaksAt
-  broken-none-iff rs = (
-    λ e. ⊎-elim (λ h. h) (λ t. no-some (sym e ∙ some-broken rs (t .0) (t .1) (t .2))) (quiet-or-first rs),
-    none-broken rs,
-  )
-
-  -- region i breaks at state n, at no lower state, and no lower region breaks
-  pub broken-some-iff : (rs : List Region) (i n : ℕ)
-      → (brokenFrom vs kept 0 rs ≡ some (i, n))
-      ↔ ((r : Region) × (getElem? rs i ≡ some r)
-      × ((n < count vs) × (breaks vs kept r (stateAt vs n) ≡ true)
-      × ((k : ℕ) → k < n → breaks vs kept r (stateAt vs k) ≡ false))
-      × ((j : ℕ) (q : Region) → j < i → getElem? rs j ≡ some q → (k : ℕ) → k < count vs
-      → breaks vs kept q (stateAt vs k) ≡ false))
-  unfolding breaksAt
-  broken-some-iff rs i n = (
-    λ e. ⊎-elim (λ h. no-some (sym (none-broken rs h) ∙ e))
-        (λ t. let same = Option·some-injective _ _ (sym (some-broken rs (t .0) (t .1) (t .2)) ∙ e) in
-        subst₂ (FirstIn rs) (ap (λ z. z .0) same) (ap (λ z. z .1) same) (t .2)) (quiet-or-first rs),
-    some-broken rs i n,
-  )
 
 -- 9, by values
 
@@ -225,29 +72,29 @@ module _ (m : Monitor) where
 
   module _ (good : GoodRanges (vars m)) where
     -- what holds of the state with each number below n holds of each state with a number below n
-    keeps-below : (r : Region) (n : ℕ) → NoneBelow (breaksAt (vars m) (keptAt m) r) n → (as′ : List ℤ)
+    keeps-below : (r : Region) (n : ℕ) → NoneBelow (passesAt (vars m) (breaks (vars m) (keptAt m)) r) n → (as′ : List ℤ)
         → numberOf (vars m) as′ < n → Meets m r as′ → Keeps m r as′
-    unfolding breaksAt
+    unfolding passesAt
     keeps-below r n h as′ low q =
         keeps-or-breaks r as′ (rw (state-at-number good (q .state)) at (h (numberOf (vars m) as′) low)) q
 
     below-keeps : (r : Region) (n : ℕ) → n ≤ count (vars m)
         → ((as′ : List ℤ) → numberOf (vars m) as′ < n → Meets m r as′ → Keeps m r as′)
-        → NoneBelow (breaksAt (vars m) (keptAt m) r) n
-    unfolding breaksAt
+        → NoneBelow (passesAt (vars m) (breaks (vars m) (keptAt m)) r) n
+    unfolding passesAt
     below-keeps r n few h i low = is-false (λ b.
         let t = breaks-of r (stateAt (vars m) i) (state-at good i (omega arith)) b in
         t .1 (h (stateAt (vars m) i) (rw (number-of-state-at (vars m) i (omega arith)) low) (t .0)))
 
     -- no state breaks in a region, as its numbers say and as its values do
-    keeps-quiet : (r : Region) → Quiet (vars m) (keptAt m) r → (as′ : List ℤ) → Meets m r as′ → Keeps m r as′
+    keeps-quiet : (r : Region) → Quiet (vars m) (breaks (vars m) (keptAt m)) r → (as′ : List ℤ) → Meets m r as′ → Keeps m r as′
     keeps-quiet r h as′ q = keeps-below r (count (vars m)) h as′ (number-below good (q .state)) q
 
-    quiet-keeps : (r : Region) → ((as′ : List ℤ) → Meets m r as′ → Keeps m r as′) → Quiet (vars m) (keptAt m) r
+    quiet-keeps : (r : Region) → ((as′ : List ℤ) → Meets m r as′ → Keeps m r as′) → Quiet (vars m) (breaks (vars m) (keptAt m)) r
     quiet-keeps r h = below-keeps r (count (vars m)) (omega arith) (λ as′ low. h as′)
 
-    first-broken : (i n : ℕ) → FirstIn (vars m) (keptAt m) (regionsOf (all (m .methods))) i n → FirstBroken m i n
-    unfolding IsRegion breaksAt
+    first-broken : (i n : ℕ) → FirstIn (vars m) (breaks (vars m) (keptAt m)) (regionsOf (all (m .methods))) i n → FirstBroken m i n
+    unfolding IsRegion passesAt
     first-broken i n (r, e, f, h) =
         let t = breaks-of r (stateAt (vars m) n) (state-at good n (f .0)) (f .1) in
         record {
@@ -260,8 +107,8 @@ module _ (m : Monitor) where
           lower-region = λ j q as′ low e′. keeps-quiet q (h j q low e′) as′;
         }
 
-    broken-first : (i n : ℕ) → FirstBroken m i n → FirstIn (vars m) (keptAt m) (regionsOf (all (m .methods))) i n
-    unfolding IsRegion breaksAt
+    broken-first : (i n : ℕ) → FirstBroken m i n → FirstIn (vars m) (breaks (vars m) (keptAt m)) (regionsOf (all (m .methods))) i n
+    unfolding IsRegion passesAt
     broken-first i n t = (
       t .region,
       t .numbered,
@@ -301,13 +148,13 @@ module _ (ts : List Token) (m : Monitor) where
   unfolding IsRegion broken
   says-judged (sound s) =
       says-accepted (ill-ranged-good (placesOf k-var ts) (s .ranges) (s .few)) (s .start)
-      (none-broken (vars m) (keptAt m) (regionsOf (all (m .methods)))
+      (none-where (vars m) (breaks (vars m) (keptAt m)) (regionsOf (all (m .methods)))
       (λ j q e. quiet-keeps m (s .ranges) q (λ as′. s .keeps j q as′ e)))
   says-judged (ill-ranged {i} t) = says-7 (getD (placesOf k-var ts) i 0) (ill-ranged-first (placesOf k-var ts) t)
   says-judged (start-not-kept good few f) = says-8 (ill-ranged-good (placesOf k-var ts) good few) f
   says-judged (judged.broken {k} {n} good few t b) =
       says-9 (ill-ranged-good (placesOf k-var ts) good few) t k n
-      (some-broken (vars m) (keptAt m) (regionsOf (all (m .methods))) k n (broken-first m good k n b))
+      (some-where (vars m) (breaks (vars m) (keptAt m)) (regionsOf (all (m .methods))) k n (broken-first m good k n b))
 
   -- the check's verdict has grounds
   abbrev Grounds : Type 0
@@ -327,7 +174,7 @@ module _ (ts : List Token) (m : Monitor) where
         }),
       ))
       (λ b. (refused (answer 9 (b .0) (b .1)), judged.broken good few t (first-broken m good (b .0) (b .1) (b .2))))
-      (quiet-or-first (vars m) (keptAt m) (regionsOf (all (m .methods))))
+      (quiet-or-first (vars m) (breaks (vars m) (keptAt m)) (regionsOf (all (m .methods))))
 
   grounds : Grounds
   grounds =

@@ -41,11 +41,11 @@ module _ (file : List ℕ) (short : length file ≤ 8192) where
       check-4 e = cc by-tokens
 
       module _ {m : Monitor} {us : List Lexeme} (tree : read (lexemes ts) ≡ got m us) where
-        pub check-5 : {k : ℕ} → pastLimit 0 0 0 ts ≡ some k → check file ≡ refused (answer 5 k 0)
+        pub check-5 : {k : ℕ} → pastLimit 0 0 0 0 ts ≡ some k → check file ≡ refused (answer 5 k 0)
         unfolding checkTokens
         check-5 e = cc by-tokens
 
-        module _ (few : pastLimit 0 0 0 ts ≡ none) where
+        module _ (few : pastLimit 0 0 0 0 ts ≡ none) where
           pub check-6 : {k : ℕ} → misnamed (number 0) [] [] ts ≡ some k → check file ≡ refused (answer 6 k 0)
           unfolding checkTokens
           check-6 e = cc by-tokens

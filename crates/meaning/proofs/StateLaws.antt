@@ -13,7 +13,8 @@ use borrow.Author.Tests.{ltb-true}
 use Rattle.syntax.specs.Tree.{Var}
 use Rattle.meaning.specs.Value.{intOf, inRange, less}
 use Rattle.meaning.specs.State.{size, count, stateAt, numberOf, Earlier, by-first, by-rest, starts}
-use Rattle.meaning.specs.Accepted.{AtMost, GoodRange, GoodRanges, no-vars, one-var, State, no-values, one-value}
+use Rattle.meaning.specs.Accepted.{AtMost, GoodRange, GoodRanges, no-vars, one-var}
+use Rattle.meaning.specs.Runs.{State, no-values, one-value}
 use Rattle.logic.proofs.Bools.{and, split, true-not}
 use Rattle.meaning.proofs.Integers.{up-distance, in-range-up, up-of-in-range, distance-in-range}
 use Rattle.meaning.proofs.Integers.{distances-ordered, equal-of-not-less}

@@ -287,7 +287,7 @@ module _ (file : List ℕ) where
   Grounds = (v : Verdict) × HasVerdict file v
 
   by-tree : (ts : List Token) (m : Monitor) → Past4 file ts m → Grounds
-  by-tree ts m p = limit (pastLimit 0 0 0 ts) refl
+  by-tree ts m p = limit (pastLimit 0 0 0 0 ts) refl
     where
       name : (o : Option ℕ) → misnamed (number 0) [] [] ts ≡ o → Past5 file ts m → Grounds
       name (some k) e q = (refused (answer 6 k 0), wrong-name q (misnamed-first ts k .0 e))
@@ -297,7 +297,7 @@ module _ (file : List ℕ) where
             (check-meaning-iff ts m _ .0 refl),
       )
 
-      limit : (o : Option ℕ) → pastLimit 0 0 0 ts ≡ o → Grounds
+      limit : (o : Option ℕ) → pastLimit 0 0 0 0 ts ≡ o → Grounds
       limit (some k) e = (refused (answer 5 k 0), past-limit p (past-first ts k .0 e))
       limit none e = name (misnamed (number 0) [] [] ts) refl (record { past = p; counts = past-none ts .0 e })
 

@@ -8,13 +8,18 @@ use Rattle.meaning.specs.Answer.{answer}
 use Rattle.meaning.specs.Calls.{notPlaced}
 use Rattle.meaning.specs.Decide.Calls.{written}
 
-pub written-short : (table buffer : List ℕ) → length buffer < length table
-    → written table buffer ≡ notPlaced (answer 10 0 0) buffer
+pub written-short : (table : List ℕ) (tries : ℕ) (buffer : List ℕ) → length buffer < length table
+    → written table tries buffer ≡ notPlaced (answer 10 0 0) buffer
 unfolding written
-written-short table buffer h = rw (lt-ltb (length buffer) (length table) h, written)
+written-short table tries buffer h = rw (lt-ltb (length buffer) (length table) h, written)
 
-pub written-fits : (table buffer : List ℕ) → length table ≤ length buffer
-    → written table buffer
-    ≡ record { answer = answer 0 0 0; length = length table; buffer = table ++ drop (length table) buffer }
+pub written-fits : (table : List ℕ) (tries : ℕ) (buffer : List ℕ) → length table ≤ length buffer
+    → written table tries buffer
+    ≡ record {
+      answer = answer 0 0 0;
+      length = length table;
+      chosen = tries;
+      buffer = table ++ drop (length table) buffer;
+    }
 unfolding written
-written-fits table buffer h = rw (le-ltb (length buffer) (length table) h, written)
+written-fits table tries buffer h = rw (le-ltb (length buffer) (length table) h, written)

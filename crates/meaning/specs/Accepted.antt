@@ -5,19 +5,18 @@ use mathlib.Core.Path.{_≡_}
 use mathlib.Core.Bool.{Bool, true, false, _||_}
 use mathlib.Core.Logic.{_⊎_}
 use mathlib.Core.List.{List, [], _∷_, _++_}
-use mathlib.Core.Option.{some}
-use lib.ListN.{length, getElem?}
+use lib.ListN.{length}
 use lib.IntN.{ℤ, pos, negℤ}
-use Rattle.syntax.specs.Limits.{mostBytes, mostTokens, mostOpen, mostVars, mostMethods}
+use Rattle.syntax.specs.Limits.{mostBytes, mostTokens, mostOpen, mostVars, mostMethods, mostTries}
 use Rattle.machine.specs.Limits.{mostRegions, mostStates}
-use Rattle.syntax.specs.Token.{Lexeme, name, key, Keyword, k-monitor, k-var, k-method, k-waituntil, Token}
+use Rattle.syntax.specs.Token.{Lexeme, name, key, Keyword, k-monitor, k-var, k-method, k-waituntil, k-try, Token}
 use Rattle.syntax.specs.Decide.Lexeme.{isKey}
 use Rattle.syntax.specs.Token.{lbrace, rbrace, lparen, rparen, lexemes}
 use Rattle.syntax.specs.Decide.Lexeme.{isMark}
-use Rattle.syntax.specs.Tree.{Expr, Cond, Block, end, then, Stmt, assign, if-then, if-else, Region, Var, Monitor, all}
-use Rattle.syntax.specs.Tree.{Method, spell}
-use Rattle.meaning.specs.Value.{intOf, less, inRange, truth, exprValue}
+use Rattle.syntax.specs.Tree.{Region, Var, Monitor, all, spell}
+use Rattle.meaning.specs.Value.{intOf, less, truth}
 use Rattle.meaning.specs.State.{count, starts}
+use Rattle.meaning.specs.Runs.{State, BlockRuns, IsRegion}
 use Rattle.meaning.specs.Kept.{keptAt}
 use Rattle.syntax.specs.Spelling.{Cover}
 
@@ -59,6 +58,7 @@ PastLimit before t =
     ((t .lexeme ≡ key k-var) × (mostVars ≤ howMany (isKey k-var) before))
     ⊎ ((t .lexeme ≡ key k-method) × (mostMethods ≤ howMany (isKey k-method) before))
     ⊎ ((t .lexeme ≡ key k-waituntil) × (mostRegions ≤ howMany (isKey k-waituntil) before))
+    ⊎ ((t .lexeme ≡ key k-try) × (mostTries ≤ howMany (isKey k-try) before))
 
 -- 6: a keyword stands last (R 6.20, 6.21, 6.22)
 unfoldable pub Behind : Keyword → List Token → Type 0
@@ -96,45 +96,6 @@ pub data GoodRanges : List Var → Type 0 where
   no-vars : GoodRanges []
   one-var : {v : Var} {vs : List Var} → GoodRange v → GoodRanges vs → GoodRanges (v ∷ vs)
 
--- States: one value in its range for each variable (R 3.13)
-pub data State : List Var → List ℤ → Type 0 where
-  no-values : State [] []
-  one-value : {v : Var} {vs : List Var} {a : ℤ} {as′ : List ℤ} → inRange v a ≡ true → State vs as′
-      → State (v ∷ vs) (a ∷ as′)
-
--- the values after an assignment to the variable named x: the first of that name takes the value, within its range
--- (R 4.13)
-pub data Assigns : List Var → List ℤ → List ℕ → ℤ → List ℤ → Type 0 where
-  here :
-      {v : Var} {vs : List Var} {a b : ℤ} {as′ : List ℤ} {x : List ℕ} → v .title ≡ x → inRange v b ≡ true
-      → Assigns (v ∷ vs) (a ∷ as′) x b (b ∷ as′)
-  later :
-      {v : Var} {vs : List Var} {a b : ℤ} {as′ bs : List ℤ} {x : List ℕ} → (v .title ≡ x → ⊥) → Assigns vs as′ x b bs
-      → Assigns (v ∷ vs) (a ∷ as′) x b (a ∷ bs)
-
--- a body's run, in which each assignment stays in range as it is made
-mutual
-  -- (R 4.11, 4.18)
-  pub data BlockRuns (vs : List Var) : Block → List ℤ → List ℤ → Type 0 where
-    ends : {as′ : List ℤ} → BlockRuns vs end as′ as′
-    goes-on :
-        {s : Stmt} {b : Block} {as′ bs cs : List ℤ} → StmtRuns vs s as′ bs → BlockRuns vs b bs cs
-        → BlockRuns vs (then s b) as′ cs
-
-  -- (R 4.12, 4.13, 4.16, 4.17)
-  pub data StmtRuns (vs : List Var) : Stmt → List ℤ → List ℤ → Type 0 where
-    assigns : {x : List ℕ} {e : Expr} {as′ bs : List ℤ} → Assigns vs as′ x (exprValue vs as′ e) bs
-        → StmtRuns vs (assign x e) as′ bs
-    if-true : {c : Cond} {b : Block} {as′ bs : List ℤ} → truth c vs as′ ≡ true → BlockRuns vs b as′ bs
-        → StmtRuns vs (if-then c b) as′ bs
-    if-false : {c : Cond} {b : Block} {as′ : List ℤ} → truth c vs as′ ≡ false → StmtRuns vs (if-then c b) as′ as′
-    else-true :
-        {c : Cond} {a b : Block} {as′ bs : List ℤ} → truth c vs as′ ≡ true → BlockRuns vs a as′ bs
-        → StmtRuns vs (if-else c a b) as′ bs
-    else-false :
-        {c : Cond} {a b : Block} {as′ bs : List ℤ} → truth c vs as′ ≡ false → BlockRuns vs b as′ bs
-        → StmtRuns vs (if-else c a b) as′ bs
-
 -- 9: the body keeps the kept condition and every range from these values (R 5.4)
 unfoldable pub Keeps : Monitor → Region → List ℤ → Type 0
 Keeps m r as′ = (bs : List ℤ) × BlockRuns (all (m .vars)) (r .body) as′ bs × (keptAt m bs ≡ true)
@@ -144,15 +105,6 @@ pub record Meets (m : Monitor) (r : Region) (as′ : List ℤ) : Type 0 where
   pub state : State (all (m .vars)) as′
   pub kept : keptAt m as′ ≡ true
   pub guard : truth (r .guard) (all (m .vars)) as′ ≡ true
-
--- the regions of all methods, in file order (R 3.2)
-unfoldable pub regionsOf : List Method → List Region
-regionsOf [] = []
-regionsOf (m ∷ ms) = all (m .regions) ++ regionsOf ms
-
--- the region with a number (R 3.2)
-unfoldable pub IsRegion : Monitor → ℕ → Region → Type 0
-IsRegion m k r = getElem? (regionsOf (all (m .methods))) k ≡ some r
 
 -- 7 to 9 do not arise (R 5.4, 5.7)
 pub record Sound (m : Monitor) : Type 0 where

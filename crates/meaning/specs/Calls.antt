@@ -1,9 +1,9 @@
 -- What the library's calls give: of placing the answer, the length and every byte of the buffer; of a run the record or
 -- the answer.
-use Prim.Native.Nat.{ℕ, zero, suc, _+_, _*_, _<_}
+use Prim.Native.Nat.{ℕ, _<_}
 use mathlib.Core.Path.{_≡_}
-use mathlib.Core.Bool.{Bool, true, false}
-use mathlib.Core.List.{List, [], _∷_}
+use mathlib.Core.Bool.{true}
+use mathlib.Core.List.{List}
 use lib.ListN.{length, getD}
 use lib.IntN.{ℤ}
 use Rattle.syntax.specs.Tree.{Monitor}
@@ -13,42 +13,27 @@ use Rattle.machine.specs.Decide.Table.{entryOf}
 use Rattle.meaning.specs.State.{count, stateAt}
 use Rattle.meaning.specs.Kept.{keptAt}
 use Rattle.meaning.specs.Answer.{Answer, answer}
+use Rattle.meaning.specs.Bits.{eachFrom, bits, ones}
 use Rattle.meaning.specs.Model.{vars, model}
 
--- Placing: the answer, the table's length, and every byte of the buffer afterwards
+-- Placing: the answer, the table's length, the chosen tries as sixteen bits, and every byte of the buffer afterwards
 
 -- (R 7.13)
 pub record Placing : Type 0 where
   pub answer : Answer
   pub length : ℕ
+  pub chosen : ℕ
   pub buffer : List ℕ
 
 -- "A refusal writes to no buffer" (R 7.14, 7.15)
 abbrev pub notPlaced : Answer → List ℕ → Placing
-notPlaced a buffer = record { answer = a; length = 0; buffer = buffer }
+notPlaced a buffer = record { answer = a; length = 0; chosen = 0; buffer = buffer }
 
 -- Running
 
 -- (R 9.1)
 pub data Machine : Type 0 where
   plain-machine table-machine : Machine
-
--- what a function gives for each of n threads from t on
-unfoldable pub eachThread : {A : Type 0} → ℕ → ℕ → (ℕ → A) → List A
-eachThread zero t f = []
-eachThread (suc n) t f = f t ∷ eachThread n (t + 1) f
-
--- a set of threads as a number, the first thread the lowest bit (R 10.8)
-unfoldable pub bits : List Bool → ℕ
-bits [] = 0
-bits (true ∷ bs) = 1 + 2 * bits bs
-bits (false ∷ bs) = 2 * bits bs
-
--- how many threads a set has (R 10.9)
-unfoldable pub ones : List Bool → ℕ
-ones [] = 0
-ones (true ∷ bs) = suc (ones bs)
-ones (false ∷ bs) = ones bs
 
 -- the record of a run: each variable's value, the place of each of sixteen threads, the set of notified threads and how
 -- many (R 10.6, 10.7, 10.8, 10.9)
@@ -67,9 +52,9 @@ unfoldable pub recordOf : Monitor → Config → Record
 recordOf m c =
     record {
       values = stateAt (vars m) (c .state);
-      places = eachThread threads 0 (c .threads .place);
-      notified = bits (eachThread threads 0 (c .notified));
-      howMany = ones (eachThread threads 0 (c .notified));
+      places = eachFrom threads 0 (c .threads .place);
+      notified = bits (eachFrom threads 0 (c .notified));
+      howMany = ones (eachFrom threads 0 (c .notified));
     }
 
 -- what a run gives: its record, the file's refusal, or a refusal of the start or of the trace (R 8.13, 10.5)

@@ -8,7 +8,7 @@ use lib.ListN.{length, getD, getElem?}
 use lib.IntN.{ℤ, pos, _-ℤ_}
 use Rattle.syntax.specs.Limits.{mostVars}
 use Rattle.syntax.specs.Token.{Lexeme, mark, semicolon, rbrace}
-use Rattle.syntax.specs.Tree.{Var, Monitor, all, each, spellCond, spellMethod}
+use Rattle.syntax.specs.Tree.{Var, Monitor, all, each, spellCond, spellTry, spellMethod}
 use Rattle.meaning.specs.Value.{intOf}
 
 -- a value with 128 added
@@ -35,4 +35,6 @@ pub record Ranges (vs : List Var) (lows highs : List ℕ) : Type 0 where
 
 -- what stands behind `keep` in a file that a tree spells
 unfoldable pub behindKeep : Monitor → List Lexeme
-behindKeep m = spellCond (m .keep) ++ (mark semicolon ∷ (each spellMethod (all (m .methods)) ++ (mark rbrace ∷ [])))
+behindKeep m =
+    spellCond (m .keep)
+    ++ (mark semicolon ∷ (each spellTry (m .tries) ++ (each spellMethod (all (m .methods)) ++ (mark rbrace ∷ []))))

@@ -1,5 +1,8 @@
 pub mod Value
 pub mod State
+pub mod Runs
+pub mod Bits
+pub mod Choice
 pub mod Kept
 pub mod Answer
 pub mod Accepted

@@ -15,7 +15,7 @@ use Rattle.meaning.specs.Value.{truth}
 use Rattle.meaning.specs.Decide.Bodies.{outcome}
 use Rattle.meaning.specs.State.{count, stateAt, numberOf}
 use Rattle.meaning.specs.Kept.{keptAt}
-use Rattle.meaning.specs.Accepted.{regionsOf}
+use Rattle.meaning.specs.Runs.{regionsOf}
 
 -- (R 3.6)
 unfoldable pub sameLexeme : Lexeme → Lexeme → Bool

@@ -9,8 +9,9 @@ use lib.ListN.{length, take}
 use lib.IntN.{ℤ, pos, _-ℤ_}
 use lib.Dec.{ltb}
 use Rattle.syntax.specs.Token.{Lexeme, name, key, mark, lbrace, rbrace, lparen, rparen, semicolon, Token, lexemes}
-use Rattle.syntax.specs.Token.{k-monitor, k-var, k-keep, k-method, k-waituntil}
-use Rattle.syntax.specs.Tree.{Region, Method, Var, Monitor, all, each, spellCond, spellBlock, spellRegion, spellMethod}
+use Rattle.syntax.specs.Token.{k-monitor, k-var, k-keep, k-method, k-waituntil, k-try}
+use Rattle.syntax.specs.Tree.{Cond, Region, Method, Var, Monitor, all, each, spellCond, spellBlock, spellTry}
+use Rattle.syntax.specs.Tree.{spellRegion, spellMethod}
 use Rattle.meaning.specs.Decide.Bodies.{outcome}
 use Rattle.meaning.specs.State.{stateAt, numberOf}
 use Rattle.meaning.specs.Refusal.{upTo}
@@ -41,10 +42,14 @@ pub record Between (ts : List Token) (pre : List Lexeme) (opener : Lexeme) (size
   pub begins : from ≡ opened + size
   pub closes : TokenAt ts (pre ++ (opener ∷ part)) closer to
 
--- what stands before the first of some methods, and before the first of some regions of a method (R 16.4)
+-- what stands before the first of some tries, before the first of some methods, and before the first of some regions of
+-- a method (R 16.4)
+unfoldable pub upToTry : Monitor → List Cond → List Lexeme
+upToTry m before =
+    upTo m (all (m .vars)) ++ (key k-keep ∷ (spellCond (m .keep) ++ (mark semicolon ∷ each spellTry before)))
+
 unfoldable pub upToMethod : Monitor → List Method → List Lexeme
-upToMethod m before =
-    upTo m (all (m .vars)) ++ (key k-keep ∷ (spellCond (m .keep) ++ (mark semicolon ∷ each spellMethod before)))
+upToMethod m before = upToTry m (m .tries) ++ each spellMethod before
 
 unfoldable pub upToRegion : Monitor → List Method → Method → List Region → List Lexeme
 upToRegion m methods x before =
@@ -57,6 +62,10 @@ module _ (ts : List Token) (m : Monitor) where
 
   unfoldable pub KeepAt : ℕ → ℕ → Type 0
   KeepAt = Between ts (upTo m (all (m .vars))) (key k-keep) 4 (spellCond (m .keep)) (mark semicolon)
+
+  -- the condition of the try behind some: what stands between `try` and its semicolon (R 16.7)
+  unfoldable pub TryAt : List Cond → Cond → ℕ → ℕ → Type 0
+  TryAt before c = Between ts (upToTry m before) (key k-try) 3 (spellCond c) (mark semicolon)
 
   -- the name of the variable behind some (R 16.5)
   unfoldable pub VariableAt : List Var → Var → ℕ → ℕ → Type 0

@@ -13,7 +13,8 @@ use Rattle.meaning.specs.Answer.{Answer, answer}
 use Rattle.meaning.specs.Answer as verdict
 use Rattle.meaning.specs.State.{stateAt}
 use Rattle.meaning.specs.Model.{vars, kept, holds}
-use Rattle.meaning.specs.Calls.{Machine, plain-machine, table-machine, eachThread, bits}
+use Rattle.meaning.specs.Calls.{Machine, plain-machine, table-machine}
+use Rattle.meaning.specs.Bits.{eachFrom, bits}
 use Rattle.meaning.specs.Lines.{placeByte}
 use Rattle.meaning.specs.Decide.Check.{check}
 use Rattle.meaning.specs.Decide.Table.{forEach}
@@ -28,15 +29,15 @@ pointSize = 33
 
 -- each variable's value plus 128, and 128 in the slots without a variable (R 15.6)
 unfoldable pub valueBytes : List ℤ → List ℕ
-valueBytes values = eachThread mostVars 0 (λ k. natAbs (getD values k (pos 0) +ℤ pos 128))
+valueBytes values = eachFrom mostVars 0 (λ k. natAbs (getD values k (pos 0) +ℤ pos 128))
 
 -- the sixteen places, as `runner` prints them (R 15.7, 13.13)
 unfoldable pub placeBytes : Threads → List ℕ
-placeBytes p = eachThread threads 0 (λ t. placeByte (p .place t))
+placeBytes p = eachFrom threads 0 (λ t. placeByte (p .place t))
 
 -- a set of sixteen, low byte first (R 15.8)
 unfoldable pub setBytes : (ℕ → Bool) → List ℕ
-setBytes f = bits (eachThread threads 0 f) % 256 ∷ bits (eachThread threads 0 f) / 256 ∷ []
+setBytes f = bits (eachFrom threads 0 f) % 256 ∷ bits (eachFrom threads 0 f) / 256 ∷ []
 
 -- the numbers, the places and the guards that hold: once for both machines (R 15.6, 15.7, 15.8)
 unfoldable pub sharedBytes : Monitor → Config → List ℕ

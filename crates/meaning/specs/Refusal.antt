@@ -13,7 +13,8 @@ use Rattle.syntax.specs.Tree.{Region, Var, Monitor, all, spell, InGrammar, Viab
 use Rattle.meaning.specs.State.{size, count, stateAt, numberOf, starts}
 use Rattle.meaning.specs.Kept.{keptAt}
 use Rattle.meaning.specs.Answer.{answer, Answer, Verdict, accepted, refused}
-use Rattle.meaning.specs.Accepted.{Accepted, GoodRange, GoodRanges, Keeps, Meets, IsRegion, NoneOffends}
+use Rattle.meaning.specs.Accepted.{Accepted, GoodRange, GoodRanges, Keeps, Meets, NoneOffends}
+use Rattle.meaning.specs.Runs.{IsRegion}
 use Rattle.meaning.specs.Accepted.{FirstOffends, Crowded, PastLimit, Misnamed}
 use Rattle.syntax.specs.Spelling.{Cover, NoTokenAt}
 

@@ -13,7 +13,7 @@ use Rattle.meaning.proofs.Verdicts.{refusal-number, refused-iff}
 use Rattle.meaning.specs.Model.{vars}
 use Rattle.meaning.specs.State.{starts, numberOf}
 use Rattle.meaning.specs.Held.{Biased}
-use Rattle.meaning.specs.Accepted.{State}
+use Rattle.meaning.specs.Runs.{State}
 use Rattle.meaning.proofs.StateLaws.{starts-state}
 use Rattle.meaning.specs.Calls.{Machine}
 use Rattle.meaning.specs.Decide.Calls.{runFrom, running}

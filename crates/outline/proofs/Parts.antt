@@ -11,7 +11,7 @@ use Rattle.syntax.specs.Decide.Lexeme.{markNumber}
 use Rattle.syntax.specs.Held.Kind.{kindOf, noKind, Words}
 use Rattle.syntax.specs.Tree.{Region, Method, Var, Monitor, all, each, spell, spellCond, spellBlock, spellRegion}
 use Rattle.syntax.specs.Tree.{spellMethod, spellVar}
-use Rattle.meaning.specs.Accepted.{regionsOf}
+use Rattle.meaning.specs.Runs.{regionsOf}
 use Rattle.meaning.specs.Refusal.{upTo}
 use Rattle.meaning.specs.Outline.{upToMethod, upToRegion, TitleAt, KeepAt, VariableAt, MethodAt, GuardAt, BodyAt}
 use Rattle.meaning.proofs.KeywordPlaces.{each-append, spell-from, up-to-var, up-to-keep}

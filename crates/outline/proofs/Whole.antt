@@ -18,7 +18,7 @@ use Rattle.syntax.specs.Held.Kind.{kindOf, Words}
 use Rattle.syntax.specs.Tree.{Region, Method, Var, Monitor, all, spell, spellCond}
 use Rattle.meaning.specs.Held.{Biased}
 use Rattle.meaning.specs.State.{numberOf, starts}
-use Rattle.meaning.specs.Accepted.{State, regionsOf}
+use Rattle.meaning.specs.Runs.{State, regionsOf}
 use Rattle.meaning.specs.Model as model
 use Rattle.meaning.proofs.StateLaws.{starts-state}
 use Rattle.meaning.proofs.KeywordPlaces.{times}

@@ -10,7 +10,7 @@ use Rattle.syntax.specs.Tree.{Region, Method, Var, Monitor, all}
 use Rattle.meaning.specs.Held.{Offset}
 use Rattle.meaning.specs.Value.{intOf}
 use Rattle.meaning.specs.State.{count, startNumber}
-use Rattle.meaning.specs.Accepted.{regionsOf}
+use Rattle.meaning.specs.Runs.{regionsOf}
 use Rattle.meaning.specs.Model.{guardOf}
 use Rattle.meaning.specs.Model as model
 use Rattle.meaning.specs.Outline.{TitleAt, KeepAt, VariableAt, MethodAt, GuardAt, BodyAt}

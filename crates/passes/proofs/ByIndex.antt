@@ -207,7 +207,7 @@ limiting =
 
 pub record Few (ts : List Token) (i : ℕ) (last : Lexeme) (vs ms : ℕ) : Type 0 where
   pub counts : ℕ × ℕ × ℕ
-  pub so-far : pastLimit 0 0 0 ts ≡ pastLimit (counts .0) (counts .1) (counts .2) (drop i ts)
+  pub so-far : pastLimit 0 0 0 0 ts ≡ pastLimit (counts .0) (counts .1) (counts .2) (drop i ts)
   pub vars : tally (isKey k-var last) vs ≤ counts .0
   pub methods : tally (isKey k-method last) ms ≤ counts .1
   pub few-vars : counts .0 ≤ mostVars
@@ -226,7 +226,7 @@ few-first ts = record {
 }
 
 pub few-next : {file : List ℕ} {ts : List Token} {kinds values places : List ℕ} → Words file ts kinds values places
-    → pastLimit 0 0 0 ts ≡ none
+    → pastLimit 0 0 0 0 ts ≡ none
     → {i : ℕ} {last : Lexeme} {vs ms : ℕ} (vs′ ms′ : ℕ) → Few ts i last vs ms → i < length kinds
     → vs′ ≤ tally (isKey k-var last) vs → ms′ ≤ tally (isKey k-method last) ms
     → Few ts (i + 1) (tokenAt ts i .lexeme) vs′ ms′

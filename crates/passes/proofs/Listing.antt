@@ -90,7 +90,7 @@ listing-first file ts vars t =
     record { last = number 0; known = refl; titles = []; so-far = refl; held = t; few = few-first ts }
 
 pub listing-next : {file : List ℕ} {ts : List Token} {kinds values places : List ℕ} → Words file ts kinds values places
-    → pastLimit 0 0 0 ts ≡ none
+    → pastLimit 0 0 0 0 ts ≡ none
     → {vars vars′ : Names} {before i : ℕ} (adds : Bool) → Listing file ts vars before i → i < length kinds
     → adds ≡ (eqb (getD kinds i 0) nameKind && eqb before (kindOf (key k-var)))
     → Grows vars adds (getD places i 0) (getD values i 0) vars′

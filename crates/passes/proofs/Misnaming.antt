@@ -153,7 +153,7 @@ module _ {file : List ℕ} {ts : List Token} {kinds values places : List ℕ} (h
   pub naming-ends : length kinds ≤ i → Nothing ≡ foundOf (misnamed (number 0) [] [] ts)
   naming-ends l = ends naming h (number 0, [], []) summary i (s .so-far) l
 
-  pub naming-next : pastLimit 0 0 0 ts ≡ none → i < length kinds → (r : Bool)
+  pub naming-next : pastLimit 0 0 0 0 ts ≡ none → i < length kinds → (r : Bool)
       → Judges file vars methods (getD kinds i 0) before (getD places i 0) (getD values i 0) r → r ≡ false
       → {vars′ methods′ : Names} (a b : Bool)
       → a ≡ (eqb (getD kinds i 0) nameKind && eqb before (kindOf (key k-var)))

@@ -103,7 +103,7 @@ fn exceeds(kind: u8, vars: usize, methods: usize, regions: usize) -> bool
 // 5: a var past 6, a method past 8 or a waituntil past 16.
 pub fn find_past_limit(kinds: &[u8], places: &[u16]) -> Found
     ensures { λ r. ⌜ ((file : List ℕ) (ts : List Token) (values : List ℕ)
-        → Words file ts (now (kinds .entry)) values (now (places .entry)) → r ≡ foundOf (pastLimit 0 0 0 ts)) ⌝ }
+        → Words file ts (now (kinds .entry)) values (now (places .entry)) → r ≡ foundOf (pastLimit 0 0 0 0 ts)) ⌝ }
 {
     if places.len() != kinds.len() {
         return Found::Nothing;
@@ -243,7 +243,7 @@ fn wrong(
 pub fn find_misnamed(file: &[u8], kinds: &[u8], values: &[u16], places: &[u16]) -> Found
     ensures { λ r. ⌜ ((ts : List Token)
         → Words (now (file .entry)) ts (now (kinds .entry)) (now (values .entry)) (now (places .entry))
-        → pastLimit 0 0 0 ts ≡ none → r ≡ foundOf (misnamed (number 0) [] [] ts)) ⌝ }
+        → pastLimit 0 0 0 0 ts ≡ none → r ≡ foundOf (misnamed (number 0) [] [] ts)) ⌝ }
 {
     if values.len() != kinds.len() {
         return Found::Nothing;
@@ -280,7 +280,7 @@ pub fn find_misnamed(file: &[u8], kinds: &[u8], values: &[u16], places: &[u16]) 
 fn variables(kinds: &[u8], values: &[u16], places: &[u16]) -> Names
     ensures { λ r. ⌜ ((file : List ℕ) (ts : List Token)
         → Words file ts (now (kinds .entry)) (now (values .entry)) (now (places .entry))
-        → pastLimit 0 0 0 ts ≡ none → Titles file (titlesOf ts) r) ⌝ }
+        → pastLimit 0 0 0 0 ts ≡ none → Titles file (titlesOf ts) r) ⌝ }
 {
     let mut vars = no_names();
     if values.len() != kinds.len() {
@@ -322,7 +322,7 @@ fn slot_or_value(file: &[u8], vars: Names, kind: u8, start: u16, value: u16) -> 
 pub fn resolve(file: &[u8], kinds: &[u8], values: &[u16], places: &[u16], operands: &mut [u16])
     ensures { λ _. ⌜ ((ts : List Token)
         → Words (now (file .entry)) ts (now (kinds .entry)) (now (values .entry)) (now (places .entry))
-        → pastLimit 0 0 0 ts ≡ none → length (now (operands .entry)) ≡ length ts
+        → pastLimit 0 0 0 0 ts ≡ none → length (now (operands .entry)) ≡ length ts
         → Resolved ts (now (operands .exit))) ⌝ }
 {
     if values.len() != kinds.len() {

@@ -22,7 +22,8 @@ use Rattle.machine.proofs.Reached.{PlaceWithin, Reached}
 use Rattle.meaning.specs.Held.{Biased}
 use Rattle.meaning.specs.Model.{vars, guards, model, holds}
 use Rattle.meaning.specs.State.{stateAt, count}
-use Rattle.meaning.specs.Calls.{plain-machine, table-machine, eachThread, bits}
+use Rattle.meaning.specs.Calls.{plain-machine, table-machine}
+use Rattle.meaning.specs.Bits.{eachFrom, bits}
 use Rattle.meaning.specs.Decide.Calls.{runList}
 use Rattle.meaning.specs.Decide.Table.{forEach}
 use Rattle.meaning.specs.Lines.{placeByte}
@@ -45,8 +46,8 @@ use Rattle.points.specs.Written.{PointStands}
 
 -- ---- each part
 
-each-byte : (n k : ℕ) (f : ℕ → ℕ) → forEach n k (λ j. f j ∷ []) ≡ eachThread n k f
-unfolding forEach eachThread
+each-byte : (n k : ℕ) (f : ℕ → ℕ) → forEach n k (λ j. f j ∷ []) ≡ eachFrom n k f
+unfolding forEach eachFrom
 each-byte zero k f = refl
 each-byte (suc n) k f = ap (λ (l : List ℕ). f k ∷ l) (each-byte n (k + 1) f)
 

@@ -31,7 +31,8 @@ use Rattle.meaning.specs.State as state
 use Rattle.meaning.specs.Decide.Frames.{framesOf, frames, none-at}
 use Rattle.meaning.specs.Model.{vars, kept, model}
 use Rattle.meaning.proofs.ModelLaws.{kept-below}
-use Rattle.meaning.specs.Calls.{Machine, eachThread, bits, ones, not-run, recordOf}
+use Rattle.meaning.specs.Calls.{Machine, not-run, recordOf}
+use Rattle.meaning.specs.Bits.{eachFrom, bits, ones}
 use Rattle.meaning.specs.Decide.Calls.{toldBy, runningOf, runList, runFrames, runFrom}
 use Rattle.stepper.specs.declared.Thread.{Thread}
 use Rattle.stepper.specs.declared.Run as code
@@ -50,12 +51,12 @@ use Rattle.run.specs.declared.Running.{Running}
 -- sixteen threads that show the places are the list of the places
 pub places-shown : (ts : List Thread) (c : Config) → length ts ≡ 16
     → SameThreads (threadsOf ts) (c .threads)
-    → map (λ (t : Thread). placeOf (t .place)) ts ≡ eachThread threads 0 (c .threads .place)
+    → map (λ (t : Thread). placeOf (t .place)) ts ≡ eachFrom threads 0 (c .threads .place)
 unfolding threads placesOf
 places-shown ts c l h =
     let f : Thread → machine.Place = λ t. placeOf (t .place) in
     let n = length-map ts f in
-    ext-getD (f idleThread) (map f ts) (eachThread 16 0 (c .threads .place))
+    ext-getD (f idleThread) (map f ts) (eachFrom 16 0 (c .threads .place))
     (n ∙ l ∙ sym (each-length 16 0 (c .threads .place)))
     (λ i b.
     let low : i < 16 = omega arith in
@@ -64,8 +65,8 @@ places-shown ts c l h =
 
 -- a number below 2 ^ n whose members are given thread by thread is the bits of the list, and has as many ones
 pub set-shown : (n t s : ℕ) (f : ℕ → Bool) → s < 2 ^ n → ((u : ℕ) → u < n → member s u ≡ f (t + u))
-    → (s ≡ bits (eachThread n t f)) × (count.ones s ≡ ones (eachThread n t f))
-unfolding eachThread bits ones count.ones
+    → (s ≡ bits (eachFrom n t f)) × (count.ones s ≡ ones (eachFrom n t f))
+unfolding eachFrom bits ones count.ones
 set-shown zero t s f h e = let z : s ≡ 0 = lt-one h in (z, ap count.ones z)
 set-shown (suc n) t s f h e =
     let p = pow-suc 2 n in
@@ -73,9 +74,9 @@ set-shown (suc n) t s f h e =
     (λ u l. sym (member-suc s u) ∙ e (suc u) (omega arith) ∙ ap f (omega arith)) in
     go (f t) (sym (member-zero s) ∙ e 0 (omega arith) ∙ ap f (omega arith)) (rest .0) (rest .1)
   where
-    go : (b : Bool) → eqb (s % 2) 1 ≡ b → s / 2 ≡ bits (eachThread n (t + 1) f) → count.ones (s / 2)
-        ≡ ones (eachThread n (t + 1) f)
-        → (s ≡ bits (b ∷ eachThread n (t + 1) f)) × (count.ones s ≡ ones (b ∷ eachThread n (t + 1) f))
+    go : (b : Bool) → eqb (s % 2) 1 ≡ b → s / 2 ≡ bits (eachFrom n (t + 1) f) → count.ones (s / 2)
+        ≡ ones (eachFrom n (t + 1) f)
+        → (s ≡ bits (b ∷ eachFrom n (t + 1) f)) × (count.ones s ≡ ones (b ∷ eachFrom n (t + 1) f))
     go true d x y =
         let o = eqb-true (s % 2) 1 d in
         let q = count.ones-step s in

@@ -21,7 +21,8 @@ use Rattle.meaning.specs.Decide.Bodies.{outcome}
 use Rattle.meaning.specs.State.{count, stateAt, numberOf}
 use Rattle.meaning.specs.Kept.{keptAt}
 use Rattle.meaning.specs.Decide.Check.{keptAfter, breaks, broken}
-use Rattle.meaning.specs.Accepted.{State, GoodRanges, IsRegion}
+use Rattle.meaning.specs.Accepted.{GoodRanges}
+use Rattle.meaning.specs.Runs.{State, IsRegion}
 use Rattle.meaning.specs.Model.{numberAfter, vars, regions, region, guardOf, kept, holds, after, model}
 use Rattle.meaning.proofs.ModelLaws.{region-numbered, holds-guard}
 use Rattle.meaning.proofs.Soundness.{broken-none-iff, broken-some-iff}

@@ -16,7 +16,8 @@ use Rattle.syntax.specs.Tree.{Var, Region}
 use Rattle.logic.specs.Tests.{bit}
 use Rattle.meaning.specs.Decide.Bodies.{outcome}
 use Rattle.meaning.specs.State.{count, stateAt, numberOf}
-use Rattle.meaning.specs.Accepted.{State, GoodRanges}
+use Rattle.meaning.specs.Accepted.{GoodRanges}
+use Rattle.meaning.specs.Runs.{State}
 use Rattle.logic.proofs.Bools.{split, clash}
 use Rattle.meaning.specs.Held.{Biased}
 use Rattle.meaning.proofs.StateLaws.{state-at, number-below}

@@ -51,6 +51,7 @@ keyword-few token.k-if = lit< tt
 keyword-few token.k-else = lit< tt
 keyword-few token.k-true = lit< tt
 keyword-few token.k-false = lit< tt
+keyword-few token.k-try = lit< tt
 
 pub kind-below : (l : Lexeme) → kindOf l < kindsEnd
 unfolding kindOf

@@ -14,7 +14,7 @@ use borrow.Author.Tests.{eqb-true, eq-eqb}
 use Rattle.syntax.specs.Token.{Lexeme, name, key, number, mark, Mark, Keyword, lbrace, rbrace, lparen, rparen}
 use Rattle.syntax.specs.Token.{semicolon, equals, dots, becomes, same, differs, below, at-most, above, at-least}
 use Rattle.syntax.specs.Token.{plus, minus, bang, and-and, or-or, k-monitor, k-var, k-in, k-keep, k-method}
-use Rattle.syntax.specs.Token.{k-waituntil, k-if, k-else, k-true, k-false}
+use Rattle.syntax.specs.Token.{k-waituntil, k-if, k-else, k-true, k-false, k-try}
 use Rattle.syntax.specs.Bytes.{bytes}
 use Rattle.syntax.specs.Spelling.{AllSpellable}
 use Rattle.syntax.specs.Decide.Lexeme.{isMark, isKey, isName, markNumber}
@@ -24,11 +24,11 @@ use Rattle.syntax.specs.Tree.{Comparison, eq, ne, lt, le, gt, ge, Cond, 
 use Rattle.syntax.specs.Tree.{negation, bracketed, constant, compare, Block, end, then, Stmt, assign, if-then}
 use Rattle.syntax.specs.Tree.{if-else, Monitor, spellInt, spellAtom, signMark, spellTerm, each, spellExpr}
 use Rattle.syntax.specs.Tree.{comparisonMark, spellConstant, spellCond, spellConj, spellSimple, spellBlock}
-use Rattle.syntax.specs.Tree.{spellStmt, spellRegion, spellMethod, spellVar, spell, InGrammar, Viable}
+use Rattle.syntax.specs.Tree.{spellStmt, spellRegion, spellMethod, spellVar, spellTry, spell, InGrammar, Viable}
 use Rattle.syntax.specs.Decide.Reading.{Got, got, stuck, Reader, onwards, _>>=_, give, begins, readName}
 use Rattle.syntax.specs.Decide.Reading.{readNumber, readInt, readAtom, readSign, readTerm, isSign, readExpr}
 use Rattle.syntax.specs.Decide.Reading.{readComparison, readCond, readConj, readSimple, readBlock, readStmt}
-use Rattle.syntax.specs.Decide.Reading.{readRegion, readMethod, readVar, atEnd, readMonitor, read}
+use Rattle.syntax.specs.Decide.Reading.{readRegion, readMethod, readVar, readTry, atEnd, readMonitor, read}
 use Rattle.syntax.proofs.Phrase.{Follow, of, Phrase, Accepts, front, said, vacuous, spelled, gives, chains}
 use Rattle.syntax.proofs.Phrase.{chooses, ones, skips, picks, picks₁, meets, thens, turns, manys, somes, every}
 use Rattle.syntax.proofs.Phrase.{pairs, cases, exact, clear}
@@ -68,7 +68,7 @@ mark-at m = elim m [
 ]
 
 abbrev allKeys : List Keyword
-allKeys = k-monitor ∷ k-var ∷ k-in ∷ k-keep ∷ k-method ∷ k-waituntil ∷ k-if ∷ k-else ∷ k-true ∷ k-false ∷ []
+allKeys = k-monitor ∷ k-var ∷ k-in ∷ k-keep ∷ k-method ∷ k-waituntil ∷ k-if ∷ k-else ∷ k-true ∷ k-false ∷ k-try ∷ []
 
 key-at : (k : Keyword) → getD allKeys (keywordNumber k) k-monitor ≡ k
 unfolding keywordNumber
@@ -83,6 +83,7 @@ key-at k = elim k [
   | k-else ↦ refl
   | k-true ↦ refl
   | k-false ↦ refl
+  | k-try ↦ refl
 ]
 
 the-mark : (m : Mark) → Accepts (isMark m) (mark m)
@@ -394,6 +395,13 @@ methods k n h = spelled
     (λ rs. skips (the-mark rbrace) (gives (record { title = x; regions = rs }))) (λ _ _ _ _. refl)))))
     exact (λ m. ((m .title, (m .regions, tt)), refl))
 
+tries : (k n : ℕ) → 3 * n + 1 ≤ k → {F : Follow} → Phrase (of spellTry) F n (readTry k) (readTry (suc k))
+unfolding readTry spellTry begins isMark markNumber isSign
+tries k n h = spelled
+    (skips (the-key k-try) (meets (conds k n h) (λ c. skips (the-mark semicolon) (gives c))
+    (λ _ _ _ _. (refl, refl, refl))))
+    exact (λ c. ((c, tt), refl))
+
 vars : {F : Follow} {n : ℕ} → Phrase (of spellVar) F n readVar readVar
 unfolding readVar spellVar
 vars = spelled
@@ -435,16 +443,18 @@ ends = record {
     still (some a) (l ∷ ls) (x ∷ xs) f e = cc
 
 monitors : (k n : ℕ) → 3 * n + 1 ≤ k → Phrase (of spell) at-end n (readMonitor k) (readMonitor (suc k))
-unfolding readMonitor spell spellVar spellMethod begins isKey isMark keywordNumber markNumber isSign
+unfolding readMonitor spell spellVar spellTry spellMethod begins isKey isMark keywordNumber markNumber isSign each
 monitors k n h = spelled
     (skips (the-key k-monitor) (thens names λ x. skips (the-mark lbrace)
     (meets (somes spellVar (isKey k-var) (λ _ _. refl) k n (omega arith) vars) (λ vs. skips (the-key k-keep)
     (meets (conds k n h) (λ c. skips (the-mark semicolon)
-    (meets (somes spellMethod (isKey k-method) (λ _ _. refl) k n (omega arith) (methods k n h))
-    (λ ms. skips (the-mark rbrace) (turns (λ _. record { title = x; vars = vs; keep = c; methods = ms }) ends))
+    (meets (manys spellTry (isKey k-try) (λ _ _. refl) k n (omega arith) (tries k n h))
+    (λ ts. meets (somes spellMethod (isKey k-method) (λ _ _. refl) k n (omega arith) (methods k n h))
+    (λ ms. skips (the-mark rbrace) (turns (λ _. record { title = x; vars = vs; keep = c; tries = ts; methods = ms }) ends))
+    (λ _ _ _ _. refl))
     (λ _ _ _ _. refl)))
     (λ _ _ _ _. (refl, refl, refl)))) (λ _ _ _ _. refl))))
-    exact (λ m. ((m .title, (m .vars, (m .keep, (m .methods, tt)))), refl))
+    exact (λ m. ((m .title, (m .vars, (m .keep, (m .tries, (m .methods, tt))))), refl))
 
 -- A reader that leaves nothing
 
@@ -468,7 +478,7 @@ reads-all : (k : ℕ) → Exhausts (readMonitor k)
 unfolding readMonitor
 reads-all k =
     after _ λ _. after _ λ _. after _ λ _. after _ λ _. after _ λ _. after _ λ _. after _ λ _. after _ λ _. after _ λ _.
-    ended _
+    after _ λ _. ended _
 
 -- The theorems
 
@@ -583,6 +593,7 @@ keeping c =
       title = [];
       vars = record { head = record { title = []; start = plain 0; low = plain 0; high = plain 0 }; more = [] };
       keep = c;
+      tries = [];
       methods =
           record {
             head =

@@ -28,3 +28,7 @@ mostVars = 6
 -- the methods of a file (5; R 6.18)
 abbrev pub mostMethods : ℕ
 mostMethods = 8
+
+-- the tries of a file (5; R 6.18)
+abbrev pub mostTries : ℕ
+mostTries = 16

@@ -6,7 +6,7 @@ use mathlib.Core.Path.{_≡_}
 use Rattle.syntax.specs.Token.{Lexeme, name, key, number, mark, Mark, lbrace, rbrace, lparen, rparen, semicolon}
 use Rattle.syntax.specs.Token.{equals, dots, becomes, same, differs, below, at-most, above, at-least, plus, minus}
 use Rattle.syntax.specs.Token.{bang, and-and, or-or, k-monitor, k-var, k-in, k-keep, k-method, k-waituntil, k-if}
-use Rattle.syntax.specs.Token.{k-else, k-true, k-false}
+use Rattle.syntax.specs.Token.{k-else, k-true, k-false, k-try}
 use Rattle.syntax.specs.Spelling.{AllSpellable}
 
 -- "a number with or without - before it" (R 2.12)
@@ -93,6 +93,7 @@ pub record Monitor : Type 0 where
   pub title : List ℕ
   pub vars : Some Var
   pub keep : Cond
+  pub tries : List Cond
   pub methods : Some Method
 
 abbrev pub all : {A : Type 0} → Some A → List A
@@ -192,12 +193,16 @@ spellVar v =
     key k-var ∷ name (v .title) ∷ mark equals ∷ (spellInt (v .start)
     ++ (key k-in ∷ (spellInt (v .low) ++ (mark dots ∷ (spellInt (v .high) ++ (mark semicolon ∷ []))))))
 
+-- "`try` conditions, each ended by `;`" (R 2.17)
+unfoldable pub spellTry : Cond → List Lexeme
+spellTry c = key k-try ∷ (spellCond c ++ (mark semicolon ∷ []))
+
 -- (R 2.3)
 unfoldable pub spell : Monitor → List Lexeme
 spell m =
     key k-monitor ∷ name (m .title) ∷ mark lbrace ∷ (each spellVar (all (m .vars))
     ++ (key k-keep ∷ (spellCond (m .keep)
-    ++ (mark semicolon ∷ (each spellMethod (all (m .methods)) ++ (mark rbrace ∷ []))))))
+    ++ (mark semicolon ∷ (each spellTry (m .tries) ++ (each spellMethod (all (m .methods)) ++ (mark rbrace ∷ [])))))))
 
 -- A list of lexemes is in the grammar if a tree spells it, with no token behind, and bytes spell each of its lexemes
 -- (R 2.2, 2.16)

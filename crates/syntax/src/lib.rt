@@ -66,14 +66,16 @@ pub const KEY_TRUE: u8 = 40;
 
 pub const KEY_FALSE: u8 = 41;
 
+pub const KEY_TRY: u8 = 42;
+
 // How many keywords there are.
-pub const KEYWORDS: u8 = 10;
+pub const KEYWORDS: u8 = 11;
 
 // What stands for a kind where a file has no token.
 pub const NO_KIND: u8 = 255;
 
 // The limits on a file, as `Limits` has them (crates/syntax/specs/Limits.antt): bytes (1), bytes of a word and digits
-// of a number (2), tokens, and brackets and braces open at once (3), variables and methods (5).
+// of a number (2), tokens, and brackets and braces open at once (3), variables, methods and tries (5).
 pub const FILE_BYTES: usize = 8192;
 
 pub const WORD_BYTES: usize = 16;
@@ -87,3 +89,5 @@ pub const OPEN: usize = 12;
 pub const VARIABLES: usize = 6;
 
 pub const METHODS: usize = 8;
+
+pub const TRIES: usize = 16;

@@ -13,7 +13,8 @@ use lib.IntN.{ℤ, pos, _+ℤ_}
 use Rattle.syntax.specs.Tree.{Var}
 use Rattle.meaning.specs.Value.{intOf, inRange}
 use Rattle.meaning.specs.State.{size, count, stateAt, numberOf}
-use Rattle.meaning.specs.Accepted.{AtMost, GoodRanges, State, no-values, one-value}
+use Rattle.meaning.specs.Accepted.{AtMost, GoodRanges}
+use Rattle.meaning.specs.Runs.{State, no-values, one-value}
 use Rattle.logic.proofs.Bools.{no-some}
 use Rattle.meaning.proofs.Integers.{in-range-iff, not-less-iff}
 use Rattle.meaning.proofs.StateLaws.{count-pos}

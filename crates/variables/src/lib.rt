@@ -10,7 +10,7 @@ ghost use Rattle.machine.specs.Limits.{mostStates};
 ghost use Rattle.syntax.specs.Token.{Lexeme};
 ghost use Rattle.syntax.specs.Tree.{Var, each, spellVar};
 ghost use Rattle.meaning.specs.State.{stateAt, numberOf, count};
-ghost use Rattle.meaning.specs.Accepted.{State};
+ghost use Rattle.meaning.specs.Runs.{State};
 ghost use Rattle.variables.specs.Bounded.{Numbers, EndsVars, Ranged, Bounded};
 ghost use Rattle.meaning.specs.Held.{Biased};
 ghost use Rattle.variables.specs.Promises.{IntAt, TripleAt, Good, Fitting, WithVar, Loaded, SizeOf, Weights};

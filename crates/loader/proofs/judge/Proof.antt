@@ -50,7 +50,7 @@ tree c ts w =
 
 few : (c : tie.After-enum-told3) (ts : List Token)
     → Given (c .before .before .before .before .before .before .before .before) ts
-    → pastLimit 0 0 0 ts ≡ none
+    → pastLimit 0 0 0 0 ts ≡ none
 few c ts w = found-nothing _ (sym (c .enum-told3 .given .1) ∙ c .before .before .find-past-limit .ensures _ ts _ w)
 
 names : (c : tie.After-enum-told4) (ts : List Token)

@@ -12,23 +12,30 @@ use Rattle.machine.specs.Monitor as machine
 use Rattle.machine.specs.Decide.Table.{entryOf, tableTold}
 use Rattle.meaning.specs.Answer.{answer, accepted, refused}
 use Rattle.meaning.specs.Decide.Check.{check}
+use Rattle.meaning.specs.Decide.Choice.{chosenBits}
 use Rattle.meaning.specs.Model.{kept, model}
 use Rattle.meaning.specs.Decide.Table.{tableOf}
 use Rattle.meaning.specs.Decide.Frames.{Frames, frames, none-at, framesOf}
 use Rattle.meaning.specs.Calls.{Machine, plain-machine, table-machine, Placing, notPlaced, recordOf}
 use Rattle.meaning.specs.Calls.{Running, ran, refused-file, not-run}
 
--- "success writes the table from byte 0 and keeps the bytes behind it"
-unfoldable pub written : List ℕ → List ℕ → Placing
-written table buffer =
+-- "success writes the table from byte 0 and keeps the bytes behind it"; the chosen tries are reported beside it
+unfoldable pub written : List ℕ → ℕ → List ℕ → Placing
+written table chosen buffer =
     elim (ltb (length buffer) (length table)) [
       | true ↦ notPlaced (answer 10 0 0) buffer
-      | false ↦ record { answer = answer 0 0 0; length = length table; buffer = table ++ drop (length table) buffer }
+      | false ↦
+          record {
+            answer = answer 0 0 0;
+            length = length table;
+            chosen = chosen;
+            buffer = table ++ drop (length table) buffer;
+          }
     ]
 
 unfoldable pub place : List ℕ → List ℕ → Placing
 place file buffer =
-    elim (check file) [ accepted m ↦ written (tableOf (model m)) buffer | refused a ↦ notPlaced a buffer ]
+    elim (check file) [ accepted m ↦ written (tableOf (model m)) (chosenBits m) buffer | refused a ↦ notPlaced a buffer ]
 
 unfoldable pub toldBy : machine.Monitor → Machine → Told
 toldBy m plain-machine = plainTold m

@@ -1,27 +1,29 @@
 -- The refusals 1 to 9 of a file, in number order, computed. `proofs/Verdicts` shows that a file's verdict is the one
 -- that `Accepted` and `Refusal` say.
-use Prim.Native.Nat.{ℕ, zero, suc, _+_, _*_, _-_}
+use Prim.Native.Nat.{ℕ, _+_, _*_, _-_}
 use mathlib.Core.Bool.{Bool, true, false, _&&_, _||_, not}
 use mathlib.Core.List.{List, [], _∷_}
 use mathlib.Core.Option.{Option, none, some}
 use lib.ListN.{length, getD, drop}
 use lib.Dec.{ltb, leb}
 use lib.IntN.{ℤ, pos, negℤ}
-use Rattle.syntax.specs.Limits.{mostBytes, mostTokens, mostOpen, mostVars, mostMethods}
+use Rattle.syntax.specs.Limits.{mostBytes, mostTokens, mostOpen, mostVars, mostMethods, mostTries}
 use Rattle.machine.specs.Limits.{mostRegions, mostStates}
 use Rattle.syntax.specs.Bytes.{sameBytes}
 use Rattle.syntax.specs.Token.{Lexeme, name, key, number, mark, Keyword, k-monitor, k-var, k-keep, k-method}
-use Rattle.syntax.specs.Token.{k-waituntil, Token, lexemes}
+use Rattle.syntax.specs.Token.{k-waituntil, k-try, Token, lexemes}
 use Rattle.syntax.specs.Decide.Lexeme.{isKey}
 use Rattle.syntax.specs.Decide.Scan.{tokens, none-at, tokenize}
 use Rattle.syntax.specs.Tree.{Region, Var, Monitor, all}
 use Rattle.syntax.specs.Decide.Reading.{got, stuck, read}
 use Rattle.meaning.specs.Value.{intOf, less, inRange, truth}
 use Rattle.meaning.specs.Decide.Bodies.{outcome}
-use Rattle.meaning.specs.State.{size, count, stateAt, starts}
+use Rattle.meaning.specs.Decide.First.{firstWhere}
+use Rattle.meaning.specs.State.{size, starts}
 use Rattle.meaning.specs.Kept.{keptAt}
 use Rattle.meaning.specs.Answer.{Verdict, accepted, answer, refused}
-use Rattle.meaning.specs.Accepted.{closes, opens, regionsOf}
+use Rattle.meaning.specs.Accepted.{closes, opens}
+use Rattle.meaning.specs.Runs.{regionsOf}
 
 unfoldable pub tally : Bool → ℕ → ℕ
 tally true n = n + 1
@@ -43,15 +45,15 @@ placeOf end (t ∷ ts) = t .at
 unfoldable pub leftOf : List Token → List Lexeme → List Token
 leftOf ts ls = drop (length ts - length ls) ts
 
--- 5: "first var past 6, method past 8 or waituntil past 16"; how many of each were passed before
-unfoldable pub pastLimit : ℕ → ℕ → ℕ → List Token → Option ℕ
-pastLimit vs ms ws [] = none
-pastLimit vs ms ws (t ∷ ts) =
+-- 5: "first var past 6, method past 8 or waituntil past 16", or "try past sixteen"; how many of each were passed before
+unfoldable pub pastLimit : ℕ → ℕ → ℕ → ℕ → List Token → Option ℕ
+pastLimit vs ms ws cs [] = none
+pastLimit vs ms ws cs (t ∷ ts) =
     elim ((isKey k-var (t .lexeme) && leb mostVars vs) || (isKey k-method (t .lexeme) && leb mostMethods ms)
-    || (isKey k-waituntil (t .lexeme) && leb mostRegions ws)) [
+    || (isKey k-waituntil (t .lexeme) && leb mostRegions ws) || (isKey k-try (t .lexeme) && leb mostTries cs)) [
       | true ↦ some (t .at)
       | false ↦ pastLimit (tally (isKey k-var (t .lexeme)) vs) (tally (isKey k-method (t .lexeme)) ms)
-          (tally (isKey k-waituntil (t .lexeme)) ws) ts
+          (tally (isKey k-waituntil (t .lexeme)) ws) (tally (isKey k-try (t .lexeme)) cs) ts
     ]
 
 -- 6: a name after `var` or `method` declares, one after `monitor` does neither, and any other is a use of a variable;
@@ -108,20 +110,9 @@ keptAfter kept (some as′) = kept as′
 unfoldable pub breaks : List Var → (List ℤ → Bool) → Region → List ℤ → Bool
 breaks vs kept r as′ = kept as′ && truth (r .guard) vs as′ && not (keptAfter kept (outcome r vs as′))
 
--- the first of n numbers from k on that passes a test
-unfoldable pub firstFrom : ℕ → ℕ → (ℕ → Bool) → Option ℕ
-firstFrom zero k p = none
-firstFrom (suc n) k p = elim (p k) [ true ↦ some k | false ↦ firstFrom n (k + 1) p ]
-
--- "lowest region, then lowest state"; regions are counted on from k
-unfoldable pub brokenFrom : List Var → (List ℤ → Bool) → ℕ → List Region → Option (ℕ × ℕ)
-brokenFrom vs kept k [] = none
-brokenFrom vs kept k (r ∷ rs) =
-    elim (firstFrom (count vs) 0 (λ n. breaks vs kept r (stateAt vs n)))
-    [ some n ↦ some (k, n) | none ↦ brokenFrom vs kept (k + 1) rs ]
-
+-- "lowest region, then lowest state"
 unfoldable pub broken : Monitor → Option (ℕ × ℕ)
-broken m = brokenFrom (all (m .vars)) (keptAt m) 0 (regionsOf (all (m .methods)))
+broken m = firstWhere (all (m .vars)) (breaks (all (m .vars)) (keptAt m)) 0 (regionsOf (all (m .methods)))
 
 -- 7 to 9, of a tree and its tokens
 unfoldable pub checkMeaning : List Token → Monitor → Verdict
@@ -142,7 +133,7 @@ checkTokens end ts =
       | some k ↦ refused (answer 3 k 0)
       | none ↦ elim (read (lexemes ts)) [
         | stuck ls ↦ refused (answer 4 (placeOf end (leftOf ts ls)) 0)
-        | got m ls ↦ elim (pastLimit 0 0 0 ts) [
+        | got m ls ↦ elim (pastLimit 0 0 0 0 ts) [
           | some k ↦ refused (answer 5 k 0)
           | none ↦ elim (misnamed (number 0) [] [] ts) [ some k ↦ refused (answer 6 k 0) | none ↦ checkMeaning ts m ]
         ]

@@ -19,7 +19,7 @@ use Rattle.passes.proofs.find_misnamed.Tie as tie
 abbrev Inv-loop : tie.InvT-loop
 Inv-loop file kinds values places vars₀ methods₀ before₀ i₀ vars methods before i =
     (i ≤ length kinds)
-    × ((ts : List Token) → Words file ts kinds values places → pastLimit 0 0 0 ts ≡ none
+    × ((ts : List Token) → Words file ts kinds values places → pastLimit 0 0 0 0 ts ≡ none
     → Naming file ts vars methods before i)
 
 abbrev μ-loop : tie.MeasureT-loop

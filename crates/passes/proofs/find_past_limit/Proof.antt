@@ -19,7 +19,7 @@ abbrev Inv-loop : tie.InvT-loop
 Inv-loop kinds places vars₀ methods₀ regions₀ i₀ vars methods regions i =
     (i ≤ length kinds) × (vars ≤ i) × (methods ≤ i) × (regions ≤ i)
     × ((file : List ℕ) (ts : List Token) (values : List ℕ) → Words file ts kinds values places
-    → pastLimit 0 0 0 ts ≡ pastLimit vars methods regions (drop i ts))
+    → pastLimit 0 0 0 0 ts ≡ pastLimit vars methods regions (drop i ts))
 
 abbrev μ-loop : tie.MeasureT-loop
 μ-loop kinds places vars₀ methods₀ regions₀ i₀ vars methods regions i = length kinds - i

@@ -18,7 +18,7 @@ use Rattle.passes.proofs.resolve.Tie as tie
 abbrev Inv-loop : tie.InvT-loop
 Inv-loop file kinds values places operands₀ vars i₀ operands i =
     (i ≤ length kinds) × (length operands ≡ length operands₀)
-    × ((ts : List Token) → Words file ts kinds values places → pastLimit 0 0 0 ts ≡ none → length operands₀ ≡ length ts
+    × ((ts : List Token) → Words file ts kinds values places → pastLimit 0 0 0 0 ts ≡ none → length operands₀ ≡ length ts
     → operands ≡ map (λ t. slotOrValue (titlesOf ts) (t .lexeme)) (take i ts) ++ drop i operands₀)
 
 abbrev μ-loop : tie.MeasureT-loop

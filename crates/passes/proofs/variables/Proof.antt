@@ -19,7 +19,7 @@ use Rattle.passes.proofs.variables.Tie as tie
 abbrev Inv-loop : tie.InvT-loop
 Inv-loop kinds values places vars₀ before₀ i₀ vars before i =
     (i ≤ length kinds)
-    × ((file : List ℕ) (ts : List Token) → Words file ts kinds values places → pastLimit 0 0 0 ts ≡ none
+    × ((file : List ℕ) (ts : List Token) → Words file ts kinds values places → pastLimit 0 0 0 0 ts ≡ none
     → Listing file ts vars before i)
 
 abbrev μ-loop : tie.MeasureT-loop

@@ -7,7 +7,7 @@ use lib.ListN.{length}
 use Rattle.syntax.specs.Token.{Lexeme, name, key, number, mark, lbrace, rbrace, lparen, rparen, semicolon, equals}
 use Rattle.syntax.specs.Token.{dots, becomes, same, differs, below, at-most, above, at-least, plus, minus, bang}
 use Rattle.syntax.specs.Token.{and-and, or-or, k-monitor, k-var, k-in, k-keep, k-method, k-waituntil, k-if}
-use Rattle.syntax.specs.Token.{k-else, k-true, k-false}
+use Rattle.syntax.specs.Token.{k-else, k-true, k-false, k-try}
 use Rattle.syntax.specs.Decide.Lexeme.{isMark, isKey, isName}
 use Rattle.syntax.specs.Tree.{Int, plain, negated, Atom, literal, variable, Sign, added, taken, Term, Expr}
 use Rattle.syntax.specs.Tree.{Comparison, eq, ne, lt, le, gt, ge, Cond, only, or, Conj, just, and, Simple}
@@ -164,6 +164,9 @@ readMethod k =
     readSome (isKey k-waituntil) (readRegion k) k >>= λ rs. expect (isMark rbrace) >>= λ _.
     give (record { title = x; regions = rs })
 
+unfoldable pub readTry : ℕ → Reader Cond
+readTry k = expect (isKey k-try) >>= λ _. readCond k >>= λ c. expect (isMark semicolon) >>= λ _. give c
+
 unfoldable pub readVar : Reader Var
 readVar =
     expect (isKey k-var) >>= λ _. readName >>= λ x. expect (isMark equals) >>= λ _. readInt >>= λ s.
@@ -178,9 +181,9 @@ unfoldable pub readMonitor : ℕ → Reader Monitor
 readMonitor k =
     expect (isKey k-monitor) >>= λ _. readName >>= λ x. expect (isMark lbrace) >>= λ _.
     readSome (isKey k-var) readVar k >>= λ vs. expect (isKey k-keep) >>= λ _. readCond k >>= λ c.
-    expect (isMark semicolon) >>= λ _. readSome (isKey k-method) (readMethod k) k >>= λ ms.
-    expect (isMark rbrace) >>= λ _. atEnd >>= λ _.
-    give (record { title = x; vars = vs; keep = c; methods = ms })
+    expect (isMark semicolon) >>= λ _. readMany (isKey k-try) (readTry k) k >>= λ ts.
+    readSome (isKey k-method) (readMethod k) k >>= λ ms. expect (isMark rbrace) >>= λ _. atEnd >>= λ _.
+    give (record { title = x; vars = vs; keep = c; tries = ts; methods = ms })
 
 unfoldable pub read : List Lexeme → Got Monitor
 read ls = readMonitor (4 * (length ls + 1)) ls

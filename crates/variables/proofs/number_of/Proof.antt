@@ -10,7 +10,7 @@ use lib.IntN.{ℤ}
 use borrow.Author.Needs.{needs}
 use Rattle.syntax.specs.Tree.{Var}
 use Rattle.meaning.specs.State.{numberOf}
-use Rattle.meaning.specs.Accepted.{State}
+use Rattle.meaning.specs.Runs.{State}
 use Rattle.variables.specs.Bounded.{Bounded}
 use Rattle.meaning.specs.Held.{Biased}
 use Rattle.variables.proofs.States.{number-more, number-end}
