@@ -3,10 +3,19 @@
 
 use crate::answer::Answer;
 use crate::monitor::Monitor;
+use crate::tries::fates;
 use crate::{grammar, limits, names, ranges, tokens};
 
 /// The monitor that a file gives, or the first refusal.
 pub fn check(file: &[u8]) -> Result<Monitor, Answer> {
+    let monitor = check_to_8(file)?;
+    bodies_stay(&monitor)?;
+    Ok(monitor)
+}
+
+/// The monitor of a file that the checks 1 to 8 pass, its tries chosen, or the first
+/// refusal.
+pub fn check_to_8(file: &[u8]) -> Result<Monitor, Answer> {
     limits::bytes(file)?;
     let tokens = tokens::tokens(file)?;
     limits::tokens_and_depth(&tokens)?;
@@ -15,13 +24,14 @@ pub fn check(file: &[u8]) -> Result<Monitor, Answer> {
     names::names(&tokens)?;
     ranges::ranges(&tree.variables)?;
     let keep_place = tree.keep_place;
-    let monitor = Monitor::of(tree);
+    let mut monitor = Monitor::of(tree);
     start_is_kept(&monitor, keep_place)?;
-    bodies_stay(&monitor)?;
+    monitor.fates = fates(&monitor);
     Ok(monitor)
 }
 
-/// Refusal 8: the kept condition is false at the start values.
+/// Refusal 8: the kept condition is false at the start values. No try is chosen yet, and
+/// those that will be hold there.
 fn start_is_kept(monitor: &Monitor, keep_place: usize) -> Result<(), Answer> {
     if monitor.is_kept(&monitor.start_values()) {
         Ok(())

@@ -16,6 +16,7 @@ pub struct File {
     /// The byte of `keep`.
     pub keep_place: usize,
     pub keep: Condition,
+    pub tries: Vec<Condition>,
     pub methods: Vec<Method>,
 }
 
@@ -169,12 +170,17 @@ impl Reader<'_> {
         let keep_place = self.expect("keep")?.place;
         let keep = self.condition()?;
         self.expect(";")?;
+        let mut tries = Vec::new();
+        while self.accept("try") {
+            tries.push(self.condition()?);
+            self.expect(";")?;
+        }
         let mut methods = vec![self.method()?];
         while self.next_is("method") {
             methods.push(self.method()?);
         }
         self.expect("}")?;
-        Ok(File { variables, keep_place, keep, methods })
+        Ok(File { variables, keep_place, keep, tries, methods })
     }
 
     fn variable(&mut self) -> Result<Variable, Answer> {

@@ -1,8 +1,8 @@
 //! Panel monitors by brute force: the second program.
 //!
-//! Everything here is rendered from document 01 alone (and `points` and `outline` from the
-//! texts at their heads), as plainly as it goes, so that its results can be laid beside
-//! those of the first program. The modules stand in the order of the document.
+//! Everything here is rendered from the documents alone (`points`, `outline` and the fates of
+//! tries from the texts at their heads), as plainly as it goes, so that its results can be laid
+//! beside those of the first program. The modules stand in the order of document 01.
 
 pub mod answer;
 
@@ -13,9 +13,10 @@ pub mod limits;
 pub mod names;
 pub mod ranges;
 
-// What the file means, and the refusals 8 and 9.
+// What the file means, which tries are chosen, and the refusals 8 and 9.
 pub mod evaluation;
 pub mod monitor;
+pub mod tries;
 pub mod check;
 
 // The table and refusal 10.
@@ -46,4 +47,5 @@ pub use check::check;
 pub use machines::{run, Machine, Place, Record};
 pub use monitor::Monitor;
 pub use points::{points, Points};
-pub use table::place;
+pub use table::{place, Placed};
+pub use tries::{tried, Fate};

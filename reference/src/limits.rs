@@ -7,6 +7,7 @@ pub const MOST_BYTES: usize = 8192;
 pub const MOST_TOKENS: usize = 1024;
 pub const MOST_DEPTH: i64 = 12;
 pub const MOST_VARIABLES: usize = 6;
+pub const MOST_TRIES: usize = 16;
 pub const MOST_METHODS: usize = 8;
 pub const MOST_REGIONS: usize = 16;
 
@@ -39,11 +40,16 @@ pub fn tokens_and_depth(tokens: &[Token]) -> Result<(), Answer> {
     Ok(())
 }
 
-/// Refusal 5: the first `var`, `method` or `waituntil` past its limit, whichever
+/// Refusal 5: the first `var`, `try`, `method` or `waituntil` past its limit, whichever
 /// comes first in the file.
 pub fn declarations(tokens: &[Token]) -> Result<(), Answer> {
-    let limits = [("var", MOST_VARIABLES), ("method", MOST_METHODS), ("waituntil", MOST_REGIONS)];
-    let mut counts = [0; 3];
+    let limits = [
+        ("var", MOST_VARIABLES),
+        ("try", MOST_TRIES),
+        ("method", MOST_METHODS),
+        ("waituntil", MOST_REGIONS),
+    ];
+    let mut counts = [0; 4];
     for token in tokens {
         for (count, (word, most)) in counts.iter_mut().zip(limits) {
             if token.is(word) {

@@ -1,17 +1,21 @@
-//! What the programs print ("Program lines"), and lines about `points`.
+//! What the programs print ("Program lines"), and lines about `points` and about tries.
 
 use crate::answer::Answer;
 use crate::check::check;
 use crate::machines::{Machine, Machines, Record};
 use crate::points::{needed, points, Points, POINT};
 use crate::table::place;
+use crate::tries::{tried, Fate};
 
 /// `runner` judges a longer trace by this many first bytes.
 pub const MOST_TRACE_BYTES: usize = 65_536;
 
 /// What `placer` prints for a file: its table, or the refusal.
 pub fn placer(file: &[u8]) -> Vec<u8> {
-    place(file, usize::MAX).unwrap_or_else(|answer| refusal_line(answer).into_bytes())
+    match place(file, usize::MAX) {
+        Ok(placed) => placed.table,
+        Err(answer) => refusal_line(answer).into_bytes(),
+    }
 }
 
 /// What `runner` prints: a file's refusal once; else the plain machine's line and
@@ -61,6 +65,32 @@ pub fn replay_points(file: &[u8], trace: &[u8]) -> Vec<u8> {
         count_line(short, &short_buffer),
     ];
     lines.concat().into_bytes()
+}
+
+/// The lines that `replay` prints about tries: of an accepted file 00, the chosen ones and
+/// how many tries there are, of a refused one its refusal; and of a file that the checks 1
+/// to 8 pass, one line for each try.
+pub fn replay_tries(file: &[u8]) -> Vec<u8> {
+    let (verdict, fates) = tried(file);
+    let fates = fates.unwrap_or_default();
+    let mut lines = match (verdict, place(file, usize::MAX)) {
+        (Ok(()), Ok(placed)) => format!("00{:04X}{:04X}\n", placed.chosen, fates.len()),
+        (verdict, _) => answer_line(verdict),
+    };
+    for fate in fates {
+        lines += &fate_line(fate);
+    }
+    lines.into_bytes()
+}
+
+/// Two digits for the pass, 00 of a chosen try, FF of one that is false at the start; then
+/// the region and the state, four digits each.
+pub fn fate_line(fate: Fate) -> String {
+    match fate {
+        Fate::Chosen => "0000000000\n".into(),
+        Fate::FalseAtStart => "FF00000000\n".into(),
+        Fate::Broken { pass, region, state } => format!("{pass:02X}{region:04X}{state:04X}\n"),
+    }
 }
 
 /// What the buffers hold before the call.

@@ -7,6 +7,7 @@ use std::path::Path;
 use std::process::ExitCode;
 use std::str::FromStr;
 
+use reference::cases::made::{made, small_list};
 use reference::cases::{write_cases, Size};
 use reference::hostile::compare::{compare, Plan};
 use reference::hostile::Bases;
@@ -17,7 +18,9 @@ const USAGE: &str = "usage:
   reference runner DIR
   reference points DIR
   reference replay-points DIR
+  reference replay-tries DIR
   reference cases SEED COUNT DIR [small]
+  reference tries-cases [DIR]
   reference tally DIR
   reference hostile-cases SEED COUNT DIR
   reference hostile SEED COUNT WORKERS PROGRAMS KEPT [UNDER..]";
@@ -30,8 +33,11 @@ fn main() -> ExitCode {
         ["runner", directory] => on_case(directory, lines::runner),
         ["points", directory] => on_case(directory, lines::points_lines),
         ["replay-points", directory] => on_case(directory, lines::replay_points),
+        ["replay-tries", directory] => on_case(directory, |file, _| lines::replay_tries(file)),
         ["cases", seed, count, directory] => cases(seed, count, directory, Size::FULL),
         ["cases", seed, count, directory, "small"] => cases(seed, count, directory, Size::SMALL),
+        ["tries-cases"] => io::stdout().write_all(small_list().as_bytes()),
+        ["tries-cases", directory] => tries_cases(Path::new(directory)),
         ["tally", directory] => tally(Path::new(directory)),
         ["hostile-cases", seed, count, directory] => hostile_cases(seed, count, directory),
         ["hostile", seed, count, workers, programs, kept, ref under @ ..] => {
@@ -76,6 +82,11 @@ fn cases(seed: &str, count: &str, directory: &str, size: Size) -> io::Result<()>
 
 fn parsed<T: FromStr<Err = ParseIntError>>(number: &str) -> io::Result<T> {
     number.parse().map_err(io::Error::other)
+}
+
+/// Writes all cases that are made for tries.
+fn tries_cases(directory: &Path) -> io::Result<()> {
+    made().iter().enumerate().try_for_each(|(number, made)| made.case.write(directory, number))
 }
 
 fn tally(directory: &Path) -> io::Result<()> {

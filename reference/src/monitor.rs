@@ -5,11 +5,15 @@ use crate::evaluation;
 use crate::grammar::{Block, Condition, File, Variable};
 use crate::ranges;
 use crate::tokens::Token;
+use crate::tries::Fate;
 
 #[derive(Clone, Debug)]
 pub struct Monitor {
     pub variables: Vec<Variable>,
     pub keep: Condition,
+    pub tries: Vec<Condition>,
+    /// What became of each try; nothing before the choice is made.
+    pub fates: Vec<Fate>,
     /// All regions; their numbers run on across methods.
     pub regions: Vec<Region>,
     /// All guards, numbered by first appearance.
@@ -46,7 +50,14 @@ impl Monitor {
                 regions.push(Region { guard, body: region.body, is_first: index == 0, next });
             }
         }
-        Monitor { variables: file.variables, keep: file.keep, regions, guards }
+        Monitor {
+            variables: file.variables,
+            keep: file.keep,
+            tries: file.tries,
+            fates: Vec::new(),
+            regions,
+            guards,
+        }
     }
 
     pub fn count_of_states(&self) -> usize {
@@ -66,8 +77,26 @@ impl Monitor {
         ranges::state_number(&self.variables, &self.start_values())
     }
 
+    /// Whether keep and the chosen tries hold: keep alone before the choice is made.
     pub fn is_kept(&self, values: &[i64]) -> bool {
+        self.keep_holds(values)
+            && (0..self.fates.len())
+                .filter(|number| self.fates[*number] == Fate::Chosen)
+                .all(|number| self.try_holds(number, values))
+    }
+
+    pub fn keep_holds(&self, values: &[i64]) -> bool {
         evaluation::holds(&self.keep, &self.variables, values)
+    }
+
+    pub fn try_holds(&self, number: usize, values: &[i64]) -> bool {
+        evaluation::holds(&self.tries[number], &self.variables, values)
+    }
+
+    /// The chosen tries as sixteen bits, the first try the lowest.
+    pub fn chosen(&self) -> u16 {
+        let tries = self.fates.iter().enumerate();
+        tries.filter(|(_, fate)| **fate == Fate::Chosen).map(|(number, _)| 1 << number).sum()
     }
 
     pub fn guard_holds(&self, guard: usize, values: &[i64]) -> bool {

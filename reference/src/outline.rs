@@ -5,20 +5,22 @@
 //!   `number_of` also six numbers.
 //! - `outline` tells of every file that the checks 1 to 7 pass, so beside 0, 8 and 9, and
 //!   nothing beside 1 to 7: how many variables, methods, regions, guards and states there
-//!   are; the number of the state at the start values; where the monitor's name and the
-//!   kept condition stand; and each variable, method and region, in file order.
+//!   are; the number of the state at the start values; where the monitor's name, the
+//!   condition of `keep` and that of each `try` stand; and each variable, method and
+//!   region, in file order.
 //! - Where something stands is told by bytes, counted from 0. A name, each where it is
 //!   declared, stands from its first byte up to the byte behind its last. What is between
 //!   two tokens stands from the byte behind the first one's last up to the byte at which
 //!   the second one begins, blanks included.
-//! - The kept condition is between `keep` and its semicolon; a region's guard between the
-//!   `(` behind its `waituntil` and the `)` that closes it; its body between the `{` behind
-//!   that and the `}` that closes it.
+//! - The condition of `keep` or of a `try` is between that word and its semicolon; a
+//!   region's guard between the `(` behind its `waituntil` and the `)` that closes it; its
+//!   body between the `{` behind that and the `}` that closes it.
 //! - A variable is told by its name, start value, lowest and highest; a method by its name
 //!   and the number of its first region, which is how many regions the methods before it
 //!   have; a region by its guard, its body and its guard's number.
 //! - `state_at` tells the state with a number, of every file that the checks 1 to 8 pass,
-//!   so beside 0 and 9: whether the kept condition holds there, the values, the guards
+//!   so beside 0 and 9: whether the kept condition (keep and the chosen tries) holds
+//!   there, the values, the guards
 //!   that hold, and what the body of each region does from there: it does not run, since
 //!   the kept condition or its guard does not hold there; it is a fault; or it ends at the
 //!   state with some number. Where no state has the number, nothing is told.
@@ -29,7 +31,7 @@
 use std::ops::Range;
 
 use crate::answer::Answer;
-use crate::check::check;
+use crate::check::{check, check_to_8};
 use crate::limits::MOST_VARIABLES;
 use crate::monitor::Monitor;
 use crate::ranges::state_number;
@@ -44,6 +46,7 @@ pub struct Outline {
     /// Where the monitor's name stands.
     pub title: Range<usize>,
     pub keep: Range<usize>,
+    pub tries: Vec<Range<usize>>,
     pub variables: Vec<Variable>,
     pub methods: Vec<Method>,
     pub regions: Vec<Region>,
@@ -104,15 +107,11 @@ pub fn outline(file: &[u8]) -> Told<Outline> {
 
 /// The state with a number.
 pub fn state_at(file: &[u8], number: usize) -> Told<State> {
-    let verdict = verdict(file);
-    let passes_8 = match verdict {
-        Ok(()) => true,
-        Err(answer) => answer.number == 9,
-    };
-    let told = passes_7(file)
-        .filter(|(_, monitor)| passes_8 && number < monitor.count_of_states())
-        .map(|(_, monitor)| state_of(&monitor, number));
-    (verdict, told)
+    let told = check_to_8(file)
+        .ok()
+        .filter(|monitor| number < monitor.count_of_states())
+        .map(|monitor| state_of(&monitor, number));
+    (verdict(file), told)
 }
 
 /// The number of the state with these values.
@@ -144,9 +143,8 @@ fn passes_7(file: &[u8]) -> Option<(Vec<Token>, Monitor)> {
 /// In a file of the grammar each reserved word tells what stands behind it, so the words
 /// are looked up, and not the tree.
 fn outline_of(tokens: &[Token], monitor: &Monitor) -> Outline {
-    let keep = places_of(tokens, "keep")[0];
-    // No condition has a semicolon: the next one is that of `keep`.
-    let semicolon = next_of(tokens, ";", keep);
+    // No condition has a semicolon: the next one is that of `keep` or `try`.
+    let condition = |at: usize| between(tokens, at, next_of(tokens, ";", at));
     let variable = |(at, v): (usize, &grammar::Variable)| Variable {
         name: whole(&tokens[at + 1]),
         start: v.start,
@@ -159,7 +157,8 @@ fn outline_of(tokens: &[Token], monitor: &Monitor) -> Outline {
     };
     Outline {
         title: whole(&tokens[1]),
-        keep: between(tokens, keep, semicolon),
+        keep: condition(places_of(tokens, "keep")[0]),
+        tries: places_of(tokens, "try").into_iter().map(condition).collect(),
         variables: places_of(tokens, "var")
             .into_iter()
             .zip(&monitor.variables)

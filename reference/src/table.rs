@@ -82,12 +82,22 @@ pub fn table_lines(entries: &[Entry]) -> Vec<u8> {
     lines.into_bytes()
 }
 
-/// The table of a file, for a buffer of the given length. After the refusals of
-/// the file comes 10, when the buffer is shorter than the table.
-pub fn place(file: &[u8], buffer_length: usize) -> Result<Vec<u8>, Answer> {
-    let table = table_lines(&entries(&check(file)?));
+/// What placing gives.
+#[derive(Clone, Debug, PartialEq, Eq)]
+pub struct Placed {
+    /// The lines of the table.
+    pub table: Vec<u8>,
+    /// The chosen tries, the first try the lowest bit.
+    pub chosen: u16,
+}
+
+/// The table of a file, for a buffer of the given length, and its chosen tries. After
+/// the refusals of the file comes 10, when the buffer is shorter than the table.
+pub fn place(file: &[u8], buffer_length: usize) -> Result<Placed, Answer> {
+    let monitor = check(file)?;
+    let table = table_lines(&entries(&monitor));
     if buffer_length < table.len() {
         return Err(Answer::at(10, 0));
     }
-    Ok(table)
+    Ok(Placed { table, chosen: monitor.chosen() })
 }

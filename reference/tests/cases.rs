@@ -1,13 +1,14 @@
 //! The case generator: the same cases for the same seed, and everything in them.
 
 use reference::cases::draws::Draws;
+use reference::cases::made::{is_small, made};
 use reference::cases::monitors::any_accepted;
 use reference::cases::traces::{reasons, refused_frames, walk};
 use reference::cases::{make_case, Size};
 use reference::frames::frames;
 use reference::lines::{placer, runner};
 use reference::tally::Tally;
-use reference::Machine;
+use reference::{tried, Fate, Machine};
 
 fn tallied(seed: u64, count: usize, size: Size) -> Tally {
     let mut tally = Tally::default();
@@ -18,6 +19,52 @@ fn tallied(seed: u64, count: usize, size: Size) -> Tally {
         tally.add(&case.trace, &placed, &ran);
     }
     tally
+}
+
+/// At least half of the files have no tries; of those that have some, each fate is met, in
+/// accepted files and beside 9, and so are several passes.
+fn tries_occur(seed: u64, count: usize, size: Size) {
+    let [mut without, mut chosen, mut at_start, mut broken, mut late, mut beside_9] = [0; 6];
+    for number in 0..count {
+        let case = make_case(seed, number, size);
+        without += usize::from(!case.monitor.windows(3).any(|bytes| bytes == b"try"));
+        let (verdict, Some(fates)) = tried(&case.monitor) else { continue };
+        beside_9 += usize::from(verdict.is_err() && !fates.is_empty());
+        for fate in fates {
+            match fate {
+                Fate::Chosen => chosen += 1,
+                Fate::FalseAtStart => at_start += 1,
+                Fate::Broken { pass: 1, .. } => broken += 1,
+                Fate::Broken { .. } => late += 1,
+            }
+        }
+    }
+    let seen = [chosen, at_start, broken, late];
+    assert!(2 * without >= count, "{without}");
+    assert!(seen.iter().all(|seen| 50 * seen >= count), "{seen:?}");
+    assert!(100 * beside_9 >= count, "{beside_9}");
+}
+
+#[test]
+fn full_cases_have_tries() {
+    tries_occur(7, 400, Size::FULL);
+}
+
+#[test]
+fn small_cases_have_tries() {
+    tries_occur(8, 400, Size::SMALL);
+}
+
+/// Those made by hand: enough of them, and enough that are small.
+#[test]
+fn cases_made_for_tries() {
+    let made = made();
+    assert!(made.len() >= 60);
+    assert!(made.iter().filter(|made| is_small(&made.case)).count() >= 24);
+    let mut names: Vec<&str> = made.iter().map(|made| made.what).collect();
+    names.sort();
+    names.dedup();
+    assert_eq!(names.len(), made.len());
 }
 
 fn holds_everything(tally: &Tally) {

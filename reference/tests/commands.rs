@@ -76,6 +76,49 @@ fn points_read_a_directory() {
 }
 
 #[test]
+fn tries_read_a_directory() {
+    let at = directory("tries");
+    let run = || command(&["replay-tries", at.to_str().unwrap()], b"");
+    let put = |file: &str| fs::write(at.join("monitor.txt"), file).unwrap();
+    assert_eq!(run(), "0400000000\n");
+    put(BOX);
+    assert_eq!(run(), "0000000000\n");
+    let tries = "keep true; try full < 2; try full == 1; try full == 0; try true";
+    put(&BOX.replace("keep true", tries));
+    assert_eq!(run(), "0000090004\n0000000000\nFF00000000\n0100000000\n0000000000\n");
+    put(&BOX.replace("keep true", tries).replace("full := 0", "full := 2"));
+    assert_eq!(run(), "0900010001\n0000000000\nFF00000000\n0100000000\n0000000000\n");
+    put(&BOX.replace("keep true", "keep full == 1; try true"));
+    assert_eq!(run(), "0800240000\n");
+    // Sixteen that fall one a pass: pass 10 has two digits, and so has the state.
+    let tries: String = (1..=16).map(|value| format!("try x < {value};")).collect();
+    put(&format!(
+        "monitor m{{var x=0 in 0..16;keep true;{tries}method m{{waituntil(x<16){{x:=x+1;}}}}}}"
+    ));
+    let fates: String = (1..=16).map(|pass| format!("{pass:02X}0000{:04X}\n", pass - 1)).collect();
+    assert_eq!(run(), format!("0000000010\n{fates}"));
+}
+
+#[test]
+fn cases_made_for_tries_are_listed_and_written() {
+    let list = command(&["tries-cases"], b"");
+    let second = list.split("\n\n").nth(1).unwrap();
+    assert!(second.starts_with("case 1: a chosen try empties the table\nfile: monitor m {"));
+    let lines: Vec<&str> = second.lines().skip(2).collect();
+    let line = "008000FFFFFFFFFFFFFFFFFFFFFFFFFFFFFF";
+    let ran = format!("runner: {line} {line}");
+    assert_eq!(
+        lines,
+        ["trace: 000000 010101", "chosen: 1", "fates: 0000000000", "placer: ", ran.as_str()]
+    );
+    let at = directory("made");
+    command(&["tries-cases", at.to_str().unwrap()], b"");
+    assert!(fs::read_dir(&at).unwrap().count() >= 60);
+    let file = fs::read(at.join("00001/monitor.txt")).unwrap();
+    assert_eq!(command(&["placer"], &file), "");
+}
+
+#[test]
 fn cases_hold_what_the_programs_print() {
     let at = directory("cases");
     command(&["cases", "1", "40", at.to_str().unwrap(), "small"], b"");

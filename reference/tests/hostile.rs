@@ -49,7 +49,7 @@ fn every_answer_occurs() {
 #[test]
 fn every_limit_is_met() {
     let mut bases = Bases::of(2);
-    let mut met = [0; 10];
+    let mut met = [0; 11];
     for number in 0..1_000 {
         let Case { monitor, trace } = bases.input(number);
         let Ok(checked) = check(&monitor) else { continue };
@@ -60,6 +60,7 @@ fn every_limit_is_met() {
             tokens.len() == 1_024,
             deepest(&tokens) == 12,
             count_of("var") == 6,
+            count_of("try") == 16,
             count_of("method") == 8,
             count_of("waituntil") == 16,
             checked.count_of_states() == 4_096,

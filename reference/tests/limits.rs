@@ -87,6 +87,20 @@ fn variables() {
 }
 
 #[test]
+fn tries() {
+    let with = |count: usize| {
+        let tries: String = (0..count).map(|n| format!("; try x < {n}")).collect();
+        regions(&format!("true{tries}"), &["waituntil (true) { }"])
+    };
+    assert_eq!(answer(with(0)), (0, 0, 0));
+    assert_eq!(answer(with(16)), (0, 0, 0));
+    let over = with(17);
+    assert_eq!(answer(&over), (5, byte_of(&over, "try x < 16"), 0));
+    let far_over = with(20);
+    assert_eq!(answer(&far_over), (5, byte_of(&far_over, "try x < 16"), 0));
+}
+
+#[test]
 fn methods() {
     let with = |count: usize| regions("true", &vec!["waituntil (true) { }"; count]);
     assert_eq!(answer(with(8)), (0, 0, 0));
@@ -166,12 +180,12 @@ fn product_of_range_sizes() {
 
 #[test]
 fn table_buffer() {
-    assert_eq!(place(BOX.as_bytes(), 18).unwrap(), b"00010100\n01000100\n");
+    assert_eq!(place(BOX.as_bytes(), 18).unwrap().table, b"00010100\n01000100\n");
     assert_eq!(places(place(BOX.as_bytes(), 17)), (10, 0, 0));
     assert_eq!(places(place(BOX.as_bytes(), 0)), (10, 0, 0));
     // An empty table needs no buffer; 9 comes before 10.
     let empty = regions("true", &["waituntil (true) { }"]);
-    assert_eq!(place(empty.as_bytes(), 0).unwrap(), b"");
+    assert_eq!(place(empty.as_bytes(), 0).unwrap().table, b"");
     let leaving = regions("true", &["waituntil (x == 0) { x := 4; }"]);
     assert_eq!(places(place(leaving.as_bytes(), 0)), (9, 0, 0));
 }
@@ -182,7 +196,7 @@ fn longest_table() {
     let all: String = (0..16).map(|n| format!("waituntil (x == {n}) {{ x := y; }} ")).collect();
     let file =
         file("var x = 0 in 0..15; var y = 0 in 0..15;", "true", &format!("method m {{ {all} }}"));
-    let table = place(file.as_bytes(), 240 * 9).unwrap();
+    let table = place(file.as_bytes(), 240 * 9).unwrap().table;
     assert_eq!(table.len(), 240 * 9);
     assert!(table.starts_with(b"00010001\n00020001\n"));
     assert!(table.ends_with(b"0F0E0001\n"));

@@ -50,6 +50,7 @@ fn outline_of_box() {
     let wanted = Outline {
         title: 8..11,
         keep: 44..49,
+        tries: Vec::new(),
         variables: vec![variable(20..24, [0, 0, 1])],
         methods: vec![method(60..63, 0), method(114..117, 1)],
         regions: vec![region(77..86, 89..101, 0), region(131..140, 143..155, 1)],
@@ -67,6 +68,7 @@ fn outline_of_breaker() {
     let wanted = Outline {
         title: 8..15,
         keep: 148..308,
+        tries: Vec::new(),
         variables: vec![
             variable(24..27, [0, 0, 3]),
             variable(47..53, [0, 0, 1]),
@@ -116,6 +118,7 @@ fn outline_with_blanks_brackets_and_noughts() {
     let wanted = Outline {
         title: 11..12,
         keep: 52..64,
+        tries: Vec::new(),
         variables: vec![variable(20..21, [-2, -7, 1])],
         methods: vec![method(73..76, 0), method(137..140, 2)],
         regions: vec![
@@ -139,6 +142,7 @@ fn names_like_reserved_words() {
     let wanted = Outline {
         title: 8..14,
         keep: 58..75,
+        tries: Vec::new(),
         variables: vec![variable(19..23, [0, 0, 1]), variable(38..43, [1, 1, 2])],
         methods: vec![method(83..90, 0), method(124..128, 1)],
         regions: vec![region(101..105, 107..115, 0), region(139..146, 148..157, 1)],
@@ -147,6 +151,60 @@ fn names_like_reserved_words() {
         start: 0,
     };
     wants(file.as_bytes(), wanted);
+}
+
+/// Each try from the byte behind its word up to its semicolon, blanks included. Behind each
+/// line: the byte at which the next begins.
+#[test]
+fn outline_with_tries() {
+    let file = [
+        "monitor m{var x=0 in 0..1;", // 26
+        "keep true;",                 // 36
+        "try x==0;",                  // 45
+        "try\n\t(x < 1)\n; \n",       // 61
+        "try!x==1;try  x==0||true;",  // 86
+        "method n{waituntil(x==0){}}}",
+    ];
+    let wanted = Outline {
+        title: 8..9,
+        keep: 30..35,
+        tries: vec![39..44, 48..58, 64..69, 73..85],
+        variables: vec![variable(14..15, [0, 0, 1])],
+        methods: vec![method(93..94, 0)],
+        regions: vec![region(105..109, 111..111, 0)],
+        guards: 1,
+        states: 2,
+        start: 0,
+    };
+    wants(file.concat().as_bytes(), wanted);
+}
+
+/// Where a chosen try does not hold, a state is not kept and no body runs; where a dropped
+/// one does not, it is and does. Beside 9 too.
+#[test]
+fn states_with_tries() {
+    use After::{Ends, Fault, Never};
+    let up = "waituntil (x < 2) { x := x + 1; }";
+    let over = "waituntil (x > 1) { x := x + 2; }";
+    let kept = |keep: &str, answer, wanted: [(bool, [After; 2]); 4]| {
+        let file = regions(keep, &[up, over]);
+        for (number, (kept, after)) in wanted.into_iter().enumerate() {
+            let told = state(&file, answer, number).unwrap();
+            assert_eq!((told.kept, told.after), (kept, after.to_vec()), "{keep}, {number}");
+        }
+        assert_eq!(state(&file, answer, 4), None);
+    };
+    let [zero, one] = [[Ends(1), Never], [Ends(2), Never]];
+    let faults = [Never, Fault];
+    kept("true", (9, 1, 2), [(true, zero), (true, one), (true, faults), (true, faults)]);
+    let tries = "true; try x == 0; try x < 3";
+    kept(tries, (9, 1, 2), [(true, zero), (true, one), (true, faults), (false, [Never; 2])]);
+    let tries = "x < 2; try x == 1; try x < 3";
+    let not = (false, [Never; 2]);
+    kept(tries, (9, 0, 1), [(true, zero), (true, one), not, not]);
+    // Refused with 8: no state is told.
+    let file = regions("x == 1; try true", &[up]);
+    assert_eq!(state(&file, (8, 31, 0), 1), None);
 }
 
 /// Refused with 8, at the byte 40 of `keep`: its outline and numbers are told, no state is.
@@ -290,6 +348,7 @@ fn what_is_cut_out_is_what_is_read() {
         .map(|case| case.monitor)
         .collect();
     let mut told_of = 0;
+    let mut tried = 0;
     for file in &files {
         let (verdict, Some(told)) = outline(file) else { continue };
         assert!(matches!(places(verdict).0, 0 | 8 | 9));
@@ -300,6 +359,21 @@ fn what_is_cut_out_is_what_is_read() {
         assert_eq!(texts(&tokens(file).unwrap())[1], text(&told.title));
         assert_eq!(file[tree.keep_place..told.keep.start], *b"keep");
         assert_eq!(file[told.keep.end], b';');
+        assert_eq!(told.tries.len(), tree.tries.len());
+        tried += tree.tries.len();
+        for (at, read) in told.tries.iter().zip(&tree.tries) {
+            assert!(file[..at.start].ends_with(b"try"));
+            assert_eq!(file[at.end], b';');
+            // What is cut out as a try is read as the same condition.
+            let alone = [
+                b"monitor m{var x=0 in 0..0;keep" as &[u8],
+                text(at),
+                b";method m{waituntil(true){}}}",
+            ];
+            let alone = alone.concat();
+            let again = grammar::read(&tokens(&alone).unwrap(), alone.len()).unwrap();
+            assert_eq!(format!("{:?}", again.keep), format!("{read:?}"));
+        }
         let names = |ats: Vec<&Range<usize>>| -> Vec<Vec<u8>> {
             ats.into_iter().map(|at| text(at).to_vec()).collect()
         };
@@ -327,7 +401,7 @@ fn what_is_cut_out_is_what_is_read() {
         let numbers: Vec<usize> = told.regions.iter().map(|region| region.number).collect();
         assert_eq!(numbers.iter().max(), Some(&(told.guards - 1)));
     }
-    assert!(told_of > files.len() / 3, "{told_of}");
+    assert!(told_of > files.len() / 3 && tried > told_of / 2, "{told_of} {tried}");
 }
 
 fn texts(tokens: &[Token]) -> Vec<Vec<u8>> {

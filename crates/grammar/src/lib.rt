@@ -5,13 +5,13 @@ ghost use mathlib.Core.Path.{_≡_};
 ghost use lib.ListN.{length};
 ghost use Prim.Native.Nat.{_≤_};
 ghost use Rattle.syntax.specs.Limits.{mostBytes};
-ghost use Rattle.syntax.specs.Token.{Lexeme, k-var, k-method, k-waituntil};
+ghost use Rattle.syntax.specs.Token.{Lexeme, k-var, k-method, k-waituntil, k-try};
 ghost use Rattle.syntax.specs.Decide.Lexeme.{isKey};
 ghost use Rattle.syntax.specs.Tree.{Int, Atom, Term, Expr, Cond, Conj, Simple, Block, Stmt, Region, Method, Var};
 ghost use Rattle.syntax.specs.Tree.{Monitor};
 ghost use Rattle.syntax.specs.Decide.Reading.{atEnd, isSign, readMany, readInt, readAtom, readTerm, readExpr, readCond};
 ghost use Rattle.syntax.specs.Decide.Reading.{readConj, readSimple, readBlock, readStmt, readRegion, readMethod};
-ghost use Rattle.syntax.specs.Decide.Reading.{readVar, readMonitor};
+ghost use Rattle.syntax.specs.Decide.Reading.{readVar, readTry, readMonitor};
 ghost use Rattle.syntax.specs.Decide.Reading as reading;
 ghost use Rattle.syntax.specs.Held.Kind.{kindOf};
 ghost use Rattle.grammar.specs.Reads.{Reads, Follows, Expects, halted, seen};
@@ -322,6 +322,28 @@ fn read_vars(kinds: &[u8], from: Pos, rounds: usize) -> Pos
     from
 }
 
+fn read_try(kinds: &[u8], from: Pos, left: usize) -> Pos
+    ensures { λ r. ⌜ Follows Cond (now (kinds .entry)) from (readTry left) r ⌝ }
+{
+    let word = expect(kinds, from, syntax::KEY_TRY);
+    let cond = read_cond(kinds, word, left);
+    expect(kinds, cond, syntax::SEMICOLON)
+}
+
+fn read_tries(kinds: &[u8], from: Pos, left: usize, rounds: usize) -> Pos
+    ensures { λ r. ⌜ Follows (List Cond) (now (kinds .entry)) from (readMany (isKey k-try)
+        (readTry left) rounds) r ⌝ }
+{
+    if rounds == 0 {
+        return stop(from);
+    }
+    if sees(kinds, from, syntax::KEY_TRY) {
+        let condition = read_try(kinds, from, left);
+        return read_tries(kinds, condition, left, rounds - 1);
+    }
+    from
+}
+
 fn read_monitor(kinds: &[u8], from: Pos, left: usize) -> Pos
     ensures { λ r. ⌜ Follows Monitor (now (kinds .entry)) from (readMonitor left) r ⌝ }
 {
@@ -333,7 +355,8 @@ fn read_monitor(kinds: &[u8], from: Pos, left: usize) -> Pos
     let keep = expect(kinds, vars, syntax::KEY_KEEP);
     let cond = read_cond(kinds, keep, left);
     let kept = expect(kinds, cond, syntax::SEMICOLON);
-    let method = read_method(kinds, kept, left);
+    let tries = read_tries(kinds, kept, left, left);
+    let method = read_method(kinds, tries, left);
     let methods = read_methods(kinds, method, left, left);
     let end = expect(kinds, methods, syntax::RBRACE);
     at_end(kinds, end)

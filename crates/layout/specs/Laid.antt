@@ -1,22 +1,31 @@
 -- Where the parts of a file stand among its tokens.
 use Prim.Native.Nat.{ℕ, _<_}
 use mathlib.Core.Path.{_≡_}
-use mathlib.Core.List.{List, _∷_, _++_, map}
+use mathlib.Core.List.{List, [], _∷_, _++_, map}
 use mathlib.Core.Option.{some}
 use lib.ListN.{length, getD, drop, getElem?}
-use Rattle.syntax.specs.Token.{Lexeme, key, mark, lbrace, rbrace, rparen, semicolon, k-keep, Token, lexemes}
+use Rattle.syntax.specs.Token.{Lexeme, key, mark, lbrace, rbrace, rparen, semicolon, k-keep}
 use Rattle.syntax.specs.Held.Kind.{kindOf}
-use Rattle.syntax.specs.Tree.{Monitor, Region, Block, spellCond, spellBlock, all}
+use Rattle.syntax.specs.Tree.{Monitor, Region, Block, spellCond, spellBlock, spellMethod, each, all}
 use Rattle.logic.specs.Tests.{bit}
 use Rattle.machine.specs.Held.{followsBy}
 use Rattle.meaning.specs.Model.{regions, guards, region, guardOf, beginsIn, follows}
+use Rattle.meaning.specs.Held.{behindKeep}
+use Rattle.meaning.specs.Decide.Choice.{tryAt}
 use Rattle.layout.specs.declared.Layout.{Layout}
+use Rattle.layout.specs.declared.Tries.{Tries}
 use Rattle.syntax.specs.Held.Kind.{Kinds}
 
--- the token of `keep`, with the kept condition behind it
-unfoldable pub IsKeep : Monitor → List Token → ℕ → Type 0
-IsKeep m ts k =
-    (us : List Lexeme) × (drop k (lexemes ts) ≡ key k-keep ∷ (spellCond (m .keep) ++ (mark semicolon ∷ us)))
+-- the token of `keep`, with all that stands behind it
+unfoldable pub IsKeep : Monitor → List Lexeme → ℕ → Type 0
+IsKeep m ls k = drop k ls ≡ key k-keep ∷ behindKeep m
+
+-- the conditions of the tries, and the methods behind them, stand at these tokens
+pub record TriesLaid (m : Monitor) (ls : List Lexeme) (t : Tries) : Type 0 where
+  pub count : t .count ≡ length (m .tries)
+  pub stand : (i : ℕ) → i < length (m .tries)
+      → (us : List Lexeme) × (drop (getD (t .ats) i 0) ls ≡ spellCond (tryAt m i) ++ (mark semicolon ∷ us))
+  pub next : drop (t .next) ls ≡ each spellMethod (all (m .methods)) ++ (mark rbrace ∷ [])
 
 -- a region's guard and body stand at these tokens
 pub record RegionAt (ls : List Lexeme) (r : Region) (guard-at body-at : ℕ) : Type 0 where

@@ -1,21 +1,21 @@
-// Where the kept condition, guards and bodies of a file stand among its tokens; the numbers of its guards; which
+// Where keep, tries, guards and bodies of a file stand among its tokens; the numbers of its guards; which
 // regions begin a method and which go on in it; and for each brace that opens a block the place of the one that closes
 // it.
 ghost use mathlib.Core.Path.{_≡_};
-ghost use mathlib.Core.List.{List};
+ghost use mathlib.Core.List.{List, [], _∷_, _++_};
 ghost use Prim.Native.Nat.{_+_, _%_, _<_, _≤_};
 ghost use lib.ListN.{drop, take, getD, length};
-ghost use Rattle.syntax.specs.Limits.{mostTokens};
+ghost use Rattle.syntax.specs.Limits.{mostTokens, mostTries};
 ghost use Rattle.machine.specs.Limits.{mostRegions};
 ghost use Rattle.syntax.specs.Bytes.{sameBytes};
-ghost use Rattle.syntax.specs.Token.{Lexeme, Token, lexemes};
-ghost use Rattle.syntax.specs.Tree.{Monitor, spell};
+ghost use Rattle.syntax.specs.Token.{Lexeme, Token, lexemes, mark, rbrace};
+ghost use Rattle.syntax.specs.Tree.{Monitor, all, each, spell, spellMethod};
 ghost use Rattle.meaning.specs.Model.{regions};
-ghost use Rattle.layout.specs.Laid.{IsKeep, Laid, Linked};
+ghost use Rattle.layout.specs.Laid.{IsKeep, Laid, TriesLaid, Linked};
 ghost use Rattle.syntax.specs.Held.Kind.{Kinds};
 ghost use Rattle.syntax.specs.Held.Kind.{noKind, Words};
 ghost use Rattle.layout.specs.Closing.{closeFrom};
-ghost use Rattle.layout.specs.Places.{overrun};
+ghost use Rattle.layout.specs.Places.{overrun, behindAt};
 ghost use Rattle.layout.specs.Promises.{Sized, SameToken, SameTokens, SameGuard, flagAt, withGuard, withRegion};
 ghost use Rattle.layout.specs.Promises.{Numbers, Room, AddsRegion, AddsMethod, Grown};
 
@@ -36,16 +36,23 @@ pub struct Layout {
     pub firsts: [u8; machine::REGIONS],
 }
 
+// The tries of a file, at most sixteen: how many, the tokens at which their conditions begin, and the token behind them.
+pub struct Tries {
+    pub count: usize,
+    pub ats: [u16; syntax::TRIES],
+    pub next: usize,
+}
+
 // A layout so far, and the token at which to go on.
 struct Spot {
     layout: Layout,
     at: usize,
 }
 
-// How many tokens on a part begins: the kept condition from `keep`, a method's regions from `method` (`method NAME {`),
+// How many tokens on a part begins: the condition from `keep` or `try`, a method's regions from `method` (`method NAME {`),
 // a guard from `waituntil` (`waituntil (`), a body from the bracket that closes the guard (`) {`), and what stands
 // behind a token that closes.
-const TO_KEPT: usize = 1;
+const TO_CONDITION: usize = 1;
 
 const TO_REGIONS: usize = 3;
 
@@ -354,12 +361,63 @@ fn add_method(
     }
 }
 
-// The layout of a file of the grammar, whose `keep` stands at a token.
-pub fn lay_out(file: &[u8], kinds: &[u8], values: &[u16], places: &[u16], keep: usize) -> Layout
+// The token behind the condition of a `keep` or a `try` and its semicolon.
+fn behind(kinds: &[u8], at: usize) -> usize
+    requires { ⌜ at ≤ length (now kinds) ⌝ }
+    ensures { λ r. ⌜ (r ≡ behindAt (now (kinds .entry)) at) × (r ≤ length (now (kinds .entry)) + overrun) ⌝ }
+{
+    closing(kinds, at + TO_CONDITION, syntax::NO_KIND, syntax::SEMICOLON) + PAST
+}
+
+// The tries of a file of the grammar, whose `keep` stands at a token.
+pub fn tries_of(kinds: &[u8], keep: usize) -> Tries
+    ensures { λ r.
+        ⌜ ((m : Monitor) (ls : List Lexeme) → Kinds ls (now (kinds .entry)) → length ls ≤ mostTokens
+        → length (m .tries) ≤ mostTries → IsKeep m ls keep → TriesLaid m ls r) ⌝ }
+{
+    let mut ats = [0u16; syntax::TRIES];
+    if kinds.len() <= keep {
+        return Tries {
+            count: 0,
+            ats: ats,
+            next: 0,
+        };
+    }
+    let mut count: usize = 0;
+    let mut i = behind(kinds, keep);
+    while kind_at(kinds, i) == syntax::KEY_TRY {
+        if syntax::TRIES <= count {
+            return Tries {
+                count: count,
+                ats: ats,
+                next: i,
+            };
+        }
+        ats[count] = held(i + TO_CONDITION);
+        count += 1;
+        i = behind(kinds, i);
+    }
+    Tries {
+        count: count,
+        ats: ats,
+        next: i,
+    }
+}
+
+// The layout of a file of the grammar, whose `keep` stands at a token, and its first method at another.
+pub fn lay_out(
+    file: &[u8],
+    kinds: &[u8],
+    values: &[u16],
+    places: &[u16],
+    keep: usize,
+    first: usize,
+) -> Layout
     ensures { λ r.
         ⌜ ((m : Monitor) (ts : List Token) → Words (now (file .entry)) ts (now (kinds .entry)) (now (values .entry))
         (now (places .entry))
-        → spell m ≡ lexemes ts → length (regions m) ≤ mostRegions → length ts ≤ mostTokens → IsKeep m ts keep
+        → spell m ≡ lexemes ts → length (regions m) ≤ mostRegions → length ts ≤ mostTokens → IsKeep m (lexemes ts) keep
+        → drop first (lexemes ts) ≡ each spellMethod (all (m .methods)) ++ (mark rbrace ∷ [])
         → Laid m (lexemes ts) r) ⌝ }
 {
     if kinds.len() <= keep {
@@ -371,8 +429,11 @@ pub fn lay_out(file: &[u8], kinds: &[u8], values: &[u16], places: &[u16], keep: 
     if places.len() != kinds.len() {
         return empty(0);
     }
-    let mut layout = empty(keep + TO_KEPT);
-    let mut i = closing(kinds, keep + TO_KEPT, syntax::NO_KIND, syntax::SEMICOLON) + PAST;
+    if kinds.len() < first {
+        return empty(0);
+    }
+    let mut layout = empty(keep + TO_CONDITION);
+    let mut i = first;
     while kind_at(kinds, i) == syntax::KEY_METHOD {
         let spot = add_method(file, kinds, values, places, layout, i + TO_REGIONS);
         let next = spot.layout;

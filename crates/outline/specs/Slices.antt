@@ -3,7 +3,7 @@ use Prim.Native.Nat.{ℕ, _+_, _<_, _≤_}
 use mathlib.Core.Path.{_≡_}
 use mathlib.Core.List.{List}
 use lib.ListN.{length, getD, take, drop}
-use Rattle.syntax.specs.Token.{key, mark, lbrace, rbrace, lparen, rparen, semicolon, k-var, k-keep, k-method}
+use Rattle.syntax.specs.Token.{key, mark, lbrace, rbrace, lparen, rparen, semicolon, k-var, k-method}
 use Rattle.syntax.specs.Token.{k-waituntil}
 use Rattle.syntax.specs.Held.Kind.{kindOf, noKind}
 use Rattle.layout.specs.Closing.{closeFrom}
@@ -33,9 +33,10 @@ module _ (kinds : List ℕ) where
   abbrev pub semicolonAt : ℕ → ℕ
   semicolonAt at = at + closeFrom noKind (kindOf (mark semicolon)) 0 (drop at kinds)
 
-  unfoldable pub keepIn : List ℕ → Span
-  keepIn places =
-      let at = nthOf (kindOf (key k-keep)) 0 kinds in betweenIn places at 4 (semicolonAt (at + 1))
+  -- the condition behind the k-th word of a kind and of so many bytes, up to its semicolon
+  unfoldable pub conditionIn : List ℕ → ℕ → ℕ → ℕ → Span
+  conditionIn places kind k size =
+      let at = nthOf kind k kinds in betweenIn places at size (semicolonAt (at + 1))
 
   unfoldable pub variableIn : List ℕ → List ℕ → Bounds → ℕ → Variable
   variableIn values places b k =

@@ -6,7 +6,7 @@ ghost use mathlib.Core.Path.{_≡_};
 ghost use mathlib.Core.List.{List};
 ghost use Prim.Native.Nat.{ℕ, _<_, _≤_};
 ghost use lib.ListN.{getD, take, length};
-ghost use Rattle.syntax.specs.Limits.{mostVars, mostMethods};
+ghost use Rattle.syntax.specs.Limits.{mostVars, mostTries, mostMethods};
 ghost use Rattle.machine.specs.Limits.{mostRegions};
 ghost use Rattle.syntax.specs.Held.Kind.{Words};
 ghost use Rattle.syntax.specs.Token.{Token, lexemes};
@@ -15,7 +15,7 @@ ghost use Rattle.meaning.specs.Model.{vars};
 ghost use Rattle.variables.specs.Bounded.{Bounded};
 ghost use Rattle.layout.specs.Laid.{Laid};
 ghost use Rattle.outline.specs.Found.{nthOf, countOf};
-ghost use Rattle.outline.specs.Slices.{nameIn, betweenIn, keepIn};
+ghost use Rattle.outline.specs.Slices.{nameIn, betweenIn, conditionIn};
 ghost use Rattle.outline.specs.Slices.{variableIn, methodIn, regionIn, Listed};
 ghost use Rattle.outline.specs.Outlined.{noSpan, noVariable, noMethod, noRegion, Outlines, NoOutline};
 
@@ -50,12 +50,14 @@ pub struct Region {
     pub number: usize,
 }
 
-// The verdict of a file, and what it has: how many variables, methods, regions, guards and states, the number of the
-// state at the start values; where its name and its kept condition stand; and each variable, method and region.
+// The verdict of a file, and what it has: how many variables, tries, methods, regions, guards and states, the number of
+// the state at the start values; where its name, the condition behind `keep` and those of its tries stand; and each
+// variable, method and region.
 #[repr(C)]
 pub struct Outline {
     pub answer: Answer,
     pub vars: usize,
+    pub tries: usize,
     pub methods: usize,
     pub regions: usize,
     pub guards: usize,
@@ -64,12 +66,15 @@ pub struct Outline {
     pub title: Span,
     pub keep: Span,
     pub variable: [Variable; syntax::VARIABLES],
+    pub tried: [Span; syntax::TRIES],
     pub method: [Method; syntax::METHODS],
     pub region: [Region; machine::REGIONS],
 }
 
-// The bytes of `keep`, and of a bracket or a brace.
+// The bytes of `keep` and of `try`, and of a bracket or a brace.
 const KEEP_BYTES: usize = 4;
+
+const TRY_BYTES: usize = 3;
 
 const MARK_BYTES: usize = 1;
 
@@ -189,13 +194,14 @@ fn region_at(kinds: &[u8], places: &[u16], number: u8, k: usize) -> Region
     }
 }
 
-// The kept condition: `keep condition ;`.
-fn keep_at(kinds: &[u8], places: &[u16]) -> Span
-    ensures { λ r. ⌜ r ≡ keepIn (now (kinds .entry)) (now (places .entry)) ⌝ }
+// The condition behind the k-th word of a kind and of so many bytes: `keep condition ;`, `try condition ;`.
+fn condition_at(kinds: &[u8], places: &[u16], kind: u8, k: usize, size: usize) -> Span
+    requires { ⌜ size ≤ 16 ⌝ }
+    ensures { λ r. ⌜ r ≡ conditionIn (now (kinds .entry)) (now (places .entry)) kind k size ⌝ }
 {
-    let at = nth(kinds, syntax::KEY_KEEP, 0);
+    let at = nth(kinds, kind, k);
     let end = layout::closing(kinds, at + NEXT, syntax::NO_KIND, syntax::SEMICOLON);
-    between(places, at, KEEP_BYTES, end)
+    between(places, at, size, end)
 }
 
 fn no_span() -> Span
@@ -224,6 +230,20 @@ fn variables_of(
     let mut k: usize = 0;
     while k < syntax::VARIABLES && k < bounds.count {
         found[k] = variable_at(kinds, values, places, bounds, k);
+        k += 1;
+    }
+    found
+}
+
+// The conditions of the first so many tries.
+fn tries_of(kinds: &[u8], places: &[u16], n: usize) -> [Span; syntax::TRIES]
+    ensures { λ r. ⌜ Listed mostTries n noSpan
+        (λ k. conditionIn (now (kinds .entry)) (now (places .entry)) 42 k 3) r ⌝ }
+{
+    let mut found = [no_span(); syntax::TRIES];
+    let mut k: usize = 0;
+    while k < syntax::TRIES && k < n {
+        found[k] = condition_at(kinds, places, syntax::KEY_TRY, k, TRY_BYTES);
         k += 1;
     }
     found
@@ -293,6 +313,7 @@ pub fn no_outline(answer: Answer) -> Outline
     Outline {
         answer: answer,
         vars: 0,
+        tries: 0,
         methods: 0,
         regions: 0,
         guards: 0,
@@ -301,6 +322,7 @@ pub fn no_outline(answer: Answer) -> Outline
         title: no_span(),
         keep: no_span(),
         variable: [none; syntax::VARIABLES],
+        tried: [no_span(); syntax::TRIES],
         method: [nothing; syntax::METHODS],
         region: [nowhere; machine::REGIONS],
     }
@@ -318,9 +340,10 @@ pub fn outline_of(
     ensures { λ r. ⌜ r .answer ≡ answer ⌝ }
     ensures { λ r. ⌜ ((file : List ℕ) (ts : List Token) (m : Monitor)
         → Words file ts (now (kinds .entry)) (now (values .entry)) (now (places .entry)) → spell m ≡ lexemes ts
-        → length (all (m .methods)) ≤ 8
+        → length (m .tries) ≤ 16 → length (all (m .methods)) ≤ 8
         → Bounded (vars m) bounds → Laid m (lexemes ts) layout → Outlines ts m r) ⌝ }
 {
+    let tries = count_before(kinds, syntax::KEY_TRY, kinds.len());
     let methods = count_before(kinds, syntax::KEY_METHOD, kinds.len());
     let starts = bounds.starts;
     let numbers = layout.guard_of;
@@ -328,14 +351,16 @@ pub fn outline_of(
     Outline {
         answer: answer,
         vars: bounds.count,
+        tries: tries,
         methods: methods,
         regions: regions,
         guards: layout.guards,
         states: bounds.states,
         start: variables::number_of(bounds, starts),
         title: name_at(values, places, NEXT),
-        keep: keep_at(kinds, places),
+        keep: condition_at(kinds, places, syntax::KEY_KEEP, 0, KEEP_BYTES),
         variable: variables_of(kinds, values, places, bounds),
+        tried: tries_of(kinds, places, tries),
         method: methods_of(kinds, values, places, methods),
         region: regions_of(kinds, places, numbers, regions),
     }

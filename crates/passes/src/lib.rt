@@ -8,9 +8,9 @@ ghost use mathlib.Core.Option.{none};
 ghost use lib.ListN.{length};
 ghost use lib.Dec.{leb, eqb};
 ghost use Rattle.syntax.specs.Bytes.{sameBytes};
-ghost use Rattle.syntax.specs.Limits.{mostTokens, mostOpen, mostVars, mostMethods};
+ghost use Rattle.syntax.specs.Limits.{mostTokens, mostOpen, mostVars, mostMethods, mostTries};
 ghost use Rattle.machine.specs.Limits.{mostRegions};
-ghost use Rattle.syntax.specs.Token.{Token, Lexeme, name, number, k-var, k-method, k-waituntil};
+ghost use Rattle.syntax.specs.Token.{Token, Lexeme, name, number, k-var, k-method, k-waituntil, k-try};
 ghost use Rattle.syntax.specs.Decide.Lexeme.{isKey};
 ghost use Rattle.syntax.specs.Held.Kind.{kindOf, valueOf, nameKind, Words};
 ghost use Rattle.meaning.specs.Accepted.{opens};
@@ -81,12 +81,12 @@ pub fn find_crowded(kinds: &[u8], places: &[u16]) -> Found
     Found::Nothing
 }
 
-// Is this token a var past 6, a method past 8 or a waituntil past 16?
-fn exceeds(kind: u8, vars: usize, methods: usize, regions: usize) -> bool
+// Is this token a var past 6, a method past 8, a waituntil past 16 or a try past 16?
+fn exceeds(kind: u8, vars: usize, methods: usize, regions: usize, tries: usize) -> bool
     ensures { λ r.
         ⌜ ((l : Lexeme) → kind ≡ kindOf l
         → r ≡ ((isKey k-var l && leb mostVars vars) || (isKey k-method l && leb mostMethods methods)
-        || (isKey k-waituntil l && leb mostRegions regions))) ⌝ }
+        || (isKey k-waituntil l && leb mostRegions regions) || (isKey k-try l && leb mostTries tries))) ⌝ }
 {
     if kind == syntax::KEY_VAR {
         return syntax::VARIABLES <= vars;
@@ -97,10 +97,13 @@ fn exceeds(kind: u8, vars: usize, methods: usize, regions: usize) -> bool
     if kind == syntax::KEY_WAITUNTIL {
         return machine::REGIONS <= regions;
     }
+    if kind == syntax::KEY_TRY {
+        return syntax::TRIES <= tries;
+    }
     false
 }
 
-// 5: a var past 6, a method past 8 or a waituntil past 16.
+// 5: a var past 6, a method past 8, a waituntil past 16 or a try past 16.
 pub fn find_past_limit(kinds: &[u8], places: &[u16]) -> Found
     ensures { λ r. ⌜ ((file : List ℕ) (ts : List Token) (values : List ℕ)
         → Words file ts (now (kinds .entry)) values (now (places .entry)) → r ≡ foundOf (pastLimit 0 0 0 0 ts)) ⌝ }
@@ -111,16 +114,18 @@ pub fn find_past_limit(kinds: &[u8], places: &[u16]) -> Found
     let mut vars: usize = 0;
     let mut methods: usize = 0;
     let mut regions: usize = 0;
+    let mut tries: usize = 0;
     let mut i = 0;
     while i < kinds.len() {
         let kind = kinds[i];
         let place = places[i];
-        if exceeds(kind, vars, methods, regions) {
+        if exceeds(kind, vars, methods, regions, tries) {
             return Found::At(place);
         }
         vars = more(vars, kind == syntax::KEY_VAR);
         methods = more(methods, kind == syntax::KEY_METHOD);
         regions = more(regions, kind == syntax::KEY_WAITUNTIL);
+        tries = more(tries, kind == syntax::KEY_TRY);
         i += 1;
     }
     Found::Nothing

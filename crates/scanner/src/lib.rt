@@ -213,7 +213,11 @@ fn keyword_of(part: &[u8]) -> u8
     if outer < 5 {
         return outer;
     }
-    5 + place_of(part, b"waituntil", b"if", b"else", b"true", b"false")
+    let inner = place_of(part, b"waituntil", b"if", b"else", b"true", b"false");
+    if inner < 5 {
+        return 5 + inner;
+    }
+    if is_word(part, b"try") { 10 } else { 11 }
 }
 
 // The value of few enough digits.

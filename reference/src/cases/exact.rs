@@ -2,19 +2,20 @@
 
 use super::draws::Draws;
 use super::monitors::{accepted, Accepted, Counts, Region, Sketch};
-use super::words::{blanks, laid_out, words, Layout, Words};
+use super::tries::{any_try, counting};
+use super::words::{blanks, integer, laid_out, words, Layout, Words};
 use super::Size;
 use crate::check::check;
 use crate::limits::{
-    MOST_BYTES, MOST_DEPTH, MOST_METHODS, MOST_REGIONS, MOST_TOKENS, MOST_VARIABLES,
+    MOST_BYTES, MOST_DEPTH, MOST_METHODS, MOST_REGIONS, MOST_TOKENS, MOST_TRIES, MOST_VARIABLES,
 };
 use crate::machines::Machines;
 use crate::ranges::{HIGHEST, LOWEST, MOST_STATES};
 use crate::tokens::{LONGEST_NUMBER, LONGEST_WORD};
 
-/// One of the limits below. The last five do not fit a small case.
+/// One of the limits below. The last six do not fit a small case.
 pub fn any_limit(draws: &mut Draws, size: Size) -> usize {
-    draws.below(if size.is_small { 5 } else { 10 })
+    draws.below(if size.is_small { 6 } else { 12 })
 }
 
 /// A monitor that meets this limit.
@@ -36,10 +37,12 @@ pub fn exact(draws: &mut Draws, size: Size, limit: usize) -> Accepted {
         }
         3 => accepted(draws, size, &counts, deepest),
         4 => accepted(draws, size, &counts, longest_words),
-        5 => full_range(draws, size),
-        6 => all_states(draws, size),
-        7 => all_tokens(draws, size),
-        8 => all_bytes(draws, size),
+        5 => all_tries(draws, size),
+        6 => all_passes(draws, size),
+        7 => full_range(draws, size),
+        8 => all_states(draws, size),
+        9 => all_tokens(draws, size),
+        10 => all_bytes(draws, size),
         _ => longest_table(draws, size),
     }
 }
@@ -95,6 +98,7 @@ fn longest_words(draws: &mut Draws, sketch: &mut Sketch) {
         }
     };
     rename(&mut sketch.keep);
+    sketch.tries.iter_mut().for_each(rename);
     for method in &mut sketch.methods {
         for region in &mut method.regions {
             rename(&mut region.guard);
@@ -104,6 +108,47 @@ fn longest_words(draws: &mut Draws, sketch: &mut Sketch) {
     sketch.variables[number].name = long.clone();
     let zero = "0".repeat(LONGEST_NUMBER);
     sketch.any_region(draws).guard = words(&format!("{long} != {zero}"));
+}
+
+/// As many tries as there may be; in a small case most of them short, and few states.
+fn all_tries(draws: &mut Draws, size: Size) -> Accepted {
+    let few = if size.is_small { 4 } else { size.states };
+    let counts = Counts::any(draws, size);
+    accepted(draws, Size { states: few, ..roomy(size) }, &counts, |draws, sketch| {
+        empty_if_small(size, sketch);
+        while sketch.tries.len() < MOST_TRIES {
+            let is_short = size.is_small && sketch.tries.len() >= 3;
+            let more = if is_short { words("true") } else { any_try(draws, &sketch.variables) };
+            let place = draws.count(0, sketch.tries.len());
+            sketch.tries.insert(place, more);
+        }
+    })
+}
+
+/// As many tries as there may be, and they fall one a pass.
+fn all_passes(draws: &mut Draws, size: Size) -> Accepted {
+    let counts = Counts { variables: 2, methods: 3, regions: 5 };
+    accepted(draws, Size { states: 16, ..size }, &counts, |draws, sketch| {
+        let number = draws.below(2);
+        let most = MOST_TRIES as i64;
+        let variable = &mut sketch.variables[number];
+        variable.start = variable.lowest.min(HIGHEST - most);
+        (variable.lowest, variable.highest) = (variable.start, variable.start + most);
+        let variable = variable.clone();
+        let other = sketch.variables[1 - number].clone();
+        for number in 0..5 {
+            *sketch.region(number) = counting(draws, &other);
+        }
+        *sketch.any_region(draws) = counting(draws, &variable);
+        sketch.keep = words("true");
+        let steps = (1..=most).map(|step| variable.start + step);
+        let fact =
+            |value: i64| [vec![variable.name.clone(), "!=".into()], integer(draws, value)].concat();
+        sketch.tries = steps.map(fact).collect();
+        if draws.chance(50) {
+            sketch.tries.reverse();
+        }
+    })
 }
 
 fn full_range(draws: &mut Draws, size: Size) -> Accepted {
@@ -168,6 +213,7 @@ fn longest_table(draws: &mut Draws, size: Size) -> Accepted {
             (variable.start, variable.lowest, variable.highest) = (0, 0, highest);
         }
         sketch.keep = words("true");
+        sketch.tries.clear();
         let [x, y] = [0, 1].map(|number| sketch.variables[number].name.clone());
         for number in 0..MOST_REGIONS {
             let guard = words(&format!("{x} == {number}"));

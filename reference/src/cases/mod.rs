@@ -6,6 +6,8 @@
 pub mod draws;
 pub mod words;
 pub mod monitors;
+pub mod tries;
+pub mod made;
 pub mod exact;
 pub mod damage;
 pub mod refused;
@@ -139,8 +141,8 @@ fn aim_of(case: usize) -> Aim {
     unreachable!("the shares make a hundred")
 }
 
-/// Tries before a case that asks much of its monitor is taken as it is.
-const TRIES: usize = 200;
+/// Draws before a case that asks much of its monitor is taken as it is.
+const DRAWN: usize = 200;
 
 pub fn make_case(seed: u64, case: usize, size: Size) -> Case {
     let mut draws = Draws::of(seed, case);
@@ -238,7 +240,7 @@ fn has_resumed(frames: &[Frame]) -> bool {
 /// cases frames behind it.
 fn parted(draws: &mut Draws, size: Size) -> Case {
     let mut case = walked(draws, size, any_accepted);
-    for _ in 0..TRIES {
+    for _ in 0..DRAWN {
         let drawn = any_accepted(draws, size);
         let walk = walk(draws, &drawn.machines, Machine::Plain, size.frames);
         if let Some(length) = parting(&drawn.machines, &walk.frames) {
@@ -267,9 +269,9 @@ fn parting(machines: &Machines, frames: &[Frame]) -> Option<usize> {
 /// some cases frames behind it.
 fn frame_refused(draws: &mut Draws, size: Size, number: u8) -> Case {
     let wanted = draws.pick(&reasons(number));
-    let mut tries = 0;
+    let mut drawn_before = 0;
     loop {
-        tries += 1;
+        drawn_before += 1;
         let drawn = any_accepted(draws, size);
         let machine = draws.pick(&[Machine::Plain, Machine::Table]);
         let count = draws.count(0, size.frames - 1);
@@ -278,7 +280,7 @@ fn frame_refused(draws: &mut Draws, size: Size, number: u8) -> Case {
         let mut points: Vec<(usize, Frame)> = Vec::new();
         for (length, record) in walk.records.iter().enumerate() {
             for (reason, frame) in refused_frames(&drawn.machines, machine, record, number) {
-                if reason == wanted || tries > TRIES {
+                if reason == wanted || drawn_before > DRAWN {
                     points.push((length, frame));
                 }
             }

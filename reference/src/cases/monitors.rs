@@ -1,6 +1,7 @@
 //! Monitors that the check accepts, of many shapes.
 
 use super::draws::Draws;
+use super::tries::add_tries;
 use super::words::{integer, laid_out_to_fit, respelled_words, words, Words};
 use super::Size;
 use crate::check::check;
@@ -11,6 +12,7 @@ use crate::machines::Machines;
 pub struct Sketch {
     pub variables: Vec<Variable>,
     pub keep: Words,
+    pub tries: Vec<Words>,
     pub methods: Vec<Method>,
 }
 
@@ -50,6 +52,11 @@ impl Sketch {
         file.extend(words("keep"));
         file.extend(self.keep.clone());
         file.extend(words(";"));
+        for condition in &self.tries {
+            file.extend(words("try"));
+            file.extend(condition.clone());
+            file.extend(words(";"));
+        }
         for method in &self.methods {
             file.extend(words(&format!("method {} {{", method.name)));
             for region in &method.regions {
@@ -179,7 +186,11 @@ fn any_sketch(draws: &mut Draws, size: Size, counts: &Counts) -> Sketch {
             methods.last_mut().unwrap().regions.push(region);
         }
     }
-    Sketch { variables, keep, methods }
+    let mut sketch = Sketch { variables, keep, tries: Vec::new(), methods };
+    if draws.chance(40) {
+        add_tries(draws, size, &mut sketch);
+    }
+    sketch
 }
 
 /// A name that is new among its kind, since it ends in its number.

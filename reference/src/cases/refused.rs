@@ -3,11 +3,12 @@
 use super::damage::{any_bytes, damage_tokens};
 use super::draws::Draws;
 use super::monitors::{any_accepted, any_condition, Method, Region, Sketch, Variable};
+use super::tries::any_try;
 use super::words::{any_token, blanks, integer, laid_out_to_fit, words, Words};
 use super::Size;
 use crate::check::check;
 use crate::limits::{
-    MOST_BYTES, MOST_DEPTH, MOST_METHODS, MOST_REGIONS, MOST_TOKENS, MOST_VARIABLES,
+    MOST_BYTES, MOST_DEPTH, MOST_METHODS, MOST_REGIONS, MOST_TOKENS, MOST_TRIES, MOST_VARIABLES,
 };
 use crate::ranges::{HIGHEST, LOWEST};
 
@@ -148,6 +149,20 @@ fn ungrammatical(draws: &mut Draws, tokens: &mut Words) {
         ("method", "var z = 0 in 0 .. 0 ; method"),
         ("waituntil", "method waituntil"),
         ("monitor", "monitor if"),
+        ("monitor", "monitor try"),
+        ("var", "var try"),
+        ("var", "try true ; var"),
+        ("keep", "try true ; keep"),
+        ("try", "try ;"),
+        ("try", "try try"),
+        ("try", "try true"),
+        ("try", "try true ; keep"),
+        ("method", "try method"),
+        ("method", "try true ; method"),
+        ("method", "method try"),
+        ("waituntil", "try true ; waituntil"),
+        ("{", "{ try true ;"),
+        ("}", "} try true ;"),
     ];
     let (token, phrase) = draws.pick(&phrases);
     let places: Vec<usize> = (0..tokens.len()).filter(|place| tokens[*place] == token).collect();
@@ -156,7 +171,7 @@ fn ungrammatical(draws: &mut Draws, tokens: &mut Words) {
     }
 }
 
-/// For 5: too many variables, methods or regions.
+/// For 5: too many variables, tries, methods or regions.
 fn too_many(draws: &mut Draws, sketch: &mut Sketch, size: Size) {
     let over = if size.is_small { 1 } else { draws.count(1, 2) };
     let empty = Region { guard: words("true"), body: Vec::new() };
@@ -165,7 +180,7 @@ fn too_many(draws: &mut Draws, sketch: &mut Sketch, size: Size) {
         sketch.methods.truncate(1);
         sketch.methods[0].regions = vec![empty.clone()];
     }
-    match draws.below(3) {
+    match draws.below(4) {
         0 => {
             for number in sketch.variables.len()..MOST_VARIABLES + over {
                 let name = format!("v{number}");
@@ -181,6 +196,14 @@ fn too_many(draws: &mut Draws, sketch: &mut Sketch, size: Size) {
                 sketch.methods.insert(place, extra);
             }
         }
+        2 => {
+            while sketch.tries.len() < MOST_TRIES + over {
+                let is_short = size.is_small || draws.chance(30);
+                let more = if is_short { words("true") } else { any_try(draws, &sketch.variables) };
+                let place = draws.count(0, sketch.tries.len());
+                sketch.tries.insert(place, more);
+            }
+        }
         _ => {
             for _ in 0..MOST_REGIONS + over {
                 let number = draws.below(sketch.methods.len());
@@ -194,7 +217,7 @@ fn too_many(draws: &mut Draws, sketch: &mut Sketch, size: Size) {
 fn bad_name(draws: &mut Draws, sketch: &mut Sketch) {
     let method = draws.pick(&sketch.methods).name;
     let unknown = draws.pick(&["u".to_string(), "m".to_string(), "True".to_string(), method]);
-    match draws.below(5) {
+    match draws.below(6) {
         0 => {
             let again = draws.pick(&sketch.variables);
             let place = draws.count(0, sketch.variables.len());
@@ -206,7 +229,11 @@ fn bad_name(draws: &mut Draws, sketch: &mut Sketch) {
             sketch.methods.insert(place, again);
         }
         2 => sketch.keep.extend(words(&format!("|| {unknown} == 0"))),
-        3 => sketch.any_region(draws).guard.extend(words(&format!("&& 0 < {unknown}"))),
+        3 => {
+            let place = draws.count(0, sketch.tries.len());
+            sketch.tries.insert(place, words(&format!("{unknown} == {unknown}")));
+        }
+        4 => sketch.any_region(draws).guard.extend(words(&format!("&& 0 < {unknown}"))),
         _ => {
             let known = draws.pick(&sketch.variables).name;
             let (left, right) = match draws.chance(50) {

@@ -5,7 +5,7 @@ use crate::cases::damage::{any_bytes, damage_bytes, damage_tokens};
 use crate::cases::draws::Draws;
 use crate::cases::words::{blanks, integer, laid_out, words, Layout, Words};
 use crate::limits::{
-    MOST_BYTES, MOST_DEPTH, MOST_METHODS, MOST_REGIONS, MOST_TOKENS, MOST_VARIABLES,
+    MOST_BYTES, MOST_DEPTH, MOST_METHODS, MOST_REGIONS, MOST_TOKENS, MOST_TRIES, MOST_VARIABLES,
 };
 use crate::ranges::{HIGHEST, LOWEST, MOST_STATES};
 use crate::tokens::{is_blank, tokens, LONGEST_NUMBER, LONGEST_WORD, MARKS, RESERVED};
@@ -33,13 +33,15 @@ enum Kind {
     Names,
     /// Another kept condition, or statements that may leave a range.
     Claims,
+    /// Tries added, moved, doubled, cut, swapped.
+    Tries,
     /// Long runs of brackets, `!`, `||`, statements and the like.
     Runs,
     /// Words and numbers about their greatest length, or nearly reserved.
     Spelling,
     /// Ranges about -128 to 127, and about 4,096 states.
     Ranges,
-    /// About 6 variables, 8 methods, 16 regions.
+    /// About 6 variables, 16 tries, 8 methods, 16 regions.
     Declarations,
     /// Filled up to about 8,192 bytes, or far more.
     Length,
@@ -47,7 +49,7 @@ enum Kind {
     Any,
 }
 
-const SHARES: [(Kind, usize); 16] = [
+const SHARES: [(Kind, usize); 17] = [
     (Kind::Whole, 28),
     (Kind::Other, 3),
     (Kind::Bytes, 5),
@@ -58,6 +60,7 @@ const SHARES: [(Kind, usize); 16] = [
     (Kind::Meaning, 11),
     (Kind::Names, 4),
     (Kind::Claims, 8),
+    (Kind::Tries, 7),
     (Kind::Runs, 11),
     (Kind::Spelling, 5),
     (Kind::Ranges, 4),
@@ -106,6 +109,7 @@ fn damaged(draws: &mut Draws, source: &mut Source, mut file: Vec<u8>) -> Vec<u8>
         Kind::Meaning => other_meaning,
         Kind::Names => names,
         Kind::Claims => claims,
+        Kind::Tries => tries,
         Kind::Runs => runs,
         Kind::Spelling => spelling,
         Kind::Ranges => other_ranges,
@@ -304,6 +308,138 @@ fn claims(draws: &mut Draws, file: &mut Words) {
     }
 }
 
+const TRIED: [&str; 8] = [
+    "true",
+    "false",
+    "NAME == NAME",
+    "NAME <= 1",
+    "NAME > - 1",
+    "NAME != 1",
+    "! ( NAME == 2 )",
+    "0 == NAME || NAME == 1",
+];
+
+fn tries(draws: &mut Draws, file: &mut Words) {
+    let mut found = tries_of(file);
+    if found.is_empty() || draws.chance(40) {
+        more_tries(draws, file);
+        found = tries_of(file);
+        if found.is_empty() || draws.chance(60) {
+            return;
+        }
+    }
+    let [(start, end), (other, other_end)] = [0, 1].map(|_| draws.pick(&found));
+    let one = file[start..end].to_vec();
+    match draws.below(8) {
+        // Moved, or doubled.
+        0 => {
+            file.drain(start..end);
+            let place = try_place(draws, file);
+            file.splice(place..place, one);
+        }
+        1 => {
+            let place = try_place(draws, file);
+            file.splice(place..place, one);
+        }
+        2 => drop(file.splice(end..end, one)),
+        // Cut: all of it, its condition, its semicolon, its `try`, or one token.
+        3 => drop(file.drain(start..end)),
+        4 => drop(file.drain(start + 1..end - 1)),
+        5 => {
+            let any = draws.count(start, end - 1);
+            file.remove(draws.pick(&[start, end - 1, any]));
+        }
+        // Two of them swapped.
+        6 if end <= other => {
+            let two = file[other..other_end].to_vec();
+            file.splice(other..other_end, one);
+            file.splice(start..end, two);
+        }
+        _ => {
+            let name = draws.pick(&[variables_of(file), words("try")].concat());
+            let condition = words(&draws.pick(&TRIED).replace("NAME", &name));
+            file.splice(start + 1..end - 1, condition);
+        }
+    }
+}
+
+/// Where tries stand, each from its `try` up to behind the next `;`.
+fn tries_of(file: &Words) -> Vec<(usize, usize)> {
+    let starts = (0..file.len()).filter(|at| file[*at] == "try");
+    starts
+        .filter_map(|start| {
+            let length = file[start..].iter().position(|token| token == ";")?;
+            Some((start, start + length + 1))
+        })
+        .collect()
+}
+
+/// Any number of tries up to about the limit: any ones, or such as fall one a pass, since a
+/// region counts a variable up.
+fn more_tries(draws: &mut Draws, file: &mut Words) {
+    let present = tries_of(file).len();
+    let count = match draws.below(3) {
+        0 => about(draws, MOST_TRIES).saturating_sub(present),
+        1 => draws.count(1, 4),
+        _ => draws.count(2, 12),
+    };
+    let widest =
+        declared(file).into_iter().max_by_key(|variable| variable.highest - variable.start);
+    let conditions: Words = match widest {
+        Some(mut variable) if draws.chance(60) => {
+            let name = file.get(variable.place + 1).cloned().unwrap_or_default();
+            let start = variable.start;
+            variable.highest = variable.highest.max(start + draws.count(1, count + 1) as i64);
+            counted_up(draws, file, &name, variable.highest);
+            redeclare(draws, file, variable);
+            let steps = 1..=count as i64;
+            let value = |step| integer(draws, start + step).join(" ");
+            steps.map(value).map(|value| format!("{name} != {value}")).collect()
+        }
+        _ => {
+            let name = draws.pick(&[variables_of(file), words("x")].concat());
+            (0..count).map(|_| draws.pick(&TRIED).replace("NAME", &name)).collect()
+        }
+    };
+    // Behind `keep` and its condition.
+    let Some(keep) = file.iter().position(|token| token == "keep") else { return };
+    let Some(length) = file[keep..].iter().position(|token| token == ";") else { return };
+    let place = keep + length + 1;
+    for condition in conditions.into_iter().rev() {
+        file.splice(place..place, words(&format!("try {condition} ;")));
+    }
+}
+
+/// A new region counts the variable up to its highest value, and mostly nothing else changes it.
+fn counted_up(draws: &mut Draws, file: &mut Words, name: &str, highest: i64) {
+    let assigned = [name, ":="];
+    while let Some(start) = file.windows(2).position(|two| two == assigned) {
+        if draws.chance(10) {
+            break;
+        }
+        let length = file[start..].iter().position(|token| token == ";");
+        file.drain(start..length.map_or(file.len(), |length| start + length + 1));
+    }
+    let regions: Vec<usize> = (0..file.len()).filter(|at| file[*at] == "waituntil").collect();
+    if !regions.is_empty() {
+        let place = draws.pick(&regions);
+        let top = integer(draws, highest).join(" ");
+        let region = format!("waituntil ( {name} < {top} ) {{ {name} := {name} + 1 ; }}");
+        file.splice(place..place, words(&region));
+    }
+}
+
+/// Where no try may stand, mostly: before `keep`, between methods, in one, in a body, at the
+/// end, or anywhere.
+fn try_place(draws: &mut Draws, file: &Words) -> usize {
+    let wanted = draws.pick(&["keep", "method", "waituntil", "if", "}", ";", ""]);
+    let places: Vec<usize> = (0..file.len()).filter(|at| file[*at] == wanted).collect();
+    match places.is_empty() {
+        true => draws.count(0, file.len()),
+        false => draws.pick(&places),
+    }
+}
+
 /// A run of something many times over: what is repeated, what stands behind it, what
 /// closes each, and what joins all of it to what follows. NAME is a variable.
 type Run = [&'static str; 4];
@@ -369,7 +505,7 @@ fn places_behind(file: &Words, runs: &[&str]) -> Vec<usize> {
 
 /// Where conditions begin.
 fn condition_places(file: &Words) -> Vec<usize> {
-    places_behind(file, &["keep", "waituntil (", "if ("])
+    places_behind(file, &["keep", "try", "waituntil (", "if ("])
 }
 
 /// Where bodies and the blocks of an `if` begin.
@@ -461,13 +597,18 @@ fn other_ranges(draws: &mut Draws, file: &mut Words) {
         }
     }
     // From the last one on: what stands before it keeps its place.
-    for Declared { place, length, start, lowest, highest } in variables.into_iter().rev() {
-        let name = file.get(place + 1).cloned().unwrap_or_default();
-        let [start, lowest, highest] =
-            [start, lowest, highest].map(|number| integer(draws, number).join(" "));
-        let range = words(&format!("var {name} = {start} in {lowest} .. {highest}"));
-        file.splice(place..place + length, range);
+    for variable in variables.into_iter().rev() {
+        redeclare(draws, file, variable);
     }
+}
+
+fn redeclare(draws: &mut Draws, file: &mut Words, variable: Declared) {
+    let Declared { place, length, start, lowest, highest } = variable;
+    let name = file.get(place + 1).cloned().unwrap_or_default();
+    let [start, lowest, highest] =
+        [start, lowest, highest].map(|number| integer(draws, number).join(" "));
+    let range = words(&format!("var {name} = {start} in {lowest} .. {highest}"));
+    file.splice(place..place + length, range);
 }
 
 /// Wider ranges around the old ones, mostly with 4,096 states or just more.
@@ -492,17 +633,22 @@ fn declarations(draws: &mut Draws, file: &mut Words) {
     let count_of = |word: &str| file.iter().filter(|token| *token == word).count();
     let (kind, most, before) = draws.pick(&[
         ("var", MOST_VARIABLES, "keep"),
+        ("try", MOST_TRIES, "method"),
         ("method", MOST_METHODS, "method"),
         ("waituntil", MOST_REGIONS, "waituntil"),
     ]);
     let missing = about(draws, most).saturating_sub(count_of(kind));
     for number in 0..missing {
-        let places: Vec<usize> = (0..file.len()).filter(|at| file[*at] == before).collect();
+        let mut places: Vec<usize> = (0..file.len()).filter(|at| file[*at] == before).collect();
+        if kind == "try" {
+            places.truncate(1);
+        }
         let place = if places.is_empty() { file.len() } else { draws.pick(&places) };
         let guard = draws.pick(&["true", "false", "0 < 1", "00 < 001", "! true"]);
         let region = format!("waituntil ( {guard} ) {{ }}");
         let added = match kind {
             "var" => format!("var v{number} = 0 in 0 .. {} ;", draws.below(3)),
+            "try" => format!("try {guard} ;"),
             "method" => format!("method q{number} {{ {region} }}"),
             _ => region,
         };
