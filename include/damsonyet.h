@@ -21,8 +21,9 @@
 extern "C" {
 #endif
 
-/* Limits: variables, methods, regions (and so guards), threads, states; bytes of a file; bytes of a line of a table and of a trace. */
+/* Limits: variables, tries, methods, regions (and so guards), threads, states; bytes of a file; bytes of a line of a table and of a trace. */
 #define DAMSONYET_VARIABLES 6
+#define DAMSONYET_TRIES 16
 #define DAMSONYET_METHODS 8
 #define DAMSONYET_REGIONS 16
 #define DAMSONYET_THREADS 16
@@ -50,10 +51,12 @@ typedef struct {
     size_t second;
 } damsonyet_answer;
 
-/* What placing answers, and the table's length in bytes where it is placed, else 0. */
+/* What placing answers, and where it is placed the table's length in bytes, and the chosen tries as bits, the first `try` lowest. Beside a
+ * refusal both are 0, 10 included. */
 typedef struct {
     damsonyet_answer answer;
     size_t length;
+    uint16_t chosen;
 } damsonyet_placing;
 
 /* What a machine answers to a trace. Where the answer is 0, its last point: the values of `vars` variables, each with 128 added (128 in the
@@ -111,10 +114,11 @@ typedef struct {
 
 /* What a file has, and where. It is told of every file that the checks 1 to 7 pass, so beside 0, 8 and 9; beside 1 to 7 all is 0 but the
  * answer. `start` is the number of the state at the start values; `title` is the monitor's name; `keep` is what stands between `keep` and
- * its semicolon. Slots behind the counts are 0. */
+ * its semicolon, and `tried[k]` what stands between the k-th `try` and its own. Slots behind the counts are 0. */
 typedef struct {
     damsonyet_answer answer;
     size_t vars;
+    size_t tries;
     size_t methods;
     size_t regions;
     size_t guards;
@@ -123,14 +127,33 @@ typedef struct {
     damsonyet_span title;
     damsonyet_span keep;
     damsonyet_variable variable[DAMSONYET_VARIABLES];
+    damsonyet_span tried[DAMSONYET_TRIES];
     damsonyet_method method[DAMSONYET_METHODS];
     damsonyet_region region[DAMSONYET_REGIONS];
 } damsonyet_outline;
 
+/* What becomes of the tries. It is told of every file that the checks 1 to 8 pass, so beside 0 and 9 (`known`); beside 1 to 8 all is 0 but
+ * the answer. Try i is chosen where bit i of `chosen` is set: the kept condition is keep and the chosen tries together. Any other is false at
+ * the start values where `passes[i]` is 0; else it is broken, in pass `passes[i]` (1 to 16), by the body of region `regions[i]` from state
+ * `states[i]`. The passes begin with all tries that hold at the start values. In a pass every try is dropped that some region's body makes
+ * false from some state where keep and all tries that no earlier pass dropped hold, with the guard true and the body in range; told are the
+ * lowest region and then the lowest state that do so. Passes go on until one drops nothing. Slots of tries that are not broken, and those
+ * behind the count, are 0. */
+typedef struct {
+    damsonyet_answer answer;
+    bool known;
+    size_t tries;
+    uint16_t chosen;
+    uint8_t passes[DAMSONYET_TRIES];
+    uint8_t regions[DAMSONYET_TRIES];
+    uint16_t states[DAMSONYET_TRIES];
+} damsonyet_fates;
+
 /* A state, by its number. It is told beside 0 and 9. `known`: there is a state with this number; where there is none, and beside 1 to 8,
- * it is false and all that follows is 0. `kept`: the kept condition holds there. Values as in damsonyet_running; `holds`: bit g where guard g
- * holds; `after`: for each region the number of the state after its body; DAMSONYET_FAULT where the body assigns outside a range;
- * DAMSONYET_NEVER where it does not run (the state is not kept, or the guard does not hold) and in the slots behind the regions. */
+ * it is false and all that follows is 0. `kept`: the kept condition (keep and the chosen tries) holds there. Values as in damsonyet_running;
+ * `holds`: bit g where guard g holds; `after`: for each region the number of the state after its body; DAMSONYET_FAULT where the body assigns
+ * outside a range; DAMSONYET_NEVER where it does not run (the state is not kept, or the guard does not hold) and in the slots behind the
+ * regions. */
 typedef struct {
     damsonyet_answer answer;
     bool known;
@@ -157,8 +180,8 @@ typedef struct {
 /* The verdict of a file: 0, or a refusal from 1 to 9 with its places. */
 damsonyet_answer damsonyet_check(const uint8_t *file, size_t file_len);
 
-/* The table of a file from byte 0 of a buffer, 9 bytes a line; refused (1 to 9, or 10 where the buffer is too short), not a byte of the
- * buffer changes. DAMSONYET_OUTPUT_BYTES are always enough. */
+/* The table of a file from byte 0 of a buffer, 9 bytes a line, and its chosen tries; refused (1 to 9, or 10 where the buffer is too short),
+ * not a byte of the buffer changes. DAMSONYET_OUTPUT_BYTES are always enough. */
 damsonyet_placing damsonyet_place(const uint8_t *file, size_t file_len, uint8_t *table, size_t table_len);
 
 /* A run of a trace from a start state on the plain machine or, where `table` is true, on the table's: the file's refusals, 11 to 14, or 0. */
@@ -191,6 +214,9 @@ damsonyet_pointing damsonyet_points(const uint8_t *file, size_t file_len, const 
 /* What a tool needs to show a file without reading it again. */
 damsonyet_outline damsonyet_outline_of(const uint8_t *file, size_t file_len);
 
+/* What becomes of each try of a file. */
+damsonyet_fates damsonyet_fates_of(const uint8_t *file, size_t file_len);
+
 /* A state by its number, and a state's number by its values (slots behind the variables are not read). */
 damsonyet_state damsonyet_state_at(const uint8_t *file, size_t file_len, size_t number);
 damsonyet_numbered damsonyet_number_of(const uint8_t *file, size_t file_len, damsonyet_values values);
@@ -208,8 +234,9 @@ damsonyet_numbered damsonyet_number_of(const uint8_t *file, size_t file_len, dam
 DAMSONYET_SIZE(damsonyet_answer, 24);
 DAMSONYET_AT(damsonyet_answer, first, 8);
 DAMSONYET_AT(damsonyet_answer, second, 16);
-DAMSONYET_SIZE(damsonyet_placing, 32);
+DAMSONYET_SIZE(damsonyet_placing, 40);
 DAMSONYET_AT(damsonyet_placing, length, 24);
+DAMSONYET_AT(damsonyet_placing, chosen, 32);
 DAMSONYET_SIZE(damsonyet_running, 72);
 DAMSONYET_AT(damsonyet_running, vars, 24);
 DAMSONYET_AT(damsonyet_running, values, 32);
@@ -232,14 +259,24 @@ DAMSONYET_AT(damsonyet_method, first, 16);
 DAMSONYET_SIZE(damsonyet_region, 40);
 DAMSONYET_AT(damsonyet_region, body, 16);
 DAMSONYET_AT(damsonyet_region, number, 32);
-DAMSONYET_SIZE(damsonyet_outline, 1080);
+DAMSONYET_SIZE(damsonyet_outline, 1344);
 DAMSONYET_AT(damsonyet_outline, vars, 24);
-DAMSONYET_AT(damsonyet_outline, start, 64);
-DAMSONYET_AT(damsonyet_outline, title, 72);
-DAMSONYET_AT(damsonyet_outline, keep, 88);
-DAMSONYET_AT(damsonyet_outline, variable, 104);
-DAMSONYET_AT(damsonyet_outline, method, 248);
-DAMSONYET_AT(damsonyet_outline, region, 440);
+DAMSONYET_AT(damsonyet_outline, tries, 32);
+DAMSONYET_AT(damsonyet_outline, methods, 40);
+DAMSONYET_AT(damsonyet_outline, start, 72);
+DAMSONYET_AT(damsonyet_outline, title, 80);
+DAMSONYET_AT(damsonyet_outline, keep, 96);
+DAMSONYET_AT(damsonyet_outline, variable, 112);
+DAMSONYET_AT(damsonyet_outline, tried, 256);
+DAMSONYET_AT(damsonyet_outline, method, 512);
+DAMSONYET_AT(damsonyet_outline, region, 704);
+DAMSONYET_SIZE(damsonyet_fates, 112);
+DAMSONYET_AT(damsonyet_fates, known, 24);
+DAMSONYET_AT(damsonyet_fates, tries, 32);
+DAMSONYET_AT(damsonyet_fates, chosen, 40);
+DAMSONYET_AT(damsonyet_fates, passes, 42);
+DAMSONYET_AT(damsonyet_fates, regions, 58);
+DAMSONYET_AT(damsonyet_fates, states, 74);
 DAMSONYET_SIZE(damsonyet_state, 88);
 DAMSONYET_AT(damsonyet_state, known, 24);
 DAMSONYET_AT(damsonyet_state, kept, 25);

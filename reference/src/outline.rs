@@ -20,10 +20,10 @@
 //!   have; a region by its guard, its body and its guard's number.
 //! - `state_at` tells the state with a number, of every file that the checks 1 to 8 pass,
 //!   so beside 0 and 9: whether the kept condition (keep and the chosen tries) holds
-//!   there, the values, the guards
-//!   that hold, and what the body of each region does from there: it does not run, since
-//!   the kept condition or its guard does not hold there; it is a fault; or it ends at the
-//!   state with some number. Where no state has the number, nothing is told.
+//!   there, the values, the guards that hold, and what the body of each region does from
+//!   there: it does not run, since the kept condition or its guard does not hold there; it
+//!   is a fault; or it ends at the state with some number. Where no state has the number,
+//!   nothing is told.
 //! - `number_of` tells the number of the state with some values, of every file that the
 //!   checks 1 to 7 pass, where each value is in its variable's range. The numbers behind
 //!   the variables are not read.

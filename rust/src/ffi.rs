@@ -18,6 +18,7 @@ pub struct Answer {
 pub struct Placing {
     pub answer: Answer,
     pub length: usize,
+    pub chosen: u16,
 }
 
 #[repr(C)]
@@ -76,6 +77,7 @@ pub struct Region {
 pub struct Outline {
     pub answer: Answer,
     pub vars: usize,
+    pub tries: usize,
     pub methods: usize,
     pub regions: usize,
     pub guards: usize,
@@ -84,8 +86,20 @@ pub struct Outline {
     pub title: Span,
     pub keep: Span,
     pub variable: [Variable; 6],
+    pub tried: [Span; 16],
     pub method: [Method; 8],
     pub region: [Region; 16],
+}
+
+#[repr(C)]
+pub struct Fates {
+    pub answer: Answer,
+    pub known: bool,
+    pub tries: usize,
+    pub chosen: u16,
+    pub passes: [u8; 16],
+    pub regions: [u8; 16],
+    pub states: [u16; 16],
 }
 
 #[repr(C)]
@@ -136,13 +150,14 @@ extern "C" {
         out_len: usize,
     ) -> Pointing;
     pub fn damsonyet_outline_of(file: *const u8, file_len: usize) -> Outline;
+    pub fn damsonyet_fates_of(file: *const u8, file_len: usize) -> Fates;
     pub fn damsonyet_state_at(file: *const u8, file_len: usize, number: usize) -> State;
     pub fn damsonyet_number_of(file: *const u8, file_len: usize, values: Values) -> Numbered;
 }
 
 const _: () = {
     assert!(size_of::<Answer>() == 24 && offset_of!(Answer, first) == 8 && offset_of!(Answer, second) == 16);
-    assert!(size_of::<Placing>() == 32 && offset_of!(Placing, length) == 24);
+    assert!(size_of::<Placing>() == 40 && offset_of!(Placing, length) == 24 && offset_of!(Placing, chosen) == 32);
     assert!(size_of::<Running>() == 72 && offset_of!(Running, vars) == 24 && offset_of!(Running, values) == 32);
     assert!(offset_of!(Running, places) == 44 && offset_of!(Running, notified) == 60);
     assert!(offset_of!(Running, how_many) == 64 && offset_of!(Running, of_file) == 68);
@@ -152,10 +167,14 @@ const _: () = {
     assert!(size_of::<Variable>() == 24 && offset_of!(Variable, start) == 16 && offset_of!(Variable, high) == 20);
     assert!(size_of::<Method>() == 24 && offset_of!(Method, first) == 16);
     assert!(size_of::<Region>() == 40 && offset_of!(Region, body) == 16 && offset_of!(Region, number) == 32);
-    assert!(size_of::<Outline>() == 1080 && offset_of!(Outline, vars) == 24 && offset_of!(Outline, start) == 64);
-    assert!(offset_of!(Outline, title) == 72 && offset_of!(Outline, keep) == 88);
-    assert!(offset_of!(Outline, variable) == 104 && offset_of!(Outline, method) == 248);
-    assert!(offset_of!(Outline, region) == 440);
+    assert!(size_of::<Outline>() == 1344 && offset_of!(Outline, vars) == 24 && offset_of!(Outline, tries) == 32);
+    assert!(offset_of!(Outline, methods) == 40 && offset_of!(Outline, start) == 72);
+    assert!(offset_of!(Outline, title) == 80 && offset_of!(Outline, keep) == 96);
+    assert!(offset_of!(Outline, variable) == 112 && offset_of!(Outline, tried) == 256);
+    assert!(offset_of!(Outline, method) == 512 && offset_of!(Outline, region) == 704);
+    assert!(size_of::<Fates>() == 112 && offset_of!(Fates, known) == 24 && offset_of!(Fates, tries) == 32);
+    assert!(offset_of!(Fates, chosen) == 40 && offset_of!(Fates, passes) == 42);
+    assert!(offset_of!(Fates, regions) == 58 && offset_of!(Fates, states) == 74);
     assert!(size_of::<Values>() == 12);
     assert!(size_of::<State>() == 88 && offset_of!(State, known) == 24 && offset_of!(State, kept) == 25);
     assert!(offset_of!(State, vars) == 32 && offset_of!(State, values) == 40 && offset_of!(State, holds) == 52);

@@ -16,10 +16,12 @@ mod ffi;
 mod outline;
 mod points;
 mod refusal;
+mod tries;
 
 pub use outline::{outline, Method, Outline, Region, Variable};
 pub use points::{points, Notices, Point, Points};
 pub use refusal::{Reason, Refusal};
+pub use tries::{fates, Fate};
 
 /// The stack that a call may need, in bytes.
 pub const STACK: usize = 655_360;
@@ -76,6 +78,8 @@ pub struct Entry {
 #[derive(Clone, Debug, PartialEq, Eq)]
 pub struct Table {
     pub entries: Vec<Entry>,
+    /// The chosen tries as bits, the first `try` lowest: [`members`] lists them.
+    pub chosen: u16,
     /// The lines that `placer` prints, nine bytes each.
     pub text: Vec<u8>,
 }
@@ -99,7 +103,7 @@ pub struct Both {
 /// A state.
 #[derive(Clone, Debug, PartialEq, Eq)]
 pub struct State {
-    /// Whether the kept condition holds there.
+    /// Whether the kept condition, keep and the chosen tries, holds there.
     pub kept: bool,
     pub values: Vec<i16>,
     /// The guards that hold there, as bits.
@@ -143,7 +147,7 @@ pub fn place(file: &[u8]) -> Result<Table, Refusal> {
         .chunks_exact(9)
         .map(|line| Entry { region: two(line, 0), guard: two(line, 2), unconditional: two(line, 4) == 1, broadcast: two(line, 6) == 1 })
         .collect();
-    Ok(Table { entries, text })
+    Ok(Table { entries, chosen: placing.chosen, text })
 }
 
 fn record(running: &ffi::Running) -> Result<Record, Refusal> {

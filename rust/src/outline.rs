@@ -33,6 +33,8 @@ pub struct Outline {
     pub title: Range<usize>,
     /// What stands between `keep` and its semicolon.
     pub keep: Range<usize>,
+    /// What stands between each `try` and its semicolon, in file order.
+    pub tries: Vec<Range<usize>>,
     pub variables: Vec<Variable>,
     pub methods: Vec<Method>,
     pub regions: Vec<Region>,
@@ -78,6 +80,7 @@ pub fn outline(file: &[u8]) -> Result<(Outline, Result<(), Refusal>), Refusal> {
     let outline = Outline {
         title: span(o.title),
         keep: span(o.keep),
+        tries: o.tried[..o.tries].iter().map(|&tried| span(tried)).collect(),
         variables: o.variable[..o.vars]
             .iter()
             .map(|v| Variable { name: span(v.name), start: value(v.start), low: value(v.low), high: value(v.high) })

@@ -13,15 +13,15 @@ pub enum Reason {
     Crowded { byte: usize },
     /// 4: no file of the grammar goes on so.
     Grammar { byte: usize },
-    /// 5: too many variables, methods or regions.
+    /// 5: too many variables, tries, methods or regions.
     PastLimit { byte: usize },
     /// 6: a name that is declared twice, or not declared.
     Name { byte: usize },
     /// 7: a range or a start value, or too many states.
     Range { byte: usize },
-    /// 8: the kept condition is false at the start values.
+    /// 8: the condition of `keep` is false at the start values.
     NotKeptAtStart { byte: usize },
-    /// 9: from a state a region's body leaves a range or breaks the kept condition.
+    /// 9: from a state a region's body leaves a range or breaks the kept condition, that is keep and the chosen tries.
     Breaks { region: usize, state: usize },
     /// 10: the buffer is too short; the calls here lend one that is not.
     Buffer,
@@ -89,7 +89,7 @@ impl fmt::Display for Refusal {
             Reason::NoToken { byte } => write!(f, "(no token begins) at byte {byte}"),
             Reason::Crowded { byte } => write!(f, "(too many tokens, or too deep) at byte {byte}"),
             Reason::Grammar { byte } => write!(f, "(not the grammar) at byte {byte}"),
-            Reason::PastLimit { byte } => write!(f, "(too many variables, methods or regions) at byte {byte}"),
+            Reason::PastLimit { byte } => write!(f, "(too many variables, tries, methods or regions) at byte {byte}"),
             Reason::Name { byte } => write!(f, "(a name declared twice, or not declared) at byte {byte}"),
             Reason::Range { byte } => write!(f, "(a range) at byte {byte}"),
             Reason::NotKeptAtStart { byte } => write!(f, "(the kept condition is false at the start) at byte {byte}"),

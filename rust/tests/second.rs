@@ -1,5 +1,6 @@
 //! The library beside the second program (`reference/`): every call gives the same, on generated cases and on hostile input.
-use damsonyet::{Entry, Machine, Notices, Outcome, Place, Point, Points, Record, Refusal};
+use damsonyet::{Entry, Fate, Machine, Notices, Outcome, Place, Point, Points, Record, Refusal};
+use reference::cases::made::made;
 use reference::cases::{make_case, Case, Size};
 use reference::hostile::Bases;
 use reference::machines::Machines;
@@ -39,6 +40,11 @@ impl Input {
 
 fn cases(seed: u64, count: usize, size: Size, word: &'static str) -> impl Iterator<Item = Input> {
     (0..count).map(move |number| Input::of(format!("case {number} of seed {seed}, {word}"), make_case(seed, number, size)))
+}
+
+/// The cases that are made for tries.
+fn made_for_tries() -> impl Iterator<Item = Input> {
+    made().into_iter().enumerate().map(|(number, made)| Input::of(format!("case {number} made for tries"), made.case))
 }
 
 fn hostile(seed: u64, count: usize) -> impl Iterator<Item = Input> {
@@ -130,6 +136,7 @@ fn outline((verdict, told): second::Told<second::Outline>) -> Result<(damsonyet:
     let outline = damsonyet::Outline {
         title: told.title,
         keep: told.keep,
+        tries: told.tries,
         variables: told.variables.iter().map(variable).collect(),
         methods,
         regions: told.regions.iter().map(region).collect(),
@@ -138,6 +145,18 @@ fn outline((verdict, told): second::Told<second::Outline>) -> Result<(damsonyet:
         start: told.start,
     };
     Ok((outline, verdict))
+}
+
+fn fates((verdict, told): second::Told<Vec<reference::Fate>>) -> Result<Vec<Fate>, Refusal> {
+    let fate = |fate: reference::Fate| match fate {
+        reference::Fate::Chosen => Fate::Chosen,
+        reference::Fate::FalseAtStart => Fate::FalseAtStart,
+        reference::Fate::Broken { pass, region, state } => Fate::Broken { pass: pass as u8, region: region as u8, state: state as u16 },
+    };
+    match told {
+        Some(told) => Ok(told.into_iter().map(fate).collect()),
+        None => Err(refusal(verdict.expect_err("told of every file that is accepted"))),
+    }
 }
 
 fn bits(holds: &[bool]) -> u16 {
@@ -187,6 +206,14 @@ struct Counts {
     runs: [usize; 15],
     points: usize,
     parted: usize,
+    /// Files of which fates are told and that have tries; the tries by their fates, the broken ones by their passes from the second on; and
+    /// files refused with 9 of which fates are told.
+    tried: usize,
+    chosen: usize,
+    false_at_start: usize,
+    broken: usize,
+    broken_later: usize,
+    tried_refused: usize,
     states: usize,
     faults: usize,
     not_kept: usize,
@@ -221,6 +248,7 @@ fn compare(input: &Input, counts: &mut Counts) {
     input.same("check", damsonyet::check(file), monitor.as_ref().map(|_| ()).map_err(|refused| *refused));
     let machines = monitor.map(Machines::of);
     tables_and_lines(input, &machines);
+    tries(input, counts);
     runs(input, &machines, counts);
     outlines_and_states(input, counts);
 }
@@ -231,13 +259,39 @@ fn tables_and_lines(input: &Input, machines: &Result<Machines, Refusal>) {
         |e: &table::Entry| Entry { region: e.region as u8, guard: e.guard as u8, unconditional: e.unconditional, broadcast: e.broadcast };
     let placed = machines
         .as_ref()
-        .map(|m| damsonyet::Table { entries: m.entries.iter().map(entry).collect(), text: table::table_lines(&m.entries) })
+        .map(|m| damsonyet::Table {
+            entries: m.entries.iter().map(entry).collect(),
+            chosen: m.monitor.chosen(),
+            text: table::table_lines(&m.entries),
+        })
         .map_err(|refused| *refused);
     input.same("place", damsonyet::place(file), placed);
     input.same("placer_lines", damsonyet::placer_lines(file), reference::lines::placer(file));
     input.same("runner_lines", damsonyet::runner_lines(file, trace), reference::lines::runner(file, trace));
     let start = machines.as_ref().map_or(0, |machines| machines.monitor.start_number());
     input.same("start_state", damsonyet::start_state(file), start);
+}
+
+fn tries(input: &Input, counts: &mut Counts) {
+    let second = fates(reference::tried(&input.file));
+    let told = damsonyet::fates(&input.file);
+    input.same("fates", told.clone(), second);
+    let Ok(told) = told else { return };
+    counts.tried += usize::from(!told.is_empty());
+    counts.tried_refused += usize::from(!told.is_empty() && damsonyet::check(&input.file).is_err());
+    for fate in told {
+        match fate {
+            Fate::Chosen => counts.chosen += 1,
+            Fate::FalseAtStart => counts.false_at_start += 1,
+            Fate::Broken { pass, region, state } => {
+                counts.broken += 1;
+                counts.broken_later += usize::from(pass > 1);
+                // Where the body leads from there can be asked: the state is kept, and the body ends.
+                let from = damsonyet::state_at(&input.file, state.into()).expect("told").expect("a state");
+                assert!(from.kept && matches!(from.after[usize::from(region)], Some(Outcome::Ends(_))), "{}", input.name);
+            }
+        }
+    }
 }
 
 fn runs(input: &Input, machines: &Result<Machines, Refusal>, counts: &mut Counts) {
@@ -347,6 +401,9 @@ fn compare_slots(input: &Input) {
     let (verdict, told) = second::outline(file);
     let given = unsafe { ffi::damsonyet_outline_of(file.as_ptr(), file.len()) };
     input.same("outline's slots", outline_numbers(&given), second_numbers(verdict, told.as_ref()));
+    let (verdict, fates) = reference::tried(file);
+    let given = unsafe { ffi::damsonyet_fates_of(file.as_ptr(), file.len()) };
+    input.same("fates' slots", fates_numbers(&given), second_fates(verdict, fates));
     for wanted in [start, told.as_ref().map_or(1, |told| told.states - 1), told.map_or(2, |told| told.states)] {
         let given = unsafe { ffi::damsonyet_state_at(file.as_ptr(), file.len(), wanted) };
         let library = (three(given.answer), given.known, given.kept, given.vars, given.values, given.holds, given.after);
@@ -392,9 +449,9 @@ fn lent_buffers(input: &Input, machines: &Result<Machines, Answer>, start: usize
         let mut buffer = vec![BEFORE; room];
         let given = unsafe { ffi::damsonyet_place(file.as_ptr(), file.len(), buffer.as_mut_ptr(), room) };
         let second = reference::place(file, room);
-        let lines = second.as_deref().unwrap_or_default();
-        let wanted = (numbers(second.as_ref().err()), lines.len(), written(lines, room));
-        input.same(("place's buffer", room), (three(given.answer), given.length, buffer), wanted);
+        let (lines, chosen) = second.as_ref().map_or((&[][..], 0), |placed| (&placed.table[..], placed.chosen));
+        let wanted = (numbers(second.as_ref().err()), lines.len(), chosen, written(lines, room));
+        input.same(("place's buffer", room), (three(given.answer), given.length, given.chosen, buffer), wanted);
     }
     let mut buffer = Box::new([BEFORE; ffi::OUTPUT_BYTES]);
     let count = unsafe { ffi::damsonyet_placer_lines(file.as_ptr(), file.len(), &mut *buffer) };
@@ -431,10 +488,13 @@ fn held(values: &[i64]) -> [u16; 6] {
 /// All numbers of an outline in the header's order.
 fn outline_numbers(o: &ffi::Outline) -> Vec<usize> {
     let mut all = vec![o.answer.number.into(), o.answer.first, o.answer.second];
-    all.extend([o.vars, o.methods, o.regions, o.guards, o.states, o.start]);
+    all.extend([o.vars, o.tries, o.methods, o.regions, o.guards, o.states, o.start]);
     all.extend([o.title.from, o.title.to, o.keep.from, o.keep.to]);
     for v in &o.variable {
         all.extend([v.name.from, v.name.to, v.start.into(), v.low.into(), v.high.into()]);
+    }
+    for t in &o.tried {
+        all.extend([t.from, t.to]);
     }
     for m in &o.method {
         all.extend([m.name.from, m.name.to, m.first]);
@@ -450,22 +510,51 @@ fn second_numbers(verdict: Result<(), Answer>, told: Option<&second::Outline>) -
     let (number, first, place) = numbers(verdict.as_ref().err());
     let mut all = vec![number.into(), first, place];
     if let Some(o) = told {
-        all.extend([o.variables.len(), o.methods.len(), o.regions.len(), o.guards, o.states, o.start]);
+        all.extend([o.variables.len(), o.tries.len(), o.methods.len(), o.regions.len(), o.guards, o.states, o.start]);
         all.extend([o.title.start, o.title.end, o.keep.start, o.keep.end]);
         for v in &o.variables {
             all.extend([v.name.start, v.name.end]);
             all.extend([v.start, v.lowest, v.highest].map(|value| (value + 128) as usize));
         }
-        all.resize(13 + 6 * 5, 0);
+        all.resize(14 + 6 * 5, 0);
+        for t in &o.tries {
+            all.extend([t.start, t.end]);
+        }
+        all.resize(14 + 6 * 5 + 16 * 2, 0);
         for m in &o.methods {
             all.extend([m.name.start, m.name.end, m.first]);
         }
-        all.resize(13 + 6 * 5 + 8 * 3, 0);
+        all.resize(14 + 6 * 5 + 16 * 2 + 8 * 3, 0);
         for r in &o.regions {
             all.extend([r.guard.start, r.guard.end, r.body.start, r.body.end, r.number]);
         }
     }
-    all.resize(13 + 6 * 5 + 8 * 3 + 16 * 5, 0);
+    all.resize(14 + 6 * 5 + 16 * 2 + 8 * 3 + 16 * 5, 0);
+    all
+}
+
+/// All numbers of what is told of tries, in the header's order.
+fn fates_numbers(f: &ffi::Fates) -> Vec<usize> {
+    let mut all = vec![f.answer.number.into(), f.answer.first, f.answer.second, f.known.into(), f.tries, f.chosen.into()];
+    all.extend(f.passes.map(usize::from));
+    all.extend(f.regions.map(usize::from));
+    all.extend(f.states.map(usize::from));
+    all
+}
+
+/// The same of the second program's.
+fn second_fates(verdict: Result<(), Answer>, told: Option<Vec<reference::Fate>>) -> Vec<usize> {
+    let (number, first, place) = numbers(verdict.as_ref().err());
+    let fates = told.as_deref().unwrap_or_default();
+    let chosen = (0..fates.len()).filter(|&i| fates[i] == reference::Fate::Chosen).map(|i| 1 << i).sum::<usize>();
+    let mut all = vec![number.into(), first, place, told.is_some().into(), fates.len(), chosen];
+    let broken = |i: usize| match fates.get(i) {
+        Some(&reference::Fate::Broken { pass, region, state }) => [pass, region, state],
+        _ => [0; 3],
+    };
+    for part in 0..3 {
+        all.extend((0..16).map(|i| broken(i)[part]));
+    }
     all
 }
 
@@ -481,6 +570,22 @@ fn generated_cases() {
         assert!(counts.accepted >= 100 && counts.refused[1..].iter().all(|&refused| refused >= 6), "{counts:?}");
         assert!([0, 11, 12, 13, 14].iter().all(|&answer| counts.runs[answer] >= 20), "{counts:?}");
         assert!(counts.parted >= 10 && counts.faults >= 5 && counts.not_kept >= 50, "{counts:?}");
+        assert!(counts.tried >= 30 && counts.chosen >= 50 && counts.false_at_start >= 20 && counts.broken >= 20, "{counts:?}");
+    });
+}
+
+#[test]
+fn cases_made_for_tries() {
+    with_stack(|| {
+        let begun = Instant::now();
+        let mut counts = Counts::default();
+        for input in made_for_tries() {
+            compare(&input, &mut counts);
+            compare_slots(&input);
+        }
+        println!("{counts:?} in {:?}", begun.elapsed());
+        assert!(counts.tried >= 10 && counts.chosen >= 20 && counts.false_at_start >= 5, "{counts:?}");
+        assert!(counts.broken >= 20 && counts.broken_later >= 10 && counts.tried_refused >= 1, "{counts:?}");
     });
 }
 

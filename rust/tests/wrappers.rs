@@ -1,5 +1,5 @@
 //! The wrappers against the examples' tables and lines, and on any bytes.
-use damsonyet::{Machine, Outcome, Place, Reason, Refusal};
+use damsonyet::{Fate, Machine, Outcome, Place, Reason, Refusal};
 use std::fs;
 use std::path::{Path, PathBuf};
 
@@ -109,6 +109,7 @@ fn agree(file: &[u8], trace: &[u8], start: usize) {
     if trace.len() <= 65_536 {
         assert_eq!(runner.as_bytes(), damsonyet::runner_lines(file, trace));
     }
+    tries_agree(file, &verdict, &outlined);
     let Ok((outline, told)) = outlined else { return };
     assert!(outline.start < outline.states && outline.states <= 4096);
     let start_values: Vec<i16> = outline.variables.iter().map(|variable| variable.start).collect();
@@ -162,6 +163,44 @@ fn agree(file: &[u8], trace: &[u8], start: usize) {
             }
         }
     }
+}
+
+/// The fates beside the verdict, the outline, the chosen tries and the states.
+fn tries_agree(file: &[u8], verdict: &Result<(), Refusal>, outlined: &Result<(damsonyet::Outline, Result<(), Refusal>), Refusal>) {
+    let fates = match damsonyet::fates(file) {
+        Ok(fates) => fates,
+        Err(refusal) => {
+            assert_eq!(Err(refusal), *verdict);
+            assert!(refusal.number < 9);
+            return;
+        }
+    };
+    assert!(verdict.is_ok() || verdict.is_err_and(|refusal| refusal.number == 9));
+    let (outline, _) = outlined.as_ref().expect("an outline");
+    assert_eq!(fates.len(), outline.tries.len());
+    let mut from = outline.keep.end;
+    for tried in &outline.tries {
+        assert_eq!(file[from], b';');
+        assert!(file[from + 1..tried.start].trim_ascii() == b"try");
+        from = tried.end;
+    }
+    assert_eq!(file[from], b';');
+    if let Ok(table) = damsonyet::place(file) {
+        let chosen: Vec<u8> = (0..16).filter(|&i| fates.get(usize::from(i)) == Some(&Fate::Chosen)).collect();
+        assert_eq!(damsonyet::members(table.chosen), chosen);
+    }
+    let mut passes: Vec<u8> = Vec::new();
+    for fate in &fates {
+        if let &Fate::Broken { pass, region, state } = fate {
+            let from = damsonyet::state_at(file, state.into()).expect("told").expect("a state");
+            assert!(from.kept && usize::from(region) < outline.regions.len());
+            assert!(matches!(from.after[usize::from(region)], Some(Outcome::Ends(_))));
+            passes.push(pass);
+        }
+    }
+    // Every pass but the last drops something.
+    let last = passes.iter().copied().max().unwrap_or(0);
+    assert!((1..=last).all(|pass| passes.contains(&pass)), "{fates:?}");
 }
 
 /// A plain generator, the same in every run.
@@ -259,6 +298,51 @@ fn states_of_a_file_refused_with_9() {
     });
 }
 
+/// The example of document 02: with x < 2 kept the table is shorter; and a guess that holds only beside another falls with it.
+#[test]
+fn guesses_shorten_a_table() {
+    with_stack(|| {
+        let placed = |tries: &str| {
+            let file = format!(
+                "monitor m {{ var x = 0 in 0..3; keep true; {tries}
+                method a {{ waituntil (x == 3) {{ }} }} method b {{ waituntil (true) {{ if (x == 2) {{ x := 3; }} }} }} }}"
+            );
+            let fates = damsonyet::fates(file.as_bytes()).expect("an accepted file");
+            (damsonyet::place(file.as_bytes()).expect("an accepted file"), fates)
+        };
+        let (table, fates) = placed("");
+        assert_eq!((&table.text[..], table.chosen, fates), (&b"01000001\n"[..], 0, vec![]));
+        let (table, fates) = placed("try x < 2;");
+        assert_eq!((&table.text[..], table.chosen, fates), (&b""[..], 1, vec![Fate::Chosen]));
+        // x > 0 is false at the start; x != 3 is broken from x 2, which is kept where x < 2 is not chosen.
+        let (table, fates) = placed("try x > 0; try x != 3;");
+        let broken = Fate::Broken { pass: 1, region: 1, state: 2 };
+        assert_eq!((&table.text[..], table.chosen, fates), (&b"01000001\n"[..], 0, vec![Fate::FalseAtStart, broken]));
+        let (table, fates) = placed("try x > 0; try x != 3; try x < 2;");
+        assert_eq!((&table.text[..], table.chosen), (&b""[..], 6));
+        assert_eq!(fates, [Fate::FalseAtStart, Fate::Chosen, Fate::Chosen]);
+    });
+}
+
+/// Tries past sixteen, and in wrong places.
+#[test]
+fn tries_that_are_refused() {
+    with_stack(|| {
+        let file = |tries: &str, behind: &str| {
+            format!("monitor m {{ var x = 0 in 0..1; keep true; {tries} method a {{ waituntil (true) {{ }} }} {behind} }}").into_bytes()
+        };
+        let refused = |file: &[u8]| damsonyet::fates(file).map(|_| ()).map_err(|refusal| (refusal.number, refusal.first));
+        let sixteen = "try x < 2;".repeat(16);
+        assert_eq!(damsonyet::place(&file(&sixteen, "")).expect("accepted").chosen, 0xFFFF);
+        assert_eq!(refused(&file(&(sixteen.clone() + "try true;"), "")), Err((5, 42 + 160)));
+        let behind = file("", "try true;");
+        let at = behind.windows(3).position(|word| word == b"try").expect("a try");
+        assert_eq!(refused(&behind), Err((4, at)));
+        assert_eq!(refused(&file("try y == 0;", "")), Err((6, 46)));
+        assert!(damsonyet::outline(&file("try y == 0;", "")).is_err());
+    });
+}
+
 /// The deepest conditions that a file of 1,024 tokens can have: every call fits the stack that is stated.
 #[test]
 fn deepest_files_fit_the_stated_stack() {
@@ -266,6 +350,7 @@ fn deepest_files_fit_the_stated_stack() {
     let files = [
         format!("monitor m {{ var x = 0 in 0..1; keep {}true; method a {{ waituntil (true) {{ }} }} }}", bangs(998)),
         format!("monitor m {{ var x = 0 in 0..1; keep true; method a {{ waituntil ({}true) {{ }} }} }}", bangs(998)),
+        format!("monitor m {{ var x = 0 in 0..1; keep true; try {}true; method a {{ waituntil (true) {{ }} }} }}", bangs(994)),
         format!("monitor m {{ var x = 0 in 0..1; keep true; method a {{ waituntil (true) {{ if ({}true) {{ }} }} }} }}", bangs(992)),
     ];
     for file in files {
@@ -277,6 +362,7 @@ fn deepest_files_fit_the_stated_stack() {
             assert_eq!(damsonyet::points(file, trace, 0).unwrap().points.len(), 3);
             assert_eq!(damsonyet::outline(file).unwrap().0.states, 2);
             assert!(damsonyet::state_at(file, 1).unwrap().unwrap().kept);
+            assert!(damsonyet::fates(file).unwrap().iter().all(|fate| *fate == Fate::Chosen));
             assert_eq!(damsonyet::number_of(file, &[1]), Ok(Some(1)));
             assert_eq!(damsonyet::runner_lines(file, trace).len(), 2 * 37);
         };

@@ -1,8 +1,8 @@
-//! The check of a file: refusals 1 to 9 in order. Of an accepted file it leaves
-//! all that the table and the machines look up.
+//! The check of a file: refusals 1 to 9 in order, and before 9 the choice among its
+//! tries. Of an accepted file it leaves all that the table and the machines look up.
 
 use crate::grammar::parse;
-use crate::monitor::{Monitor, Values, Variable};
+use crate::monitor::{Condition, Monitor, Values, Variable};
 use crate::tokens::tokens;
 use crate::Refusal;
 
@@ -13,40 +13,75 @@ pub struct Checked {
     pub monitor: Monitor,
     /// The values of each state.
     pub states: Vec<Values>,
-    /// Whether a state meets the kept condition.
+    /// Whether a state meets keep and the chosen tries.
     pub kept: Vec<bool>,
     /// The guards that hold in a state, one bit a guard.
     pub truths: Vec<u16>,
-    /// For each region, the state after its body from each kept state where its
-    /// guard holds; 0 from the others.
+    /// For each region, the state after its body from each state where keep and its
+    /// guard hold; `NONE` from the others, and where the body leaves a range.
     pub after: Vec<Vec<u16>>,
 }
+
+/// The number of no state.
+const NONE: u16 = u16::MAX;
 
 pub fn check(file: &[u8]) -> Result<Checked, Refusal> {
     let monitor = parse_checked(file)?;
     let states = monitor.states();
-    let kept: Vec<bool> = states.iter().map(|values| monitor.keep.holds(values)).collect();
-    let truths: Vec<u16> = states.iter().map(|values| truths_at(&monitor, values)).collect();
+    let mut kept: Vec<bool> = states.iter().map(|values| monitor.keep.holds(values)).collect();
+    let truths: Vec<u16> = states.iter().map(|values| truths_at(&monitor.guards, values)).collect();
     let mut after = Vec::with_capacity(monitor.regions.len());
-    for (number, region) in monitor.regions.iter().enumerate() {
-        let mut row = vec![0; states.len()];
+    for region in &monitor.regions {
+        let mut row = vec![NONE; states.len()];
         for (state, values) in states.iter().enumerate() {
             if !kept[state] || truths[state] >> region.guard & 1 == 0 {
                 continue;
             }
             let mut values = *values;
-            if !monitor.run(&region.body, &mut values) {
-                return Err(Refusal { number: 9, first: number, second: state });
+            if monitor.run(&region.body, &mut values) {
+                row[state] = monitor.number_of(&values) as u16;
             }
-            let to = monitor.number_of(&values);
-            if !kept[to] {
-                return Err(Refusal { number: 9, first: number, second: state });
-            }
-            row[state] = to as u16;
         }
         after.push(row);
     }
+    if !monitor.tries.is_empty() {
+        let tries: Vec<u16> =
+            states.iter().map(|values| truths_at(&monitor.tries, values)).collect();
+        let start = monitor.number_of(&monitor.start_values());
+        let chosen = chosen(&tries, &after, start);
+        for (kept, tries) in kept.iter_mut().zip(&tries) {
+            *kept &= tries & chosen == chosen;
+        }
+    }
+    for (number, region) in monitor.regions.iter().enumerate() {
+        for (state, &to) in after[number].iter().enumerate() {
+            let runs = kept[state] && truths[state] >> region.guard & 1 == 1;
+            if runs && (to == NONE || !kept[usize::from(to)]) {
+                return Err(Refusal { number: 9, first: number, second: state });
+            }
+        }
+    }
     Ok(Checked { monitor, states, kept, truths, after })
+}
+
+/// The chosen tries, one bit a try, from those that hold in each state: pass by pass all
+/// are dropped that some body breaks.
+fn chosen(tries: &[u16], after: &[Vec<u16>], start: usize) -> u16 {
+    let mut set = tries[start];
+    loop {
+        let mut left = set;
+        for row in after {
+            for (&before, &to) in tries.iter().zip(row) {
+                if to != NONE && before & set == set {
+                    left &= tries[usize::from(to)];
+                }
+            }
+        }
+        if left == set {
+            return set;
+        }
+        set = left;
+    }
 }
 
 /// The monitor of a file that refusals 1 to 8 let pass.
@@ -77,8 +112,9 @@ fn ranges(variables: &[Variable]) -> Result<(), Refusal> {
     Ok(())
 }
 
-fn truths_at(monitor: &Monitor, values: &Values) -> u16 {
-    let guards = monitor.guards.iter().enumerate();
-    guards
-        .fold(0, |truths, (guard, condition)| truths | u16::from(condition.holds(values)) << guard)
+/// The conditions that hold, one bit each.
+fn truths_at(conditions: &[Condition], values: &Values) -> u16 {
+    let conditions = conditions.iter().enumerate();
+    conditions
+        .fold(0, |truths, (bit, condition)| truths | u16::from(condition.holds(values)) << bit)
 }

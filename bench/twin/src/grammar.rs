@@ -8,6 +8,7 @@ use crate::monitor::{
 use crate::tokens::{Kind, Token};
 use crate::Refusal;
 
+const MOST_TRIES: usize = 16;
 const MOST_METHODS: usize = 8;
 const MOST_REGIONS: usize = 16;
 
@@ -126,6 +127,15 @@ impl<'a> Parser<'a> {
         self.expect(Kind::Keep)?;
         let keep = self.condition()?;
         self.expect(Kind::Semicolon)?;
+        let mut tries = Vec::new();
+        while self.peek() == Some(Kind::Try) {
+            if tries.len() >= MOST_TRIES {
+                self.over_limit.get_or_insert(self.place());
+            }
+            self.next += 1;
+            tries.push(self.condition()?);
+            self.expect(Kind::Semicolon)?;
+        }
         let mut guards = Vec::new();
         let mut regions = Vec::new();
         self.method(&mut guards, &mut regions)?;
@@ -136,7 +146,7 @@ impl<'a> Parser<'a> {
         if self.next < self.tokens.len() {
             return self.refuse();
         }
-        Ok(Monitor { variables, keep, keep_place, guards, regions })
+        Ok(Monitor { variables, keep, keep_place, tries, guards, regions })
     }
 
     fn variable(&mut self) -> Parsed<Variable> {

@@ -11,6 +11,7 @@ pub struct Monitor {
     pub keep: Condition,
     /// The byte of `keep`.
     pub keep_place: usize,
+    pub tries: Vec<Condition>,
     /// By number, that is by first appearance.
     pub guards: Vec<Condition>,
     /// By number; they run on across methods.

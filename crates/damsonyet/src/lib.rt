@@ -9,6 +9,7 @@ use monitor::Pointing;
 use outline::Outline;
 use run::Both;
 use run::Running;
+use survey::Fates;
 ghost use mathlib.Core.Path.{_≡_};
 ghost use mathlib.Core.List.{List};
 ghost use Prim.Native.Nat.{ℕ, _<_};
@@ -22,7 +23,7 @@ ghost use Rattle.answers.specs.Says.{Is};
 ghost use Rattle.run.specs.Results.{Runs, machineOf};
 ghost use Rattle.monitor.specs.Results.{Places, Points, PointsSay, Agrees, Starts, startOf};
 ghost use Rattle.output.specs.Printed.{Prints};
-ghost use Rattle.survey.specs.Told.{OutlineTold, StateTold, NumberTold};
+ghost use Rattle.survey.specs.Told.{OutlineTold, StateTold, NumberTold, FatesTold};
 ghost use Rattle.damsonyet.specs.Flat.{RanAs, Flattens, BothAgree};
 
 // What a run answers and its record, with each place as a byte.
@@ -190,4 +191,12 @@ pub extern "C" fn damsonyet_number_of(file: &[u8], values: Values) -> Numbered
 {
     let held = values.held;
     survey::number_of(file, held)
+}
+
+// What becomes of each try of a file, told beside 0 and 9.
+#[no_mangle]
+pub extern "C" fn damsonyet_fates_of(file: &[u8]) -> Fates
+    ensures { λ r. ⌜ FatesTold (now (file .entry)) r ⌝ }
+{
+    survey::fates(file)
 }

@@ -1,7 +1,9 @@
 // Loads a file: the refusals 1 to 9 in order, and of an accepted file all that the table and the machines look up.
 use answers::Answer;
+use choice::Choice;
 use grammar::Pos;
 use layout::Layout;
+use layout::Tries;
 use passes::Found;
 use scanner::Scanned;
 use states::Broken;
@@ -14,8 +16,9 @@ ghost use Rattle.machine.specs.Limits.{mostRegions, mostStates, mostAfter};
 ghost use Rattle.syntax.specs.Held.Kind.{Words};
 ghost use Rattle.syntax.specs.Token.{Lexeme, Token};
 ghost use Rattle.syntax.specs.Tree.{Monitor};
+ghost use mathlib.Core.Logic.{_⊎_};
 ghost use Rattle.loader.specs.Loading.{Judges, Past7, Loads, Leaves};
-ghost use Rattle.loader.specs.Filling.{Filling, Filled};
+ghost use Rattle.loader.specs.Filling.{Filling, Settles, Filled, AsLong};
 
 // 3 to 7: the answer so far, and where it is 0 the token of `keep` and the variables.
 struct Judged {
@@ -24,11 +27,20 @@ struct Judged {
     bounds: Bounds,
 }
 
-// 1 to 9: the answer, and of an accepted file its variables and layout.
+// 8 and 9: the answer, and the choice among the tries.
+struct Settled {
+    answer: Answer,
+    choice: Choice,
+}
+
+// 1 to 9: the answer, and of an accepted file its variables, its layout, and how many tries it has with the choice among
+// them.
 pub struct Loaded {
     pub answer: Answer,
     pub bounds: Bounds,
     pub layout: Layout,
+    pub tries: usize,
+    pub choice: Choice,
 }
 
 // A place as an index; as a call it asks no proof that it fits.
@@ -106,38 +118,41 @@ fn guards_at(layout: Layout) -> [u16; machine::REGIONS]
     ats
 }
 
-// 8 and 9, once names and braces are resolved: the truths and the outcomes of the bodies, into lent slices.
-fn fill(
+// 9, and the choice before it: the truths and the outcomes of the bodies, into lent slices. Where there are no tries,
+// `tried` is not written.
+fn fill_states(
     kinds: &[u8],
     values: &[u16],
     bounds: Bounds,
     layout: Layout,
-    place: usize,
+    tries: Tries,
     kept: &mut [u8],
     holds: &mut [u16],
     after: &mut [u16],
-) -> Answer
+    tried: &mut [u16],
+) -> Settled
     ensures { λ r.
-        ⌜ ((m : Monitor) (ls : List Lexeme) → Filling m ls (now (kinds .entry)) (now (values .entry)) bounds layout
+        ⌜ ((m : Monitor) (ls : List Lexeme) → Filling m ls (now (kinds .entry)) (now (values .entry)) bounds layout tries
         → mostStates ≤ length (now (kept .entry)) → mostStates ≤ length (now (holds .entry))
-        → mostAfter ≤ length (now (after .entry))
-        → Filled m place r (now (kept .exit)) (now (holds .exit)) (now (after .exit))) ⌝ }
-    ensures { λ r. ⌜ Leaves (r .number) (now (kept .entry)) (now (holds .entry)) (now (after .entry))
+        → mostAfter ≤ length (now (after .entry)) → (1 ≤ tries .count → mostStates ≤ length (now (tried .entry)))
+        → Settles m r (now (kept .exit)) (now (holds .exit)) (now (after .exit))) ⌝ }
+    ensures { λ r. ⌜ ((r .answer .number ≡ 9) ⊎ (r .answer .number ≡ 0))
+        × AsLong (now (kept .entry)) (now (holds .entry)) (now (after .entry))
         (now (kept .exit)) (now (holds .exit)) (now (after .exit)) ⌝ }
 {
-    let starts = bounds.starts;
     let keep = layout.keep;
-    if !states::holds_at(kinds, values, starts, keep) {
-        return answers::say(8, place, 0);
-    }
     states::fill_row(kinds, values, bounds, keep, kept);
+    let ats = tries.ats;
     states::fill_holds(
         kinds,
         values,
         bounds,
         guards_at(layout),
         layout.guards,
+        ats,
+        tries.count,
         holds,
+        tried,
     );
     let bodies = layout.bodies_at;
     let numbers = layout.guard_of;
@@ -153,10 +168,86 @@ fn fill(
         holds,
         after,
     );
+    let starts = bounds.starts;
+    let start = variables::number_of(bounds, starts);
+    let choice = choice::choose(
+        bounds.states,
+        numbers,
+        regions,
+        start,
+        tries.count,
+        kept,
+        holds,
+        after,
+        tried,
+    );
+    choice::strengthen(kept, tried, choice.chosen, bounds.states);
     match states::first_broken(bounds, numbers, regions, kept, holds, after) {
-        Broken::At(r, s) => answers::say(9, r, s),
-        Broken::Never => answers::say(0, 0, 0),
+        Broken::At(r, s) => Settled {
+            answer: answers::say(9, r, s),
+            choice: choice,
+        },
+        Broken::Never => Settled {
+            answer: answers::say(0, 0, 0),
+            choice: choice,
+        },
     }
+}
+
+// 8 and 9, once names and braces are resolved. At the start values the chosen tries hold, so 8 asks for keep alone.
+fn fill(
+    kinds: &[u8],
+    values: &[u16],
+    bounds: Bounds,
+    layout: Layout,
+    tries: Tries,
+    place: usize,
+    kept: &mut [u8],
+    holds: &mut [u16],
+    after: &mut [u16],
+) -> Settled
+    ensures { λ r.
+        ⌜ ((m : Monitor) (ls : List Lexeme) → Filling m ls (now (kinds .entry)) (now (values .entry)) bounds layout tries
+        → mostStates ≤ length (now (kept .entry)) → mostStates ≤ length (now (holds .entry))
+        → mostAfter ≤ length (now (after .entry))
+        → Filled m place r (now (kept .exit)) (now (holds .exit)) (now (after .exit))) ⌝ }
+    ensures { λ r. ⌜ Leaves (r .answer .number) (now (kept .entry)) (now (holds .entry)) (now (after .entry))
+        (now (kept .exit)) (now (holds .exit)) (now (after .exit)) ⌝ }
+{
+    let starts = bounds.starts;
+    let keep = layout.keep;
+    if !states::holds_at(kinds, values, starts, keep) {
+        return Settled {
+            answer: answers::say(8, place, 0),
+            choice: choice::undropped(0),
+        };
+    }
+    if tries.count == 0 {
+        let mut none = [0u16; 1];
+        return fill_states(
+            kinds,
+            values,
+            bounds,
+            layout,
+            tries,
+            kept,
+            holds,
+            after,
+            &mut none,
+        );
+    }
+    let mut tried = [0u16; machine::STATES];
+    fill_states(
+        kinds,
+        values,
+        bounds,
+        layout,
+        tries,
+        kept,
+        holds,
+        after,
+        &mut tried,
+    )
 }
 
 fn not_loaded(answer: Answer) -> Loaded
@@ -166,6 +257,8 @@ fn not_loaded(answer: Answer) -> Loaded
         answer: answer,
         bounds: variables::no_bounds(),
         layout: layout::empty(0),
+        tries: 0,
+        choice: choice::undropped(0),
     }
 }
 
@@ -192,7 +285,8 @@ fn load_judged(
 {
     let keep = judged.keep;
     let bounds = judged.bounds;
-    let layout = layout::lay_out(file, kinds, values, places, keep);
+    let tries = layout::tries_of(kinds, keep);
+    let layout = layout::lay_out(file, kinds, values, places, keep, tries.next);
     passes::resolve(file, kinds, values, places, operands);
     layout::link_braces(kinds, operands);
     let last = fill(
@@ -200,15 +294,20 @@ fn load_judged(
         operands,
         bounds,
         layout,
+        tries,
         place_of(places, keep, 0),
         kept,
         holds,
         after,
     );
+    let answer = last.answer;
+    let choice = last.choice;
     Loaded {
-        answer: last,
+        answer: answer,
         bounds: bounds,
         layout: layout,
+        tries: tries.count,
+        choice: choice,
     }
 }
 

@@ -169,16 +169,16 @@ module _ (m : Monitor) where
 
   -- One pass
 
-  pass-at : (xs : List Bool) (i : ℕ) → i < length (m .tries)
+  pub pass-at : (xs : List Bool) (i : ℕ) → i < length (m .tries)
       → inSet (pass m xs) i ≡ inSet xs i && isNone (firstBreak m xs (tryAt m i))
   unfolding pass eachTry inSet
   pass-at xs i low = each-first (length (m .tries)) _ i false low
 
-  pass-past : (xs : List Bool) (i : ℕ) → length (m .tries) ≤ i → inSet (pass m xs) i ≡ false
+  pub pass-past : (xs : List Bool) (i : ℕ) → length (m .tries) ≤ i → inSet (pass m xs) i ≡ false
   unfolding pass eachTry inSet
   pass-past xs i high = each-past (length (m .tries)) 0 _ i false high
 
-  pass-long : (xs : List Bool) → length (pass m xs) ≡ length (m .tries)
+  pub pass-long : (xs : List Bool) → length (pass m xs) ≡ length (m .tries)
   unfolding pass eachTry
   pass-long xs = each-length (length (m .tries)) 0 _
 
@@ -213,7 +213,7 @@ module _ (m : Monitor) where
       (λ h. stable n (pass m xs) (pass-long xs) (omega arith))
       (same-or-fewer xs (pass m xs) (pass-long xs ∙ sym l) (λ i. pass-within xs i))
 
-  start-long : length (trueAtStart m) ≡ length (m .tries)
+  pub start-long : length (trueAtStart m) ≡ length (m .tries)
   unfolding trueAtStart eachTry
   start-long = each-length (length (m .tries)) 0 _
 
@@ -222,7 +222,7 @@ module _ (m : Monitor) where
   unfolding trueAtStart eachTry inSet
   start-at i low = each-first (length (m .tries)) _ i false low
 
-  start-past : (i : ℕ) → length (m .tries) ≤ i → inSet (trueAtStart m) i ≡ false
+  pub start-past : (i : ℕ) → length (m .tries) ≤ i → inSet (trueAtStart m) i ≡ false
   unfolding trueAtStart eachTry inSet
   start-past i high = each-past (length (m .tries)) 0 _ i false high
 
@@ -255,7 +255,7 @@ module _ (m : Monitor) where
   start-kept =
       tests-equal _ _ (λ h. kept-iff _ .0 h .0) (λ h. kept-iff (starts (all (m .vars))) .1 (h, chosen-at-start))
 
-  chosen-below : (i : ℕ) → inSet (chosenTries m) i ≡ true → i < length (m .tries)
+  pub chosen-below : (i : ℕ) → inSet (chosenTries m) i ≡ true → i < length (m .tries)
   unfolding chosenTries
   chosen-below i x =
       ⊎-elim (λ low. low)
@@ -387,11 +387,11 @@ module _ (m : Monitor) where
       go none e = f e
       go (some (k, s)) e = g k s e
 
-  stays-in : (xs : List Bool) (i : ℕ) → i < length (m .tries) → inSet xs i ≡ true → firstBreak m xs (tryAt m i) ≡ none
+  pub stays-in : (xs : List Bool) (i : ℕ) → i < length (m .tries) → inSet xs i ≡ true → firstBreak m xs (tryAt m i) ≡ none
       → inSet (pass m xs) i ≡ true
   stays-in xs i low x e = pass-at xs i low ∙ and x (ap isNone e ∙ none-is)
 
-  falls-out : (xs : List Bool) (i : ℕ) → i < length (m .tries) → {k s : ℕ} → firstBreak m xs (tryAt m i) ≡ some (k, s)
+  pub falls-out : (xs : List Bool) (i : ℕ) → i < length (m .tries) → {k s : ℕ} → firstBreak m xs (tryAt m i) ≡ some (k, s)
       → inSet (pass m xs) i ≡ false
   falls-out xs i low e = is-false (λ h.
       clash (both (inSet xs i) (isNone (firstBreak m xs (tryAt m i))) (sym (pass-at xs i low) ∙ h) .1)
@@ -456,6 +456,28 @@ module _ (m : Monitor) where
         none-before = λ j low. absurd (omega arith);
       })
 
+  -- one that the set then breaks is broken in that pass
+  fate-drops : (n q : ℕ) (xs : List Bool) (d i k s : ℕ) → i < length (m .tries) → d < n
+      → inSet (passes m d xs) i ≡ true → firstBreak m (passes m d xs) (tryAt m i) ≡ some (k, s)
+      → fateFrom m n q xs i ≡ broken (q + d) k s
+  unfolding passes
+  fate-drops zero q xs d i k s low few x b = absurd (omega arith)
+  fate-drops (suc n) q xs zero i k s low few x b =
+      let same : q ≡ q + 0 = omega arith in fate-some n q xs i k s b ∙ ap (λ (p : ℕ). broken p k s) same
+  fate-drops (suc n) q xs (suc d) i k s low few x b =
+      let sums : q + 1 + d ≡ q + suc d = omega arith in
+      by-break xs i
+      (λ e. fate-none n q xs i e ∙ fate-drops n (q + 1) (pass m xs) d i k s low (omega arith) x b
+      ∙ ap (λ (p : ℕ). broken p k s) sums)
+      (λ k′ s′ e. clash (passes-within d (pass m xs) i x) (falls-out xs i low e))
+
+  pub passes-add : (k n : ℕ) (xs : List Bool) → passes m (k + n) xs ≡ passes m n (passes m k xs)
+  unfolding passes
+  passes-add zero n xs = let e : 0 + n ≡ n = omega arith in ap (λ (j : ℕ). passes m j xs) e
+  passes-add (suc k) n xs =
+      let e : suc k + n ≡ suc (k + n) = omega arith in
+      ap (λ (j : ℕ). passes m j xs) e ∙ passes-add k n (pass m xs)
+
   fate-not-start : (n q : ℕ) (xs : List Bool) (i : ℕ) → fateFrom m n q xs i ≡ false-at-start → ⊥
   unfolding fateFrom
   fate-not-start zero q xs i h = different (cc)
@@ -482,6 +504,13 @@ module _ (m : Monitor) where
   pub fate-off : (i : ℕ) → inSet (trueAtStart m) i ≡ false → fateOf m i ≡ false-at-start
   unfolding fateOf
   fate-off i h = rw (h, fateOf)
+
+  pub fate-in-pass : (d i k s : ℕ) → i < length (m .tries) → d < length (m .tries)
+      → inSet (passes m d (trueAtStart m)) i ≡ true
+      → firstBreak m (passes m d (trueAtStart m)) (tryAt m i) ≡ some (k, s) → fateOf m i ≡ broken (1 + d) k s
+  fate-in-pass d i k s low few x b =
+      fate-on i (passes-within d (trueAtStart m) i x)
+      ∙ fate-drops (length (m .tries)) 1 (trueAtStart m) d i k s low few x b
 
   pub chosen-fate : (i : ℕ) → inSet (chosenTries m) i ≡ isChosen (fateOf m i)
   unfolding chosenTries isChosen

@@ -17,11 +17,12 @@ ghost use Rattle.loader.specs.Loading.{Loads};
 ghost use Rattle.meaning.specs.Points.{pointsOf};
 ghost use Rattle.monitor.specs.Results.{Places, Points, PointsSay, Agrees, EntriesOf, startOf, Starts};
 
-// What placing answers, and the table's length where it is placed.
+// What placing answers, and where it is placed the table's length and the chosen tries, the first the lowest bit.
 #[repr(C)]
 pub struct Placing {
     pub answer: Answer,
     pub length: usize,
+    pub chosen: u16,
 }
 
 // Both machines' answers to a trace, and how many points are written.
@@ -83,18 +84,22 @@ pub fn place(file: &[u8], table: &mut [u8]) -> Placing
         return Placing {
             answer: verdict,
             length: 0,
+            chosen: 0,
         };
     }
     let layout = loaded.layout;
+    let choice = loaded.choice;
     let entries = entries_of(loaded, &kept, &holds, &after);
     match table::write_table(&entries, layout.regions, layout.guards, table) {
         Placed::Short => Placing {
             answer: answers::say(10, 0, 0),
             length: 0,
+            chosen: 0,
         },
         Placed::Length(n) => Placing {
             answer: verdict,
             length: n,
+            chosen: choice.chosen,
         },
     }
 }

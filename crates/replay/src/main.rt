@@ -1,7 +1,8 @@
 // Replays the second program's cases from one data file, and prints for each what placer and runner print, and of its
 // points from the start values both answers, how many there are, and a checksum of the buffer; then the same with a buffer
-// that is one byte too short. A case is the length of a monitor file and of a trace, four bytes each, the lowest first, and
+// that is one byte too short; then what becomes of its tries. A case is the length of a monitor file and of a trace, four bytes each, the lowest first, and
 // then both.
+use survey::Fates;
 ghost use Prim.Native.Nat.{_<_};
 ghost use Rattle.io.specs.Counts.{Counts};
 
@@ -89,6 +90,7 @@ fn replay(fd: i32) -> bool {
         room - 1,
         false,
     );
+    show_tries(&file[..file_end]);
     true
 }
 
@@ -106,6 +108,46 @@ fn show_points(file: &[u8], trace: &[u8], buffer: &mut [u8], size: usize, both: 
         show(table.number, table.first, table.second);
     }
     show(0, got.count, sum_of(&buffer[..size]));
+}
+
+// The chosen tries and how many there are, or the file's refusal; then a line for each try: 00 where it is chosen, FF where
+// it is false at the start values, or the pass, the region and the state that break it.
+fn show_tries(file: &[u8]) {
+    let mut table = [0u8; output::OUTPUT_BYTES];
+    let placed = monitor::place(file, &mut table);
+    let told = survey::fates(file);
+    let answer = placed.answer;
+    if answer.number == 0 {
+        show(0, wide16(placed.chosen), told.tries);
+    } else {
+        show(answer.number, answer.first, answer.second);
+    }
+    let mut i: usize = 0;
+    while i < told.tries && i < syntax::TRIES {
+        show_fate(told, i);
+        i += 1;
+    }
+}
+
+// What becomes of one try.
+fn show_fate(told: Fates, i: usize)
+    requires { ⌜ i < 16 ⌝ }
+{
+    let state = wide16(told.states[i]);
+    let region = wide(told.regions[i]);
+    if sets::has(told.chosen, i as u32) {
+        show(0, 0, 0);
+    } else if told.passes[i] == 0 {
+        show(255, 0, 0);
+    } else {
+        show(told.passes[i], region, state);
+    }
+}
+
+fn wide16(x: u16) -> usize
+    ensures { λ r. ⌜ r < 65536 ⌝ }
+{
+    x as usize
 }
 
 // A line of ten digits.

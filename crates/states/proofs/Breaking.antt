@@ -25,7 +25,7 @@ use Rattle.meaning.specs.Accepted.{GoodRanges}
 use Rattle.meaning.specs.Runs.{State, IsRegion}
 use Rattle.meaning.specs.Model.{numberAfter, vars, regions, region, guardOf, kept, holds, after, model}
 use Rattle.meaning.proofs.ModelLaws.{region-numbered, holds-guard}
-use Rattle.meaning.proofs.Soundness.{broken-none-iff, broken-some-iff}
+use Rattle.meaning.proofs.Searching.{where-none-iff, where-some-iff}
 use Rattle.meaning.proofs.StateLaws.{number-below, state-at-number}
 use Rattle.states.specs.declared.Broken.the-variants.{Never, At}
 use Rattle.states.specs.Rows.{TruthRow, GuardNumbers, KeptAll, HoldsAll, AfterAll}
@@ -35,7 +35,7 @@ use Rattle.states.proofs.Holding.{row-of-kept, kept-truth}
 use Rattle.states.proofs.Lanes.{bit-true, bit-one, outcome-state}
 use Rattle.states.proofs.Regions.{looked}
 
-bit-is : (b : Bool) → not (eqb (bit b) 1) ≡ not b
+pub bit-is : (b : Bool) → not (eqb (bit b) 1) ≡ not b
 unfolding bit
 bit-is true = refl
 bit-is false = refl
@@ -49,7 +49,7 @@ module _ {vs : List Var} {keep : List ℤ → Bool} {q : Region} {guard : ℕ} {
   unfolding runsBy TruthRow
   runs-true s low k g = and (eq-eqb (getD kept′ s 0) 1 (l .by-kept s low ∙ bit-true k)) (l .by-guard s low ∙ g)
 
-  runs-parts : (s : ℕ) → s < count vs → runsBy kept′ holds′ guard s ≡ true
+  pub runs-parts : (s : ℕ) → s < count vs → runsBy kept′ holds′ guard s ≡ true
       → (keep (stateAt vs s) ≡ true) × (truth (q .guard) vs (stateAt vs s) ≡ true)
   unfolding runsBy TruthRow
   runs-parts s low h =
@@ -120,7 +120,7 @@ module _ (m : Monitor) (rows : List ℕ) (outcomes : Outcomes m (keptAt m) rows)
         → BrokenAs Never (broken m)
     unfolding BrokenAs regions broken
     never quiet =
-        let e = broken-none-iff (vars m) (keptAt m) (regions m) .1
+        let e = where-none-iff (vars m) (breaks (vars m) (keptAt m)) (regions m) .1
         (λ j q e s h. by-slices j q e s h ∙ quiet j (numbered-below (regions m) j q e) s h) in
         rw e refl
 
@@ -130,7 +130,7 @@ module _ (m : Monitor) (rows : List ℕ) (outcomes : Outcomes m (keptAt m) rows)
     unfolding BrokenAs IsRegion regions broken
     stops r s h low here below before =
         let is = region-numbered m r h in
-        let e = broken-some-iff (vars m) (keptAt m) (regions m) r s .1 (
+        let e = where-some-iff (vars m) (breaks (vars m) (keptAt m)) (regions m) r s .1 (
           region m r,
           is,
           (
@@ -156,7 +156,7 @@ module _ (m : Monitor) (rows : List ℕ) (outcomes : Outcomes m (keptAt m) rows)
       let (low, k) = kept-truth m s on in
       let g = sym (holds-guard m one-cond r s) ∙ holding in
       let o = outcome (region m r) (vars m) (stateAt (vars m) s) in
-      let quiet = broken-none-iff (vars m) (keptAt m) (regions m) .0 e r (region m r) (region-numbered m r h) s low in
+      let quiet = where-none-iff (vars m) (breaks (vars m) (keptAt m)) (regions m) .0 e r (region m r) (region-numbered m r h) s low in
       outcomes r h .each s low .number k g
       ∙ split (keptAfter (keptAt m) o) (kept-number (vars m) (keptAt m) s o)
       (λ f. clash (and (and k g) (true-not f)) quiet)

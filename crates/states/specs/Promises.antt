@@ -11,15 +11,15 @@ use Rattle.syntax.specs.Limits.{mostVars}
 use Rattle.machine.specs.Limits.{mostStates}
 use Rattle.syntax.specs.Token.{Lexeme, mark, rbrace}
 use Rattle.sets.specs.Set.{member}
-use Rattle.syntax.specs.Tree.{Monitor, Var, Cond, Region, spellCond, spellBlock}
+use Rattle.syntax.specs.Tree.{Var, Cond, Region, spellCond, spellBlock}
 use Rattle.meaning.specs.Value.{truth}
 use Rattle.meaning.specs.State.{count, stateAt}
-use Rattle.meaning.specs.Model.{vars, guards, noGuard}
+use Rattle.meaning.specs.Model.{noGuard}
 use Rattle.meaning.specs.Held.{Biased}
 use Rattle.evaluator.specs.Coding.{Codes, EndsCond, lane}
 use Rattle.variables.specs.Bounded.{Bounded}
 use Rattle.variables.specs.declared.Bounds.{Bounds}
-use Rattle.states.specs.Rows.{TruthRow, GuardsAt, faultMark, Moved}
+use Rattle.states.specs.Rows.{TruthRow, ConditionsAt, faultMark, Moved}
 
 -- a condition begins at a token
 pub record Condition (vs : List Var) (c : Cond) (kinds values : List ℕ) (bounds : Bounds) (at : ℕ) : Type 0 where
@@ -31,15 +31,16 @@ pub record Condition (vs : List Var) (c : Cond) (kinds values : List ℕ) (bound
   pub spelled : drop at ls ≡ spellCond c ++ us
   pub ends : EndsCond us
 
--- the guards begin at these tokens
-pub record Guards (m : Monitor) (kinds values : List ℕ) (bounds : Bounds) (ats : List ℕ) (n : ℕ) : Type 0 where
+-- some conditions, at most sixteen, begin at these tokens
+pub record Conditions (vs : List Var) (cs : List Cond) (kinds values : List ℕ) (bounds : Bounds) (ats : List ℕ)
+    (n : ℕ) : Type 0 where
   pub ls : List Lexeme
-  pub codes : Codes (vars m) ls kinds values
-  pub bounded : Bounded (vars m) bounds
+  pub codes : Codes vs ls kinds values
+  pub bounded : Bounded vs bounds
   pub few : length ls ≤ 8192
-  pub counted : n ≡ length (guards m)
-  pub few-guards : n ≤ 16
-  pub places : GuardsAt m ls ats
+  pub counted : n ≡ length cs
+  pub few-conditions : n ≤ 16
+  pub places : ConditionsAt cs ls ats
 
 -- six values stand at a place and every sixteenth behind it, and all else is as it was
 pub record Put (xs : List ℕ) (at : ℕ) (values ys : List ℕ) : Type 0 where
@@ -62,8 +63,8 @@ Values vs lanes j s = Biased vs (stateAt vs s) (lane lanes j)
 abbrev pub Truth : List Var → Cond → ℕ → ℕ → ℕ → Type 0
 Truth vs c known j s = member known j ≡ truth c vs (stateAt vs s)
 
-abbrev pub Truths : Monitor → List ℕ → ℕ → ℕ → Type 0
-Truths m known j s = (g : ℕ) → g < length (guards m) → Truth (vars m) (getD (guards m) g noGuard) (getD known g 0) j s
+abbrev pub Truths : List Var → List Cond → List ℕ → ℕ → ℕ → Type 0
+Truths vs cs known j s = (g : ℕ) → g < length cs → Truth vs (getD cs g noGuard) (getD known g 0) j s
 
 -- the truth of a test and of a region's guard at every state is held
 pub record Looked (vs : List Var) (keep : List ℤ → Bool) (q : Region) (guard : ℕ) (kept holds : List ℕ) : Type 0 where

@@ -9,7 +9,7 @@ use lib.IntN.{ℤ}
 use Rattle.machine.specs.Limits.{mostStates}
 use Rattle.sets.specs.Set.{member}
 use Rattle.syntax.specs.Token.{Lexeme, mark, rbrace}
-use Rattle.syntax.specs.Tree.{Var, Region, Monitor, spellCond, spellBlock}
+use Rattle.syntax.specs.Tree.{Var, Cond, Region, Monitor, spellCond, spellBlock}
 use Rattle.logic.specs.Tests.{bit}
 use Rattle.machine.specs.Decide.Table.{runs}
 use Rattle.meaning.specs.Value.{truth}
@@ -24,11 +24,16 @@ use Rattle.states.specs.declared.Broken.the-variants.{Never, At}
 unfoldable pub TruthRow : List Var → (List ℤ → Bool) → List ℕ → Type 0
 TruthRow vs p row = (s : ℕ) → s < count vs → getD row s 0 ≡ bit (p (stateAt vs s))
 
--- each guard, and each region's body, begins at these tokens
-unfoldable pub GuardsAt : Monitor → List Lexeme → List ℕ → Type 0
-GuardsAt m ls ats =
-    (g : ℕ) → g < length (guards m)
-    → (us : List Lexeme) × (drop (getD ats g 0) ls ≡ spellCond (getD (guards m) g noGuard) ++ us) × EndsCond us
+-- at every state those of some conditions that hold, as a set
+unfoldable pub TruthSets : List Var → List Cond → List ℕ → Type 0
+TruthSets vs cs rows =
+    (g s : ℕ) → g < length cs → s < count vs → member (getD rows s 0) g ≡ truth (getD cs g noGuard) vs (stateAt vs s)
+
+-- each of some conditions, and each region's body, begins at these tokens
+unfoldable pub ConditionsAt : List Cond → List Lexeme → List ℕ → Type 0
+ConditionsAt cs ls ats =
+    (g : ℕ) → g < length cs
+    → (us : List Lexeme) × (drop (getD ats g 0) ls ≡ spellCond (getD cs g noGuard) ++ us) × EndsCond us
 
 unfoldable pub BodiesAt : Monitor → List Lexeme → List ℕ → Type 0
 BodiesAt m ls ats =

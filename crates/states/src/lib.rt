@@ -1,5 +1,5 @@
-// Goes through the states of a file, sixteen at a time, into lent slices: the truth of the kept condition and the
-// guards that hold at every state, and the outcome of each region's body; then refusal 9, by looking those up.
+// Goes through the states of a file, sixteen at a time, into lent slices: the truth of a condition, the guards and the
+// tries that hold at every state, and the outcome of each region's body; then refusal 9, by looking those up.
 use variables::Bounds;
 ghost use mathlib.Core.Path.{_≡_};
 ghost use mathlib.Core.Bool.{Bool};
@@ -22,10 +22,10 @@ ghost use Rattle.meaning.specs.Held.{Biased};
 ghost use Rattle.meaning.specs.Decide.Check.{broken};
 ghost use Rattle.evaluator.specs.Coding.{Codes, EndsCond, RunAs, lane};
 ghost use Rattle.variables.specs.Bounded.{Bounded};
-ghost use Rattle.states.specs.Rows.{TruthRow, BodiesAt, HoldsAll, KeptAll, GuardNumbers};
+ghost use Rattle.states.specs.Rows.{TruthRow, TruthSets, BodiesAt, HoldsAll, KeptAll, GuardNumbers};
 ghost use Rattle.states.specs.Rows.{outcomeNumber, Moved, Row, Outcomes, BrokenAs};
 ghost use Rattle.variables.specs.declared.Bounds.{Bounds};
-ghost use Rattle.states.specs.Promises.{Put, Condition, Guards, Sixteen, Values, Truths, Body, Moves};
+ghost use Rattle.states.specs.Promises.{Put, Condition, Conditions, Sixteen, Values, Truths, Body, Moves};
 ghost use Rattle.states.specs.Promises.{runsBy, failsBy, breaksBy, Lowest};
 
 // The outcome of a body that leaves a range: no state's number.
@@ -114,8 +114,8 @@ pub fn fill_row(kinds: &[u8], values: &[u16], bounds: Bounds, at: usize, row: &m
     }
 }
 
-// The truth of every guard at sixteen states.
-fn guards_from(
+// The truth of some conditions at sixteen states.
+fn truths_from(
     kinds: &[u8],
     values: &[u16],
     lanes: &[u16; 96],
@@ -125,10 +125,10 @@ fn guards_from(
 )
     requires { ⌜ (count ≤ mostRegions) × (length (now known) ≡ mostRegions) ⌝ }
     ensures { λ _.
-        ⌜ ((m : Monitor) (bounds : Bounds) (from : ℕ)
-        → Guards m (now (kinds .entry)) (now (values .entry)) bounds ats count
-        → Sixteen (vars m) (Values (vars m) (now (lanes .entry))) from
-        → Sixteen (vars m) (Truths m (now (known .exit))) from) ⌝ }
+        ⌜ ((vs : List Var) (cs : List Cond) (bounds : Bounds) (from : ℕ)
+        → Conditions vs cs (now (kinds .entry)) (now (values .entry)) bounds ats count
+        → Sixteen vs (Values vs (now (lanes .entry))) from
+        → Sixteen vs (Truths vs cs (now (known .exit))) from) ⌝ }
 {
     let mut g: usize = 0;
     while g < count {
@@ -138,8 +138,8 @@ fn guards_from(
     }
 }
 
-// The guards that hold in lane j, as a set.
-fn guards_in(known: &[u16], j: u32, count: usize) -> u16
+// Those of some conditions that hold in lane j, as a set.
+fn set_in(known: &[u16], j: u32, count: usize) -> u16
     requires { ⌜ (count ≤ mostRegions) × (length (now known) ≡ mostRegions) ⌝ }
     ensures { λ r. ⌜ ((g : ℕ) → g < count → member r g ≡ member (getD (now (known .entry)) g 0) j) ⌝ }
 {
@@ -154,17 +154,31 @@ fn guards_in(known: &[u16], j: u32, count: usize) -> u16
     set
 }
 
-// The guards that hold at every state, as a set; `ats` has the token at which each guard begins.
+// How long a slice must be for the tries that hold at each of so many states: none is needed where there are no tries.
+fn needed(tries: usize, states: usize) -> usize
+    ensures { λ r. ⌜ (tries ≡ 0 → r ≡ 0) × (1 ≤ tries → r ≡ states) ⌝ }
+{
+    if tries == 0 { 0 } else { states }
+}
+
+// The guards that hold at every state, as a set, and the tries, where there are any; `ats` has the tokens at which the
+// conditions begin.
 pub fn fill_holds(
     kinds: &[u8],
     values: &[u16],
     bounds: Bounds,
-    ats: [u16; machine::REGIONS],
-    count: usize,
+    guards_at: [u16; machine::REGIONS],
+    guards: usize,
+    tries_at: [u16; syntax::TRIES],
+    tries: usize,
     holds: &mut [u16],
+    tried: &mut [u16],
 )
-    ensures { λ _. ⌜ ((m : Monitor) → Guards m (now (kinds .entry)) (now (values .entry)) bounds ats count
-        → mostStates ≤ length (now (holds .entry)) → HoldsAll m (now (holds .exit))) ⌝ }
+    ensures { λ _. ⌜ ((vs : List Var) (cs ds : List Cond)
+        → Conditions vs cs (now (kinds .entry)) (now (values .entry)) bounds «guards_at» guards
+        → Conditions vs ds (now (kinds .entry)) (now (values .entry)) bounds «tries_at» tries
+        → mostStates ≤ length (now (holds .entry)) → (1 ≤ tries → mostStates ≤ length (now (tried .entry)))
+        → TruthSets vs cs (now (holds .exit)) × TruthSets vs ds (now (tried .exit))) ⌝ }
 {
     let states = bounds.states;
     if machine::STATES < states {
@@ -173,17 +187,28 @@ pub fn fill_holds(
     if holds.len() < states {
         return;
     }
-    if machine::REGIONS < count {
+    if tried.len() < needed(tries, states) {
+        return;
+    }
+    if machine::REGIONS < guards {
+        return;
+    }
+    if syntax::TRIES < tries {
         return;
     }
     let mut known = [0u16; machine::REGIONS];
+    let mut guessed = [0u16; syntax::TRIES];
     let mut s: usize = 0;
     while s < states {
         if s % 16 == 0 {
             let lanes = lanes_at(bounds, s);
-            guards_from(kinds, values, &lanes, ats, count, &mut known);
+            truths_from(kinds, values, &lanes, guards_at, guards, &mut known);
+            truths_from(kinds, values, &lanes, tries_at, tries, &mut guessed);
         }
-        holds[s] = guards_in(&known, (s % 16) as u32, count);
+        holds[s] = set_in(&known, (s % 16) as u32, guards);
+        if 0 < tries {
+            tried[s] = set_in(&guessed, (s % 16) as u32, tries);
+        }
         s += 1;
     }
 }
@@ -204,13 +229,13 @@ fn lane_of(lanes: &[u16; 96], j: usize) -> [u16; syntax::VARIABLES]
 }
 
 // A number of a slice, 0 past its end.
-fn byte_at(xs: &[u8], at: usize) -> u8
+pub fn byte_at(xs: &[u8], at: usize) -> u8
     ensures { λ r. ⌜ r ≡ getD (now (xs .entry)) at 0 ⌝ }
 {
     if at < xs.len() { xs[at] } else { 0 }
 }
 
-fn number_at(xs: &[u16], at: usize) -> u16
+pub fn number_at(xs: &[u16], at: usize) -> u16
     ensures { λ r. ⌜ r ≡ getD (now (xs .entry)) at 0 ⌝ }
 {
     if at < xs.len() { xs[at] } else { 0 }

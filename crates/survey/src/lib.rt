@@ -1,5 +1,6 @@
 // What a tool needs to show a file without reading it again: its outline, its states by their numbers, and numbers by
 // values. No call asks anything of its caller; each states its complete result for every input.
+use answers::Answer;
 use loader::Loaded;
 use lookup::Numbered;
 use lookup::State;
@@ -11,7 +12,20 @@ ghost use lib.Dec.{eqb, leb};
 ghost use mathlib.Core.List.{List};
 ghost use Prim.Native.Nat.{ℕ};
 ghost use Rattle.loader.specs.Loading.{Loads};
-ghost use Rattle.survey.specs.Told.{OutlineTold, StateTold, NumberTold};
+ghost use Rattle.survey.specs.Told.{OutlineTold, StateTold, NumberTold, FatesTold};
+
+// The verdict of a file, and what becomes of its tries: whether it is told, how many there are, the chosen ones as bits,
+// and of each that a body breaks the pass, from 1, and the region and the state that break it.
+#[repr(C)]
+pub struct Fates {
+    pub answer: Answer,
+    pub known: bool,
+    pub tries: usize,
+    pub chosen: u16,
+    pub passes: [u8; syntax::TRIES],
+    pub regions: [u8; syntax::TRIES],
+    pub states: [u16; syntax::TRIES],
+}
 
 // Do the answers up to 8 pass, by the number of a file's verdict; those up to 7?
 fn past_8(number: u8) -> bool
@@ -96,4 +110,39 @@ pub fn number_of(file: &[u8], values: [u16; syntax::VARIABLES]) -> Numbered
     }
     let bounds = loaded.bounds;
     lookup::number_in(bounds, verdict, values)
+}
+
+// What becomes of each try, of a file that is accepted or refused with 9.
+pub fn fates(file: &[u8]) -> Fates
+    ensures { λ r. ⌜ FatesTold (now (file .entry)) r ⌝ }
+{
+    let mut kept = [0u8; machine::STATES];
+    let mut holds = [0u16; machine::STATES];
+    let mut after = [0u16; machine::AFTER];
+    let loaded = loader::load(file, &mut kept, &mut holds, &mut after);
+    let verdict = loaded.answer;
+    let choice = loaded.choice;
+    let passes = choice.passes;
+    let regions = choice.regions;
+    let states = choice.states;
+    if !past_8(verdict.number) {
+        return Fates {
+            answer: verdict,
+            known: false,
+            tries: 0,
+            chosen: 0,
+            passes: [0u8; syntax::TRIES],
+            regions: [0u8; syntax::TRIES],
+            states: [0u16; syntax::TRIES],
+        };
+    }
+    Fates {
+        answer: verdict,
+        known: true,
+        tries: loaded.tries,
+        chosen: choice.chosen,
+        passes: passes,
+        regions: regions,
+        states: states,
+    }
 }

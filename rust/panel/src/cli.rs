@@ -76,8 +76,8 @@ file that cannot be read or written.
 ";
 
 const SHOW: &str = "\
-Shows a hand-in whole: variables, guards, regions and table
-of a file, and the run of a trace on both machines, frame
+Shows a hand-in whole: variables, kept condition and tries,
+guards, regions and table of a file, and the run of a trace on both machines, frame
 by frame.
 
 Usage: panel show FILE [TRACE] [OPTIONS]
@@ -105,13 +105,15 @@ refused, 2 an error.
 
 const CHECK: &str = "\
 Checks a monitor file. A refusal is told with its number,
-line and column, the line itself, the reason and what to do.
+line and column, the line itself, the reason and what to do;
+of tries, how many are chosen.
 
 Usage: panel check FILE [OPTIONS]
 
 Options
   --json              one object on one line:
-                      {\"answer\":[number,place,place]}
+                      {\"answer\":[number,place,place]},
+                      and what becomes of the tries
   --color WHEN        auto, always or never
   -h, --help          this text
 
@@ -120,13 +122,15 @@ Exit status: 0 accepted, 1 refused, 2 an error.
 
 const PLACE: &str = "\
 Places the wake-up table of a monitor file: a sentence an
-entry, and a matrix of regions and guards.
+entry, and a matrix of regions and guards. Of tries it says
+which are chosen, and why each other one is not.
 
 Usage: panel place FILE [OPTIONS]
 
 Options
   --json              one object on one line, the table's
-                      lines in \"table\"
+                      lines in \"table\", the tries in
+                      \"chosen\" and \"tries\"
   --color WHEN        auto, always or never
   -h, --help          this text
 

@@ -1,6 +1,7 @@
 //! What a tool reads: one object on one line, the same for the same input.
 use crate::sheet::Sheet;
-use damsonyet::{Both, Notices, Place, Point, Record, Refusal};
+use crate::tries;
+use damsonyet::{Both, Fate, Notices, Place, Point, Record, Refusal};
 use std::fmt::Display;
 use std::io::{self, Write};
 
@@ -67,9 +68,32 @@ fn point(point: &Point, vars: usize) -> String {
     )
 }
 
+/// What becomes of the tries, where it is told: the chosen ones as a number, and an object for each.
+fn tried(file: &[u8]) -> String {
+    let Ok((outline, _)) = damsonyet::outline(file) else { return String::new() };
+    let sheet = Sheet::new(file, outline);
+    let Some(tries) = tries::tries(&sheet) else { return String::new() };
+    let chosen: u32 = tries::chosen(&tries).into_iter().map(|k| 1 << k).sum();
+    let each = tries.iter().zip(&sheet.outline.tries).map(|(tried, span)| {
+        let more = match tried.fate {
+            Fate::Chosen => String::new(),
+            Fate::FalseAtStart => format!(",\"values\":{}", list(sheet.start_values())),
+            Fate::Broken { pass, region, state } => {
+                let step = tried.step.as_ref().map_or_else(String::new, |step| {
+                    format!(",\"values\":{},\"after\":{},\"values_after\":{}", list(&step.before.1), step.after.0, list(&step.after.1))
+                });
+                format!(",\"pass\":{pass},\"region\":{region},\"state\":{state}{step}")
+            }
+        };
+        let (condition, fate) = (text(&tried.text), text(tries::word(&tried.fate)));
+        format!("{{\"condition\":{condition},\"span\":{},\"fate\":{fate}{more}}}", list([span.start, span.end]))
+    });
+    format!(",\"chosen\":{chosen},\"tries\":{}", list(each))
+}
+
 /// The object of `check`.
 pub fn check(to: &mut dyn Write, file: &[u8]) -> io::Result<()> {
-    write!(to, "{{\"answer\":{}}}", answer(&damsonyet::check(file)))
+    write!(to, "{{\"answer\":{}{}}}", answer(&damsonyet::check(file)), tried(file))
 }
 
 /// The object of `place`.
@@ -78,9 +102,9 @@ pub fn place(to: &mut dyn Write, file: &[u8]) -> io::Result<()> {
         Ok(table) => {
             let lines = table.text.split(|&byte| byte == b'\n').filter(|line| !line.is_empty());
             let lines = lines.map(|line| text(&String::from_utf8_lossy(line)));
-            write!(to, "{{\"answer\":[0,0,0],\"table\":{}}}", list(lines))
+            write!(to, "{{\"answer\":[0,0,0],\"table\":{}{}}}", list(lines), tried(file))
         }
-        Err(refusal) => write!(to, "{{\"answer\":{}}}", answer(&Err(refusal))),
+        Err(refusal) => write!(to, "{{\"answer\":{}{}}}", answer(&Err(refusal)), tried(file)),
     }
 }
 
@@ -123,10 +147,12 @@ fn outline(sheet: &Sheet) -> String {
         let guard = text(&crate::sheet::collapsed(sheet.bytes(&region.guard)));
         format!("{{\"guard\":{guard},\"body\":{},\"guard_number\":{}}}", text(&sheet.body_text(r)), region.guard_number)
     });
+    let tries = (0..o.tries.len()).map(|k| text(&sheet.try_text(k)));
     format!(
-        "{{\"name\":{},\"keep\":{},\"variables\":{},\"methods\":{},\"regions\":{},\"guards\":{},\"states\":{},\"start\":{}}}",
+        "{{\"name\":{},\"keep\":{},\"tries\":{},\"variables\":{},\"methods\":{},\"regions\":{},\"guards\":{},\"states\":{},\"start\":{}}}",
         text(&sheet.title()),
         text(&sheet.keep_text()),
+        list(tries),
         list(variables),
         list(methods),
         list(regions),
@@ -136,7 +162,7 @@ fn outline(sheet: &Sheet) -> String {
     )
 }
 
-/// The object of `show`: the verdict, the outline where there is one, and what `place` and `run` say.
+/// The object of `show`: the verdict, the outline where there is one, what becomes of the tries, and what `place` and `run` say.
 pub fn show(to: &mut dyn Write, file: &[u8], trace: Option<&[u8]>, start: Option<usize>, points: bool) -> io::Result<()> {
     let (verdict, o) = match damsonyet::outline(file) {
         Ok((outline, verdict)) => (verdict, Some(outline)),
@@ -144,7 +170,7 @@ pub fn show(to: &mut dyn Write, file: &[u8], trace: Option<&[u8]>, start: Option
     };
     write!(to, "{{\"answer\":{}", answer(&verdict))?;
     if let Some(o) = o {
-        write!(to, ",\"outline\":{}", outline(&Sheet::new(file, o)))?;
+        write!(to, ",\"outline\":{}{}", outline(&Sheet::new(file, o)), tried(file))?;
     }
     if verdict.is_ok() {
         write!(to, ",\"place\":")?;

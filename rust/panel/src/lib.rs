@@ -9,6 +9,7 @@ pub mod out;
 pub mod page;
 pub mod sheet;
 pub mod text;
+pub mod tries;
 pub mod words;
 
 /// The stack of a thread that calls the library, with room for what is around the call.

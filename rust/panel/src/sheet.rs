@@ -59,6 +59,15 @@ impl<'a> Sheet<'a> {
         collapsed(self.bytes(&self.outline.keep))
     }
 
+    /// The condition of a try.
+    pub fn try_text(&self, k: usize) -> String {
+        self.outline.tries.get(k).map_or_else(String::new, |tried| collapsed(self.bytes(tried)))
+    }
+
+    pub fn start_values(&self) -> Vec<i16> {
+        self.outline.variables.iter().map(|variable| variable.start).collect()
+    }
+
     pub fn variable_name(&self, k: usize) -> String {
         self.outline.variables.get(k).map_or_else(String::new, |variable| shown(self.bytes(&variable.name)))
     }

@@ -2,8 +2,9 @@
 use crate::frames::{self, Frame};
 use crate::out::{Out, Style, NO_BREAK};
 use crate::sheet::{pair, shown, Sheet};
+use crate::tries::{self, Tried};
 use crate::words::{self, Refused};
-use damsonyet::{Machine, Place, Point, Points, Refusal, Table};
+use damsonyet::{Fate, Machine, Place, Point, Points, Refusal, Table};
 use std::io;
 use std::ops::RangeInclusive;
 
@@ -66,7 +67,31 @@ fn explained(out: &mut Out, refused: &Refused) -> io::Result<()> {
     Ok(())
 }
 
-/// A file's refusal: what and where, the line, why, and what to do.
+/// The tries that are told of a file, if it has any.
+fn tried(sheet: &Sheet) -> Option<Vec<Tried>> {
+    tries::tries(sheet).filter(|tries| !tries.is_empty())
+}
+
+/// The tries: which are chosen, and why each other one is not.
+fn tries_of(out: &mut Out, sheet: &Sheet, tries: &[Tried]) -> io::Result<()> {
+    let kept =
+        if tries::chosen(tries).is_empty() { "the kept condition is keep" } else { "the kept condition is keep and the chosen ones" };
+    out.heading(&format!("Tries: {}; {kept}", tries::count(tries)))?;
+    for (k, tried) in tries.iter().enumerate() {
+        let style = if tried.fate == Fate::Chosen { Style::Good } else { Style::Mark };
+        out.text(style, &format!("  {k:02X}  {:6}  ", tries::word(&tried.fate)), "              ", &tried.text)?;
+        if let Some(why) = tries::why(sheet, tries, k) {
+            let why = why.replace(" = ", &format!("{NO_BREAK}={NO_BREAK}"));
+            out.text(Style::Plain, "      ", "      ", &why)?;
+        }
+    }
+    for hint in tries::hints(tries) {
+        out.text(Style::Plain, "  ", "  ", hint)?;
+    }
+    Ok(())
+}
+
+/// A file's refusal: what and where, the line, why, and what to do; and what becomes of its tries, which the refusal comes behind.
 fn refused_file(out: &mut Out, name: &str, file: &[u8], refusal: &Refusal) -> io::Result<()> {
     let refused = words::refusal(file, refusal);
     out.text(Style::Bad, "", "  ", &format!("{name}: refused, {}", refused.headline))?;
@@ -75,7 +100,12 @@ fn refused_file(out: &mut Out, name: &str, file: &[u8], refusal: &Refusal) -> io
         out.text(Style::Plain, "  ", "  ", &format!("line {line}, column {column} (byte {at}):"))?;
         caret(out, file, at)?;
     }
-    explained(out, &refused)
+    explained(out, &refused)?;
+    let Ok((outline, _)) = damsonyet::outline(file) else { return Ok(()) };
+    let sheet = Sheet::new(file, outline);
+    let Some(tries) = tried(&sheet) else { return Ok(()) };
+    out.blank()?;
+    tries_of(out, &sheet, &tries)
 }
 
 /// What a file has, in numbers.
@@ -100,6 +130,9 @@ pub fn check(out: &mut Out, name: &str, file: &[u8]) -> io::Result<Verdict> {
     let Some(sheet) = accepted(out, name, file)? else { return Ok(Verdict::Refused) };
     out.text(Style::Good, "", "  ", &format!("{name}: accepted"))?;
     out.text(Style::Plain, "  ", "  ", &format!("monitor {}: {}", sheet.title(), counts(&sheet)))?;
+    if let Some(tries) = tried(&sheet) {
+        out.text(Style::Plain, "  ", "  ", &tries::summary(&tries))?;
+    }
     Ok(Verdict::Accepted)
 }
 
@@ -186,10 +219,14 @@ pub fn place(out: &mut Out, name: &str, file: &[u8]) -> io::Result<Verdict> {
     table(out, &sheet, &placed)?;
     out.blank()?;
     guards(out, &sheet)?;
+    if let Some(tries) = tried(&sheet) {
+        out.blank()?;
+        tries_of(out, &sheet, &tries)?;
+    }
     Ok(Verdict::Accepted)
 }
 
-/// Variables, kept condition, guards and regions.
+/// Variables, kept condition, tries, guards and regions.
 fn listing(out: &mut Out, sheet: &Sheet) -> io::Result<()> {
     let o = &sheet.outline;
     out.heading("Variables")?;
@@ -198,8 +235,11 @@ fn listing(out: &mut Out, sheet: &Sheet) -> io::Result<()> {
         let range = format!("{}..{}, starts at {}", variable.low, variable.high, variable.start);
         out.text(Style::Plain, &format!("  {:longest$}  ", sheet.variable_name(k)), "      ", &range)?;
     }
-    out.heading("Kept condition")?;
+    out.heading(if o.tries.is_empty() { "Kept condition" } else { "Kept condition: keep" })?;
     out.text(Style::Plain, "  ", "  ", &sheet.keep_text())?;
+    if let Some(tries) = tried(sheet) {
+        tries_of(out, sheet, &tries)?;
+    }
     guards(out, sheet)?;
     out.heading("Regions")?;
     let longest = (0..o.regions.len()).map(|r| sheet.region_name(r).len()).max().unwrap_or(0);

@@ -1,7 +1,7 @@
 //! Sentences for what the library answers. They say why; whether is the library's.
 use crate::frames::{self, Frame};
 use crate::sheet::{collapsed, is_printable, pair, shown, Sheet};
-use damsonyet::{Entry, Machine, Notices, Outcome, Place, Point, Refusal};
+use damsonyet::{Entry, Fate, Machine, Notices, Outcome, Place, Point, Refusal};
 
 /// A refusal in words: what it is, with its number; why; what to do; and the byte that is meant, of the file or of the trace.
 #[derive(Clone, Debug, PartialEq, Eq)]
@@ -88,10 +88,10 @@ pub fn entry(sheet: &Sheet, entry: &Entry) -> String {
 }
 
 /// What a body has changed: `, full becomes 1`.
-fn changes(sheet: &Sheet, before: &Point, after: &Point) -> String {
+pub fn changes(sheet: &Sheet, before: &[i16], after: &[i16]) -> String {
     let changed: Vec<String> = (0..sheet.outline.variables.len())
-        .filter(|&k| before.values[k] != after.values[k])
-        .map(|k| format!("{} becomes {}", sheet.variable_name(k), after.values[k]))
+        .filter(|&k| before[k] != after[k])
+        .map(|k| format!("{} becomes {}", sheet.variable_name(k), after[k]))
         .collect();
     if changed.is_empty() {
         ", no value changes".into()
@@ -126,7 +126,7 @@ pub fn frame(sheet: &Sheet, frame: &Frame, before: &Point, after: Option<&Point>
         Some(Place::Due(next)) => format!("; it is due at {}", sheet.region_name((*next).into())),
         _ => String::new(),
     };
-    format!("{comes}: {text} holds, the body runs{}{due}.", changes(sheet, before, after))
+    format!("{comes}: {text} holds, the body runs{}{due}.", changes(sheet, &before.values, &after.values))
 }
 
 /// Where one machine has stopped and the other goes on: the frame that the table's machine alone refuses.
@@ -261,7 +261,15 @@ fn crowded(file: &[u8], at: usize) -> Refused {
     )
 }
 
-const RESERVED: [&[u8]; 10] = [b"monitor", b"var", b"in", b"keep", b"method", b"waituntil", b"if", b"else", b"true", b"false"];
+const RESERVED: [&[u8]; 11] = [b"monitor", b"var", b"in", b"keep", b"try", b"method", b"waituntil", b"if", b"else", b"true", b"false"];
+
+/// What a part of the file begins with, behind the last semicolon or brace before a byte.
+fn part_begins(file: &[u8], at: usize) -> &[u8] {
+    let head = &file[..at.min(file.len())];
+    let from = head.iter().rposition(|byte| matches!(byte, b';' | b'{' | b'}')).map_or(0, |last| last + 1);
+    let blanks = head[from..].iter().take_while(|&&byte| is_blank(byte)).count();
+    standing(head, from + blanks)
+}
 
 /// What to do about a token that cannot stand where it does: by the token and what stands before it.
 fn grammar_remedy(file: &[u8], at: usize) -> String {
@@ -289,6 +297,8 @@ fn grammar_remedy(file: &[u8], at: usize) -> String {
         (b")", _) if is_name => "Behind the brackets comes a block: write { .. }.",
         (_, b"==") if begins_statement => "':=' assigns: write name := value;",
         (_, b"+" | b"-") if begins_statement => "':=' assigns: write name := name + 1;",
+        (_, b"try" | b"method") if part_begins(file, at) == b"try" && before != b"try" => "A 'try' ends with ';', which is missing before.",
+        (_, b"try") if part_begins(file, at) == b"keep" && before != b"keep" => "'keep' ends with ';', which is missing before.",
         (_, b"var" | b"keep") if before.last().is_some_and(u8::is_ascii_digit) => "A variable ends with ';', which is missing before.",
         (b"monitor" | b"var" | b"method", word) if reserved(word) => "This word is reserved: choose another name.",
         (_, b"=") => "A single '=' stands only in a 'var': ':=' assigns, '==' compares.",
@@ -304,6 +314,9 @@ fn grammar_remedy(file: &[u8], at: usize) -> String {
         (_, b"true" | b"false") => "'true' and 'false' are conditions; values are numbers.",
         (_, b"var") => "The variables come first, then one 'keep', then the methods; a statement or a brace may be missing before.",
         (_, b"keep") => "There is one 'keep', between the variables (one at least) and the methods.",
+        (_, b"try") => {
+            "Tries stand right behind 'keep' and its ';', before the first method, each ended by ';'. The word is reserved and no name."
+        }
         (_, b"method") => "Methods come behind the variables and one 'keep' with its ';'; a '}' may be missing before.",
         (_, b"waituntil") => "Regions stand in a method, one behind the other, not inside each other; a '}' may be missing before.",
         (_, b"if") => "An 'if' stands in a body only; a ';' or a '}' may be missing before, or a '}' be one too many.",
@@ -362,6 +375,11 @@ fn past_limit(file: &[u8], at: usize) -> Refused {
             "There may be 6 variables.",
             "Put two into one number (0..3 for two of 0..1), or leave one out that follows from the others.",
         ),
+        Some(b't') => put(
+            "5: a 17th try",
+            "There may be 16 tries.",
+            "Leave one out; or join two with '&&', which are then chosen together or not at all.",
+        ),
         Some(b'm') => put("5: a 9th method", "There may be 8 methods.", "Leave one out, or split the monitor."),
         _ => put("5: a 17th region", "There may be 16 regions in all methods together.", "Leave one out, or split the monitor."),
     }
@@ -408,8 +426,8 @@ fn range(file: &[u8], at: usize) -> Refused {
 
 fn not_kept(file: &[u8], at: usize) -> Refused {
     let start = damsonyet::outline(file).ok().map(|(outline, _)| {
-        let values: Vec<i16> = outline.variables.iter().map(|variable| variable.start).collect();
-        Sheet::new(file, outline).state_text(&values)
+        let sheet = Sheet::new(file, outline);
+        sheet.state_text(&sheet.start_values())
     });
     Refused::new(
         "8: the kept condition does not hold at the start values",
@@ -436,20 +454,32 @@ fn breaks(file: &[u8], r: usize, number: usize) -> Refused {
     let state = |number: usize| damsonyet::state_at(file, number).ok().flatten();
     let Some(from) = state(number) else { return Refused::new(headline, format!("The body of {whose}, from state {number}."), "", at) };
     let start = format!("From state {number} ({}) the body of {whose}, which begins here,", sheet.state_text(&from.values));
+    // The chosen tries hold after every body that stays in range: where the kept condition is broken, it is keep that is.
+    let (tried, chosen) = match damsonyet::fates(file) {
+        Ok(fates) => (!fates.is_empty(), fates.contains(&Fate::Chosen)),
+        Err(_) => (false, false),
+    };
+    let broken =
+        if chosen { "where the condition of 'keep' is false; the chosen tries hold there" } else { "where the kept condition is false" };
+    let unreached = if tried {
+        "If no run comes to the state it starts from, say in 'keep' why not, or add a 'try' that rules it out."
+    } else {
+        "If no run comes to the state it starts from, say in 'keep' why not."
+    };
     match from.after.get(r).copied().flatten() {
         Some(Outcome::Ends(next)) => {
             let values = state(next.into()).map(|next| sheet.state_text(&next.values)).unwrap_or_default();
             Refused::new(
                 "9: a body that breaks the kept condition",
-                format!("{start} ends at state {next} ({values}), where the kept condition is false."),
-                "Mend the body or the kept condition. If no run comes to the state it starts from, say in 'keep' why not.",
+                format!("{start} ends at state {next} ({values}), {broken}."),
+                format!("Mend the body or the kept condition. {unreached}"),
                 at,
             )
         }
         _ => Refused::new(
             "9: a body that assigns outside a range",
             format!("{start} assigns outside a range. Every assignment counts, also midway."),
-            "Widen the range, or test first and assign once. If no run comes to the state it starts from, say in 'keep' why not.",
+            format!("Widen the range, or test first and assign once. {unreached}"),
             at,
         ),
     }
@@ -481,13 +511,13 @@ pub fn refusal(file: &[u8], refusal: &Refusal) -> Refused {
 
 fn start_refused(sheet: &Sheet, start: usize) -> Refused {
     let states = sheet.outline.states;
-    let remedy = format!(
-        "The file's own start is state {} ({}).",
-        sheet.outline.start,
-        sheet.state_text(&sheet.outline.variables.iter().map(|variable| variable.start).collect::<Vec<_>>())
-    );
+    let remedy = format!("The file's own start is state {} ({}).", sheet.outline.start, sheet.state_text(&sheet.start_values()));
     let reason = match damsonyet::state_at(sheet.file, start) {
-        Ok(Some(state)) => format!("At state {start} ({}) the kept condition is false.", sheet.state_text(&state.values)),
+        Ok(Some(state)) => {
+            let tries = damsonyet::fates(sheet.file).is_ok_and(|fates| fates.contains(&Fate::Chosen));
+            let kept = if tries { "the kept condition (keep and the chosen tries)" } else { "the kept condition" };
+            format!("At state {start} ({}) {kept} is false.", sheet.state_text(&state.values))
+        }
         _ => format!("There is no state {start}: the states are 0 to {}.", states.saturating_sub(1)),
     };
     let headline = if start < states { "11: the start state is not kept" } else { "11: no such start state" };

@@ -1,11 +1,12 @@
-//! Makes what the program `replay` is run on: the bench examples of document 01, cases of the
-//! second program, and hostile input.
+//! Makes what the program `replay` is run on: the bench examples of document 01, the second
+//! program's cases for tries, made by hand, its drawn cases, and hostile input.
 //!
 //! TO/data/cases.bin has for each case the lengths of a monitor file and a trace, four bytes each,
 //! the lowest first, then both; TO/stdout what the second program prints for each as placer, then
-//! as runner, and then five lines of ten digits about its call `points`.
+//! as runner, then five lines of ten digits about its call `points`, and then lines of ten digits
+//! about tries.
 //!
-//! That call is made twice, from the start values' state (from state 0 where the file is refused),
+//! `points` is called twice, from the start values' state (from state 0 where the file is refused),
 //! with a buffer of bytes A5. Where N is 33 * (length of the trace / 7 + 1):
 //!
 //! - with N + 33 bytes: the plain machine's answer; the table's; 00, the count of points (four
@@ -13,13 +14,20 @@
 //! - with N - 1 bytes: the plain machine's answer; 00, the count and the checksum again.
 //!
 //! The checksum begins with 1, and each byte b makes it (sum * 31 + b) % 65521.
+//!
+//! About tries, first one line: of an accepted file 00, the chosen ones (four digits) and how many
+//! tries there are (four digits); of a refused one its refusal. Then, of a file that the checks 1 to
+//! 8 pass, one line for each try: ten noughts if it is chosen; FF and eight noughts if it is false
+//! at the start; else the pass in which it is broken (two digits), the region and the state (four
+//! digits each).
 
 use std::path::{Path, PathBuf};
+use std::process::{Command, Stdio};
 use std::{fs, io};
 
 use crate::files::{children, read, write, Scratch};
 use crate::second::Second;
-use crate::system::clean_up_first;
+use crate::system::{clean_up_first, unless_interrupted};
 
 const USAGE: &str = "\
 usage: tools/replay-data [SEED] [COUNT] [HOSTILE] [TO]
@@ -75,18 +83,23 @@ struct Made {
 }
 
 impl Made {
-    /// From the bench examples and so many cases, or neither if there are to be 0, and from the
-    /// first hostile inputs.
+    /// From the bench examples, the cases for tries and so many drawn ones, or none of them if there
+    /// are to be 0, and from the first hostile inputs.
     fn by(second: &Second, seed: &str, count: &str, hostile: &str) -> io::Result<Made> {
         let scratch = Scratch::new()?;
-        let [bench, drawn, damaged] =
-            ["bench", "cases", "hostile"].map(|name| scratch.at.join(name));
+        let [bench, tries, drawn, damaged] =
+            ["bench", "tries", "cases", "hostile"].map(|name| scratch.at.join(name));
         if count != "0" {
             write_bench(second, &bench)?;
+            told(second, "tries-cases", &tries)?;
         }
         second.write("cases", seed, count, &drawn)?;
         second.write("hostile-cases", seed, hostile, &damaged)?;
-        let cases = [children(&bench)?, children(&drawn)?, few_long(&damaged)?].concat();
+        let mut cases = Vec::new();
+        for directory in [&bench, &tries, &drawn] {
+            cases.extend(children(directory)?);
+        }
+        cases.extend(few_long(&damaged)?);
         if cases.len() > MOST_CASES {
             let count = cases.len();
             let what = format!("replay-data: {count} cases, and replay reads {MOST_CASES}");
@@ -114,9 +127,21 @@ impl Made {
         write(&case.join("monitor.txt"), &file)?;
         write(&case.join("trace.txt"), &trace)?;
         self.told.extend(second.replay_points(case)?);
+        self.told.extend(told(second, "replay-tries", case)?);
         self.data.extend(file);
         self.data.extend(trace);
         Ok(())
+    }
+}
+
+/// What the second program prints when it is given a directory.
+fn told(second: &Second, what: &str, directory: &Path) -> io::Result<Vec<u8>> {
+    let mut command = Command::new(&second.program);
+    let output = command.arg(what).arg(directory).stderr(Stdio::inherit()).output()?;
+    unless_interrupted()?;
+    match output.status.success() {
+        true => Ok(output.stdout),
+        false => Err(io::Error::other(format!("{command:?}: {}", output.status))),
     }
 }
 

@@ -10,7 +10,7 @@ use std::process::ExitCode;
 use twin::check::parse_checked;
 use twin::lines::{put_record, put_refusal, put_table, MOST_TRACE_BYTES};
 use twin::machines::{frames, Frame, Machine, Place, THREADS};
-use twin::monitor::{Monitor, Values};
+use twin::monitor::{Condition, Monitor, Values};
 use twin::table::Entry;
 use twin::Refusal;
 
@@ -46,9 +46,14 @@ fn runner(file: &[u8], trace: &[u8]) -> Vec<u8> {
     out
 }
 
-/// Refusals 1 to 9.
+/// Refusals 1 to 9; the chosen tries are joined to keep.
 fn check(file: &[u8]) -> Result<Monitor, Refusal> {
-    let monitor = parse_checked(file)?;
+    let mut monitor = parse_checked(file)?;
+    let chosen = chosen(&monitor);
+    let tries = std::mem::take(&mut monitor.tries).into_iter().zip(chosen);
+    let mut kept = vec![std::mem::replace(&mut monitor.keep, Condition::Constant(true))];
+    kept.extend(tries.filter(|(_, is_chosen)| *is_chosen).map(|(condition, _)| condition));
+    monitor.keep = Condition::All(kept);
     for (number, region) in monitor.regions.iter().enumerate() {
         for state in 0..monitor.count_of_states() {
             let values = monitor.values_of(state);
@@ -62,6 +67,37 @@ fn check(file: &[u8]) -> Result<Monitor, Refusal> {
         }
     }
     Ok(monitor)
+}
+
+/// Of each try whether it is chosen: pass by pass all are dropped that some body breaks.
+fn chosen(monitor: &Monitor) -> Vec<bool> {
+    if monitor.tries.is_empty() {
+        return Vec::new();
+    }
+    let start = monitor.start_values();
+    let mut set: Vec<bool> =
+        monitor.tries.iter().map(|condition| condition.holds(&start)).collect();
+    loop {
+        let mut left = set.clone();
+        for region in &monitor.regions {
+            for state in 0..monitor.count_of_states() {
+                let before = monitor.values_of(state);
+                let counts = monitor.keep.holds(&before)
+                    && monitor.tries.iter().zip(&set).all(|(c, is_in)| !is_in || c.holds(&before))
+                    && monitor.guards[region.guard].holds(&before);
+                let mut after = before;
+                if counts && monitor.run(&region.body, &mut after) {
+                    for (left, condition) in left.iter_mut().zip(&monitor.tries) {
+                        *left &= condition.holds(&after);
+                    }
+                }
+            }
+        }
+        if left == set {
+            return set;
+        }
+        set = left;
+    }
 }
 
 /// The entries, for each region and then each guard.

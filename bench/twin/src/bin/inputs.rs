@@ -21,6 +21,7 @@ fn main() -> io::Result<()> {
     let directory = Path::new(&directory);
     write(directory, "worst", &worst_file(), MOST_FRAMES)?;
     write(directory, "guards", &guards_file(), 0)?;
+    write(directory, "tries", &tries_file(), MOST_FRAMES)?;
     write(directory, "longest", LONGEST, MOST_FRAMES)?;
     for eighths in 0..=8 {
         let frames = MOST_FRAMES * eighths / 8;
@@ -62,6 +63,42 @@ fn guards_file() -> String {
     file_of(MOST_STATES, guard, |_| String::new())
 }
 
+/// As many tokens, states, regions and guards, and sixteen tries that fall one a pass:
+/// the last region counts `a` up, so that each try needs the next and none stays. All
+/// comparisons but one of each try hold in every state.
+fn tries_file() -> String {
+    let highest = [31, 3, 3, 1, 1, 1];
+    let within = |first: usize, count: usize| -> String {
+        let numbers = (first..first + count).map(|number| number % NAMES.len());
+        numbers.map(|number| format!("{} <= {} && ", NAMES[number], highest[number])).collect()
+    };
+    let mut file = String::from("monitor tries {\n");
+    for (name, highest) in NAMES.iter().zip(highest) {
+        file += &format!("  var {name} = 0 in 0..{highest};\n");
+    }
+    file += &format!("  keep {}!a > 31;\n", within(0, 4));
+    for value in (1..=16).rev() {
+        file += &format!("  try {}a != {value};\n", within(value, 2));
+    }
+    let region = |number: usize| {
+        let [x, y, z] = [number, number + 1, number + 2].map(name);
+        let sum = format!("{x} + {y} - {z}");
+        match number {
+            15 => {
+                let guard = format!("a < 31 && {}{sum} != 99", within(number, 1));
+                format!("waituntil ({guard}) {{ a := a + 1; {TURNED} }}")
+            }
+            _ => {
+                let guard = format!("{}{sum} != {}", within(number, 2), number / 6);
+                format!("waituntil ({guard}) {{ b := 3 - c; {TURNED} }}")
+            }
+        }
+    };
+    file + &methods(region) + "}\n"
+}
+
+const TURNED: &str = "c := b; d := 1 - e; e := f; f := d;";
+
 /// A file like the worst one with any power of two of states up to 4,096. Only the
 /// ranges differ, and no body leaves them, however small they are.
 fn growing_file(states: usize) -> String {
@@ -84,16 +121,22 @@ fn file_of(
         file += &format!("  var {name} = 0 in 0..{};\n", size - 1);
     }
     file += "  keep !a > 3;\n";
+    let region = |number| format!("waituntil ({}) {{ {} }}", guard(number), body(number));
+    file + &methods(region) + "}\n"
+}
+
+/// Eight methods with sixteen regions: the last has nine of them, the others one each.
+fn methods(region: impl Fn(usize) -> String) -> String {
+    let mut methods = String::new();
     for method in 0..8 {
-        file += &format!("  method m{method} {{\n");
-        // The last method has nine regions, the others one each.
+        methods += &format!("  method m{method} {{\n");
         let behind = if method == 7 { 16 } else { method + 1 };
-        for region in method..behind {
-            file += &format!("    waituntil ({}) {{ {} }}\n", guard(region), body(region));
+        for number in method..behind {
+            methods += &format!("    {}\n", region(number));
         }
-        file += "  }\n";
+        methods += "  }\n";
     }
-    file + "}\n"
+    methods
 }
 
 fn guard(region: usize) -> String {

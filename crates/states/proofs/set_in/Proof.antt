@@ -1,4 +1,4 @@
--- `states::guards_in` meets its contract. The loop's invariant: of the guards below g those that hold are members, and
+-- `states::set_in` meets its contract. The loop's invariant: of the conditions below g those that hold are members, and
 -- no other.
 use Prim.Native.Nat.{ℕ, _-_, _≤_, _<_}
 use native.Mathlib.Omega.{arith}
@@ -10,8 +10,8 @@ use lib.ListN.{getD}
 use Rattle.sets.specs.Set.{member}
 use Rattle.sets.proofs.SetLaws.{member-none}
 use Rattle.states.proofs.Lanes.{passed, with-here, with-other}
-use Rattle.states.proofs.guards_in.Statement.{statement}
-use Rattle.states.proofs.guards_in.Tie as tie
+use Rattle.states.proofs.set_in.Statement.{statement}
+use Rattle.states.proofs.set_in.Tie as tie
 
 abbrev Inv-loop : tie.InvT-loop
 Inv-loop known j count set₀ g₀ set g =
@@ -52,8 +52,8 @@ loop-again c =
 returns : tie.Need-returns Inv-loop μ-loop
 returns c u h = c .before .loop .inv .1 u (omega arith)
 
-pub guards-in-spec : {M : Type 1} → statement M
-guards-in-spec =
+pub set-in-spec : {M : Type 1} → statement M
+set-in-spec =
     tie.close
     (tie.spec Inv-loop μ-loop loop-holds (λ c. omega arith) (λ c. omega arith) (λ c κs. tt) (λ c. omega arith)
     (λ c κs. tt) (λ c. omega arith) (λ c. omega arith) loop-again returns)
