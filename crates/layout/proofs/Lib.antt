@@ -1,4 +1,5 @@
 pub mod Closes
+pub mod EachTry
 pub mod Guards
 pub mod Links
 pub mod Methods

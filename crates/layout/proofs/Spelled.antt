@@ -25,6 +25,13 @@ use Rattle.layout.proofs.Trees.{brackets-balanced, braces-balanced}
 pub later : (n at : ℕ) (ls us : List Lexeme) → drop at ls ≡ us → drop (at + n) ls ≡ drop n us
 later n at ls us h = sym (drop-drop n at ls) ∙ ap (drop n) h
 
+-- the kind at a token is that of what stands there
+pub kind-stands : (at : ℕ) (ls us : List Lexeme) → drop at ls ≡ us
+    → getD (map kindOf ls) at noKind ≡ getD (map kindOf us) 0 noKind
+kind-stands at ls us h =
+    ap (λ (k : ℕ). getD (map kindOf ls) k noKind) (sym (add-zero at)) ∙ sym (getD-drop at (map kindOf ls) 0 noKind)
+    ∙ ap (λ (ks : List ℕ). getD ks 0 noKind) (kinds-from at ls ∙ ap (map kindOf) h)
+
 -- where the body of a region at a token begins, and where what is behind the region does
 abbrev pub bodyOf : List ℕ → ℕ → ℕ
 bodyOf kinds at = at + toGuard + bracketEnd (drop (at + toGuard) kinds) + toBody
@@ -71,14 +78,9 @@ module _ {file : List ℕ} {ts : List Token} {kinds values places : List ℕ}
       → Spelled (lexemes ts) kinds at q us
   spelled at q us h = rw (kinds-are words) (spelled-kinds (lexemes ts) at q us h)
 
-  -- the kind at a token is that of what stands there
   pub kind-behind : (at : ℕ) (us : List Lexeme) → drop at (lexemes ts) ≡ us
       → getD kinds at noKind ≡ getD (map kindOf us) 0 noKind
-  kind-behind at us h =
-      rw (kinds-are words)
-      (ap (λ (k : ℕ). getD (map kindOf (lexemes ts)) k noKind) (sym (add-zero at))
-      ∙ sym (getD-drop at (map kindOf (lexemes ts)) 0 noKind)
-      ∙ ap (λ (ks : List ℕ). getD ks 0 noKind) (kinds-from at (lexemes ts) ∙ ap (map kindOf) h))
+  kind-behind at us h = rw (kinds-are words) (kind-stands at (lexemes ts) us h)
 
   pub flag-behind : (at : ℕ) (us : List Lexeme) → drop at (lexemes ts) ≡ us → flagAt kinds at ≡ flagAt (map kindOf us) 0
   unfolding flagAt

@@ -1,37 +1,30 @@
--- What is closed under joining, brackets and braces holds of all that trees spell: by recursion over the trees. So
--- braces, brackets and semicolons are balanced where the code looks for a closing one, and `keep` stands once in a
--- file.
+-- What is closed under joining, brackets and braces holds of all that conditions and blocks spell: by recursion over
+-- the trees. So braces, brackets and semicolons are balanced where the code looks for a closing one.
 use Prim.Native.Nat.{ℕ}
 use native.Mathlib.Omega.{arith}
 use mathlib.Core.Path.{_≡_, refl, sym, ap, _∙_}
 use mathlib.Core.Bool.{Bool, true, false, not, _&&_, true≢false}
-use mathlib.Core.List.{List, [], _∷_, _++_, append-assoc, head-eq-of-cons-eq, tail-eq-of-cons-eq}
+use mathlib.Core.List.{List, [], _∷_, _++_, append-assoc}
 use lib.Dec.{eqb}
-use lib.ListN.{length, drop, take, take-append-drop}
-use lib.Seq.{drop-append-seam}
-use Rattle.syntax.specs.Token.{Lexeme, name, key, number, mark, lbrace, rbrace, lparen, rparen, semicolon, equals, dots}
-use Rattle.syntax.specs.Token.{becomes, minus, bang, and-and, or-or, k-monitor, k-var, k-in, k-keep, k-method}
-use Rattle.syntax.specs.Token.{k-waituntil, k-if, k-else, k-true, k-false}
+use Rattle.syntax.specs.Token.{Lexeme, name, key, number, mark, lbrace, rbrace, lparen, rparen, semicolon}
+use Rattle.syntax.specs.Token.{becomes, minus, bang, and-and, or-or, k-if, k-else, k-true, k-false}
 use Rattle.syntax.specs.Decide.Lexeme.{markNumber, keywordNumber}
 use Rattle.syntax.specs.Held.Kind.{kindOf, noKind}
 use Rattle.syntax.proofs.ByKind.{kind-below}
 use Rattle.syntax.specs.Tree.{Int, plain, negated, Atom, literal, variable, Sign, added, taken, Term, Expr, Comparison}
 use Rattle.syntax.specs.Tree.{eq, ne, lt, le, gt, ge, Cond, only, or, Conj, just, and, Simple, negation, bracketed}
-use Rattle.syntax.specs.Tree.{constant, compare, Block, end, then, Stmt, assign, if-then, if-else, Region, Method, Var}
-use Rattle.syntax.specs.Tree.{Monitor, all, each, spell, spellInt, spellAtom, signMark, spellTerm, spellExpr}
+use Rattle.syntax.specs.Tree.{constant, compare, Block, end, then, Stmt, assign, if-then, if-else, each}
+use Rattle.syntax.specs.Tree.{spellInt, spellAtom, signMark, spellTerm, spellExpr}
 use Rattle.syntax.specs.Tree.{comparisonMark, spellConstant, spellCond, spellConj, spellSimple, spellBlock, spellStmt}
-use Rattle.syntax.specs.Tree.{spellRegion, spellMethod, spellVar}
 use Rattle.layout.proofs.Closes.{Balanced, balanced-nil, balanced-join, balanced-one, balanced-wrap}
 use Rattle.layout.proofs.Closes.{openBracket, shutBracket, openBrace, shutBrace, semicolonKind}
 
 abbrev other : Lexeme → ℕ → Bool
 other l k = not (eqb k (kindOf l))
 
--- a kind of a file's tokens but brackets, braces and `keep`
+-- a kind of a block's tokens but brackets and braces
 abbrev quiet : ℕ → Bool
-quiet k =
-    other (mark lbrace) k && other (mark rbrace) k && other (mark lparen) k && other (mark rparen) k && other
-    (key k-keep) k
+quiet k = other (mark lbrace) k && other (mark rbrace) k && other (mark lparen) k && other (mark rparen) k
 
 -- nor a semicolon: a kind of a condition's tokens but brackets
 abbrev calm : ℕ → Bool
@@ -128,30 +121,6 @@ module _ (P : List Lexeme → Type 0) (nil : P []) (joins : (v w : List Lexeme) 
           join (plainly (key k-if) refl) (bracketed-then (of-cond c) (braced-then (of-block a)
           (join (plainly (key k-else) refl) (blocks _ (of-block b)))))
 
-    of-regions : (qs : List Region) → P (each spellRegion qs)
-    unfolding each spellRegion kindOf markNumber keywordNumber
-    of-regions [] = nil
-    of-regions (q ∷ qs) =
-        join (join (plainly (key k-waituntil) refl)
-        (bracketed-then (of-cond (q .guard)) (blocks _ (of-block (q .body))))) (of-regions qs)
-
-    pub of-methods : (ms : List Method) → P (each spellMethod ms)
-    unfolding each spellMethod kindOf markNumber keywordNumber
-    of-methods [] = nil
-    of-methods (x ∷ ms) =
-        join (join (plainly (key k-method) refl)
-        (join (plainly (name (x .title)) refl) (blocks _ (of-regions (all (x .regions))))))
-        (of-methods ms)
-
-    pub of-vars : (vs : List Var) → P (each spellVar vs)
-    unfolding each spellVar kindOf markNumber keywordNumber
-    of-vars [] = nil
-    of-vars (v ∷ vs) =
-        join (join (plainly (key k-var) refl) (join (plainly (name (v .title)) refl) (join (plainly (mark equals) refl)
-        (join (of-int (v .start))
-        (join (plainly (key k-in) refl) (join (of-int (v .low)) (join (plainly (mark dots) refl)
-        (join (of-int (v .high)) (plainly (mark semicolon) refl))))))))) (of-vars vs)
-
 -- Braces over blocks, brackets and semicolons over conditions
 
 module _ (o c : ℕ) where
@@ -194,71 +163,3 @@ braces-balanced =
     (balanced-one openBrace shutBrace (mark rparen) (λ e. omega arith) (λ e. omega arith)))
     (balanced-by openBrace shutBrace quiet refl refl)
     (λ w p. balanced-wrap openBrace shutBrace (mark lbrace) (mark rbrace) refl (λ e. omega arith) refl p)
-
--- `keep` stands once
-
-data Free : List Lexeme → Type 0 where
-  none : Free []
-  next : {l : Lexeme} {w : List Lexeme} → (kindOf l ≡ kindOf (key k-keep) → ⊥) → Free w → Free (l ∷ w)
-
-free-join : (v w : List Lexeme) → Free v → Free w → Free (v ++ w)
-free-join [] w p q = q
-free-join (l ∷ v) w (next h p) q = next h (free-join v w p q)
-
-free-around : (l r : Lexeme) → (kindOf l ≡ kindOf (key k-keep) → ⊥) → (kindOf r ≡ kindOf (key k-keep) → ⊥)
-    → (w : List Lexeme) → Free w → Free (l ∷ (w ++ (r ∷ [])))
-free-around l r p q w h = next p (free-join w (r ∷ []) h (next q none))
-
-free-one : (test : ℕ → Bool) → test (kindOf (key k-keep)) ≡ false → (l : Lexeme) → test (kindOf l) ≡ true
-    → Free (l ∷ [])
-free-one test f l h = next (apart-by test h f) none
-
-free-brackets : (w : List Lexeme) → Free w → Free (mark lparen ∷ (w ++ (mark rparen ∷ [])))
-unfolding kindOf markNumber keywordNumber
-free-brackets = free-around (mark lparen) (mark rparen) (λ e. omega arith) (λ e. omega arith)
-
-free-braces : (w : List Lexeme) → Free w → Free (mark lbrace ∷ (w ++ (mark rbrace ∷ [])))
-unfolding kindOf markNumber keywordNumber
-free-braces = free-around (mark lbrace) (mark rbrace) (λ e. omega arith) (λ e. omega arith)
-
-no-keep : (a b : List Lexeme) → Free (a ++ (key k-keep ∷ b)) → ⊥
-no-keep [] b (next h p) = h refl
-no-keep (l ∷ a) b (next h p) = no-keep a b p
-
-keep-splits : (a b v w : List Lexeme) → Free a → Free b → a ++ (key k-keep ∷ b) ≡ v ++ (key k-keep ∷ w) → w ≡ b
-keep-splits [] b [] w p q e = sym (tail-eq-of-cons-eq e)
-keep-splits [] b (l ∷ v) w p q e = absurd (no-keep v w (rw (tail-eq-of-cons-eq e) at q))
-keep-splits (l ∷ a) b [] w (next h p) q e = absurd (h (ap kindOf (head-eq-of-cons-eq e)))
-keep-splits (l ∷ a) b (k ∷ v) w (next h p) q e = keep-splits a b v w p q (tail-eq-of-cons-eq e)
-
--- what stands behind the kept condition's semicolon are the methods
-pub keep-once : (m : Monitor) (ls us : List Lexeme) (k : ℕ) → spell m ≡ ls
-    → drop k ls ≡ key k-keep ∷ (spellCond (m .keep) ++ (mark semicolon ∷ us))
-    → us ≡ each spellMethod (all (m .methods)) ++ (mark rbrace ∷ [])
-unfolding spell kindOf markNumber keywordNumber
-keep-once m ls us k e h =
-    let front = next {l = key k-monitor} (λ e. omega arith)
-    (next {l = name (m .title)} (λ e. omega arith) (next {l = mark lbrace} (λ e. omega arith) free-vars)) in
-    let same = keep-splits (key k-monitor ∷ name (m .title) ∷ mark lbrace ∷ each spellVar (all (m .vars)))
-    (spellCond (m .keep) ++ (mark semicolon ∷ methods)) (take k ls) (spellCond (m .keep) ++ (mark semicolon ∷ us)) front
-    free-rest
-    (e ∙ sym (take-append-drop k ls) ∙ ap (λ (x : List Lexeme). take k ls ++ x) h) in
-    let tails : mark semicolon ∷ us ≡ mark semicolon ∷ methods =
-    sym (drop-append-seam (spellCond (m .keep)) (mark semicolon ∷ us)) ∙ ap (drop (length (spellCond (m .keep)))) same
-    ∙ drop-append-seam (spellCond (m .keep)) (mark semicolon ∷ methods) in
-    tail-eq-of-cons-eq tails
-  where
-    methods : List Lexeme
-    methods = each spellMethod (all (m .methods)) ++ (mark rbrace ∷ [])
-
-    free-vars : Free (each spellVar (all (m .vars)))
-    free-vars =
-        of-vars Free none free-join (free-one calm refl) free-brackets (free-one quiet refl) free-braces (all (m .vars))
-
-    free-rest : Free (spellCond (m .keep) ++ (mark semicolon ∷ methods))
-    free-rest =
-        free-join (spellCond (m .keep)) (mark semicolon ∷ methods)
-        (of-cond Free none free-join (free-one calm refl) free-brackets (m .keep))
-        (next (λ e. omega arith) (free-join (each spellMethod (all (m .methods))) (mark rbrace ∷ [])
-        (of-methods Free none free-join (free-one calm refl) free-brackets (free-one quiet refl) free-braces
-        (all (m .methods))) (next (λ e. omega arith) none)))

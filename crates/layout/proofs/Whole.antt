@@ -4,32 +4,30 @@ use Prim.Native.Nat.{ℕ, zero, suc, _+_, _≤_, _<_}
 use native.Mathlib.Omega.{arith}
 use mathlib.Core.Path.{_≡_, refl, sym, ap, _∙_}
 use mathlib.Core.Bool.{Bool, true, false}
-use mathlib.Core.List.{List, [], _∷_, _++_, map, map-append, append-assoc}
+use mathlib.Core.List.{List, [], _∷_, _++_, map-append, append-assoc}
 use lib.ListN.{length, drop, getD, length-map, List·getD-append, List·getD-map}
 use lib.Seq.{getD-append-add}
 use lib.Dec.{eqb, ltb}
 use borrow.Author.Tests.{ltb-true, ltb-false, lt-ltb, le-ltb, ne-eqb}
-use Rattle.syntax.specs.Token.{Token, lexemes, Lexeme, key, mark, semicolon, k-keep}
-use Rattle.syntax.specs.Decide.Lexeme.{markNumber}
-use Rattle.syntax.specs.Held.Kind.{kindOf, noKind, valueOf, Words}
-use Rattle.syntax.specs.Tree.{Region, Method, Monitor, all, spell, spellCond}
+use Rattle.syntax.specs.Token.{Token, lexemes, Lexeme, key, mark, rbrace, semicolon, k-keep}
+use Rattle.syntax.specs.Held.Kind.{kindOf, valueOf, Kinds, Words}
+use Rattle.syntax.specs.Tree.{Region, Method, Monitor, all, each, spellCond, spellMethod}
 use Rattle.logic.specs.Tests.{bit}
 use Rattle.machine.specs.Held.{followsBy}
 use Rattle.machine.specs.Monitor as machine
 use Rattle.meaning.specs.Runs.{regionsOf}
+use Rattle.meaning.specs.Held.{behindKeep}
 use Rattle.meaning.specs.Model.{guardsOf, beginsIn, goesOnIn, noRegion, regions, guards, region, guardOf, follows}
 use Rattle.meaning.proofs.MethodLaws.{InMethod, in-method, begins-in-method, goes-on-in-method}
 use Rattle.logic.proofs.Bools.{split}
-use Rattle.layout.specs.Places.{toKept, past}
+use Rattle.layout.specs.Places.{toCondition}
 use Rattle.layout.specs.Laid.{IsKeep, Laid}
 use Rattle.layout.specs.Promises.{Flagged, noFlagged, more, flagRegions, flagged, parts, found, Holds}
 use Rattle.layout.specs.declared.Layout.{Layout}
 use Rattle.layout.proofs.Methods.{flag-count, methodsAhead}
-use Rattle.layout.proofs.Closes.{close-stands, stands-below}
-use Rattle.layout.proofs.Closes.{semicolonKind, semicolonEnd}
-use Rattle.layout.proofs.Same.{kinds-are, kinds-length}
+use Rattle.layout.proofs.Closes.{stands-below}
+use Rattle.layout.proofs.Same.{kinds-are}
 use Rattle.layout.proofs.Spelled.{later}
-use Rattle.layout.proofs.Trees.{semicolons-balanced, keep-once}
 
 -- the regions
 
@@ -174,32 +172,31 @@ holds-none r g =
       follow-flags = λ i h. absurd (omega arith);
     }
 
--- where the code begins: at the kept condition, and behind its semicolon at the methods
-module _ (m : Monitor) {file : List ℕ} {ts : List Token} {kinds values places : List ℕ}
-    (words : Words file ts kinds values places)
-    (spells : spell m ≡ lexemes ts) (k : ℕ) (keep : IsKeep m ts k) where
-  pub keep-below : k < length kinds
+-- where the code begins: at the kept condition, and at the first method
+module _ (m : Monitor) (ls : List Lexeme) (kinds : List ℕ) (are : Kinds ls kinds) where
+  long : length kinds ≡ length ls
+  unfolding Kinds
+  long = ap length (sym are) ∙ length-map ls kindOf
+
+  pub keep-below : (k : ℕ) → IsKeep m ls k → k < length kinds
   unfolding IsKeep
-  keep-below =
-      let low = stands-below k (lexemes ts) [] _ (key k-keep) (keep .1) in
-      let long = kinds-length words in
+  keep-below k keep = let low = stands-below k ls [] _ (key k-keep) keep in let l = long in omega arith
+
+  pub first-below : (k : ℕ) → drop k ls ≡ methodsAhead (all (m .methods)) → k < length kinds
+  first-below k first =
+      let low = stands-below k ls (each spellMethod (all (m .methods))) [] (mark rbrace) first in
+      let l = long in
       omega arith
 
-  pub keep-at : (us : List Lexeme) × (drop (k + toKept) (lexemes ts) ≡ spellCond (m .keep) ++ (mark semicolon ∷ us))
-  unfolding IsKeep
-  keep-at = (keep .0, later toKept k (lexemes ts) _ (keep .1))
+pub kinds-held : {file : List ℕ} {ts : List Token} {kinds values places : List ℕ} → Words file ts kinds values places
+    → Kinds (lexemes ts) kinds
+unfolding Kinds
+kinds-held w = sym (kinds-are w)
 
-  pub methods-at : drop (k + toKept + semicolonEnd (drop (k + toKept) kinds) + past) (lexemes ts)
-      ≡ methodsAhead (all (m .methods))
-  unfolding IsKeep kindOf markNumber
-  methods-at =
-      let semi = close-stands noKind semicolonKind (k + toKept) (lexemes ts) (spellCond (m .keep)) (keep .0)
-      (mark semicolon)
-      (semicolons-balanced (m .keep))
-      (λ e. omega arith) refl (later toKept k (lexemes ts) _ (keep .1)) in
-      rw (kinds-are words)
-      (later past (k + toKept + semicolonEnd (drop (k + toKept) (map kindOf (lexemes ts)))) (lexemes ts) _ semi
-      ∙ keep-once m (lexemes ts) (keep .0) k spells (keep .1))
+pub keep-at : (m : Monitor) (ls : List Lexeme) (k : ℕ) → IsKeep m ls k
+    → (us : List Lexeme) × (drop (k + toCondition) ls ≡ spellCond (m .keep) ++ (mark semicolon ∷ us))
+unfolding IsKeep behindKeep
+keep-at m ls k keep = (_, later toCondition k ls _ keep)
 
 pub words-sized : {file : List ℕ} {ts : List Token} {kinds values places : List ℕ} → Words file ts kinds values places
     → (length values ≡ length kinds) × (length places ≡ length kinds)

@@ -36,7 +36,8 @@ pub struct Layout {
     pub firsts: [u8; machine::REGIONS],
 }
 
-// The tries of a file, at most sixteen: how many, the tokens at which their conditions begin, and the token behind them.
+// The tries of a file, at most sixteen: how many, the tokens at which their conditions begin, and the token behind
+// them.
 pub struct Tries {
     pub count: usize,
     pub ats: [u16; syntax::TRIES],
@@ -49,9 +50,9 @@ struct Spot {
     at: usize,
 }
 
-// How many tokens on a part begins: the condition from `keep` or `try`, a method's regions from `method` (`method NAME {`),
-// a guard from `waituntil` (`waituntil (`), a body from the bracket that closes the guard (`) {`), and what stands
-// behind a token that closes.
+// How many tokens on a part begins: the condition from `keep` or `try`, a method's regions from `method`
+// (`method NAME {`), a guard from `waituntil` (`waituntil (`), a body from the bracket that closes the guard (`) {`),
+// and what stands behind a token that closes.
 const TO_CONDITION: usize = 1;
 
 const TO_REGIONS: usize = 3;

@@ -3,12 +3,12 @@ use Prim.Native.Nat.{ℕ, _+_}
 use mathlib.Core.Path.{_≡_}
 use mathlib.Core.List.{List}
 use lib.ListN.{getD, take}
-use Rattle.syntax.specs.Token.{key, k-var, k-keep, k-method, k-waituntil}
+use Rattle.syntax.specs.Token.{key, k-var, k-method, k-waituntil}
 use Rattle.syntax.specs.Held.Kind.{kindOf}
 use Rattle.variables.specs.declared.Bounds.{Bounds}
 use Rattle.outline.specs.Found.{nthOf, countOf}
-use Rattle.outline.specs.Slices.{nameIn, betweenIn, bracketAt, braceAt, semicolonAt, keepIn, variableIn, methodIn}
-use Rattle.outline.specs.Slices.{regionIn}
+use Rattle.outline.specs.Slices.{nameIn, betweenIn, bracketAt, braceAt, semicolonAt, conditionIn, variableIn}
+use Rattle.outline.specs.Slices.{methodIn, regionIn}
 use Rattle.outline.specs.declared.Span.{Span}
 use Rattle.outline.specs.declared.Variable.{Variable}
 use Rattle.outline.specs.declared.Method.{Method}
@@ -26,10 +26,10 @@ module _ (places : List ℕ) where
   between-formed opener size closer from to p q = cc
 
 module _ (kinds places : List ℕ) where
-  pub keep-formed : (at end : ℕ) (s : Span) → at ≡ nthOf (kindOf (key k-keep)) 0 kinds
-      → end ≡ semicolonAt kinds (at + 1) → s ≡ betweenIn places at 4 end → s ≡ keepIn kinds places
-  unfolding keepIn
-  keep-formed at end s p q r = cc
+  pub condition-formed : (kind k size at end : ℕ) (s : Span) → at ≡ nthOf kind k kinds
+      → end ≡ semicolonAt kinds (at + 1) → s ≡ betweenIn places at size end → s ≡ conditionIn kinds places kind k size
+  unfolding conditionIn
+  condition-formed kind k size at end s p q r = cc
 
   pub variable-formed : (values : List ℕ) (b : Bounds) (k at : ℕ) (name : Span)
       → at ≡ nthOf (kindOf (key k-var)) k kinds → name ≡ nameIn values places (at + 1)

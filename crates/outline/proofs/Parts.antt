@@ -1,25 +1,26 @@
 -- The parts of a file among its tokens: what stands before each, and that the slices alone give where its name, its
--- guard and its body are.
+-- condition, its guard and its body are.
 use Prim.Native.Nat.{ℕ, _+_}
 use native.Mathlib.Omega.{arith}
 use mathlib.Core.Path.{_≡_, refl, sym, ap, _∙_}
 use mathlib.Core.List.{List, [], _∷_, _++_, append-assoc}
 use lib.ListN.{length, length-append}
 use Rattle.syntax.specs.Token.{Lexeme, name, key, mark, lbrace, rbrace, lparen, rparen, semicolon, Token, lexemes}
-use Rattle.syntax.specs.Token.{k-monitor, k-var, k-keep, k-method, k-waituntil}
+use Rattle.syntax.specs.Token.{Keyword, k-monitor, k-var, k-keep, k-method, k-waituntil, k-try}
 use Rattle.syntax.specs.Decide.Lexeme.{markNumber}
 use Rattle.syntax.specs.Held.Kind.{kindOf, noKind, Words}
-use Rattle.syntax.specs.Tree.{Region, Method, Var, Monitor, all, each, spell, spellCond, spellBlock, spellRegion}
-use Rattle.syntax.specs.Tree.{spellMethod, spellVar}
+use Rattle.syntax.specs.Tree.{Cond, Region, Method, Var, Monitor, all, each, spell, spellCond, spellBlock}
+use Rattle.syntax.specs.Tree.{spellRegion, spellMethod, spellVar, spellTry}
 use Rattle.meaning.specs.Runs.{regionsOf}
 use Rattle.meaning.specs.Refusal.{upTo}
-use Rattle.meaning.specs.Outline.{upToMethod, upToRegion, TitleAt, KeepAt, VariableAt, MethodAt, GuardAt, BodyAt}
-use Rattle.meaning.proofs.KeywordPlaces.{each-append, spell-from, up-to-var, up-to-keep}
-use Rattle.meaning.proofs.KeywordCounts.{method-number, regions-before, region-number}
+use Rattle.meaning.specs.Outline.{upToTry, upToMethod, upToRegion, Between, TitleAt, KeepAt, TryAt, VariableAt}
+use Rattle.meaning.specs.Outline.{MethodAt, GuardAt, BodyAt}
+use Rattle.meaning.proofs.KeywordPlaces.{times, each-append, spell-from, up-to-var, up-to-keep}
+use Rattle.meaning.proofs.KeywordCounts.{try-number, method-number, regions-before, region-number}
 use Rattle.layout.proofs.Closes.{openBracket, shutBracket, openBrace, shutBrace, semicolonKind}
 use Rattle.layout.proofs.Trees.{brackets-balanced, braces-balanced, semicolons-balanced}
 use Rattle.outline.specs.Found.{nthOf}
-use Rattle.outline.specs.Slices.{nameIn, keepIn, methodIn, regionIn, bracketAt, braceAt}
+use Rattle.outline.specs.Slices.{nameIn, conditionIn, methodIn, regionIn, bracketAt, braceAt}
 use Rattle.outline.proofs.Stands.{name-at, between-at, keyword-at, name-behind, count-at, closes-at}
 
 -- A file from a part on
@@ -35,13 +36,20 @@ behind ms = each spellMethod ms ++ (mark rbrace ∷ [])
 
 from-keep : (m : Monitor)
     → spell m ≡ upTo m (all (m .vars)) ++ (key k-keep ∷ (spellCond (m .keep)
-    ++ (mark semicolon ∷ behind (all (m .methods)))))
+    ++ (mark semicolon ∷ (each spellTry (m .tries) ++ behind (all (m .methods))))))
 unfolding spell upTo
 from-keep m = refl
 
+from-try : (m : Monitor) (before : List Cond) (c : Cond) (after : List Cond) → m .tries ≡ before ++ (c ∷ after)
+    → spell m ≡ upToTry m before ++ (key k-try ∷ (spellCond c
+    ++ (mark semicolon ∷ (each spellTry after ++ behind (all (m .methods))))))
+unfolding spell upToTry upTo spellTry
+from-try m before c after e =
+    rw (each-split spellTry (m .tries) before c after (behind (all (m .methods))) e) (simp append-assoc)
+
 from-method : (m : Monitor) (before : List Method) (x : Method) (after : List Method)
     → all (m .methods) ≡ before ++ (x ∷ after) → spell m ≡ upToMethod m before ++ (spellMethod x ++ behind after)
-unfolding spell upToMethod upTo
+unfolding spell upToMethod upToTry upTo
 from-method m before x after e =
     rw (each-split spellMethod (all (m .methods)) before x after (mark rbrace ∷ []) e) (simp append-assoc)
 
@@ -83,20 +91,35 @@ module _ {file : List ℕ} {ts : List Token} {kinds values places : List ℕ}
   unfolding TitleAt spell
   title-is = name-at words (key k-monitor ∷ []) (m .title) _ spelt 1 refl
 
-  pub keep-is : KeepAt ts m (keepIn kinds places .from) (keepIn kinds places .to)
-  unfolding KeepAt keepIn kindOf markNumber
+  -- the condition behind a word that stands behind as many
+  condition-is : (k : Keyword) (pre : List Lexeme) (c : Cond) (us : List Lexeme) (n size : ℕ)
+      → lexemes ts ≡ pre ++ (key k ∷ (spellCond c ++ (mark semicolon ∷ us))) → times k pre ≡ n
+      → Between ts pre (key k) size (spellCond c) (mark semicolon)
+      (conditionIn kinds places (kindOf (key k)) n size .from) (conditionIn kinds places (kindOf (key k)) n size .to)
+  unfolding conditionIn kindOf markNumber
+  condition-is k pre c us n size e count =
+      let w = spellCond c in
+      let at = keyword-at words k pre (w ++ (mark semicolon ∷ us)) e n count in
+      let long = length-append pre (key k ∷ []) in
+      let end = closes-at words noKind semicolonKind (pre ++ (key k ∷ [])) w us (mark semicolon)
+      (semicolons-balanced c) (λ z. omega arith) refl
+      (e ∙ sym (append-assoc pre (key k ∷ []) (w ++ (mark semicolon ∷ us))))
+      (nthOf (kindOf (key k)) n kinds + 1) (omega arith) in
+      between-at words pre (key k) size w (mark semicolon) us e _ _ at (omega arith)
+
+  pub keep-is : KeepAt ts m (conditionIn kinds places (kindOf (key k-keep)) 0 4 .from)
+      (conditionIn kinds places (kindOf (key k-keep)) 0 4 .to)
+  unfolding KeepAt
   keep-is =
-      let pre = upTo m (all (m .vars)) in
-      let w = spellCond (m .keep) in
-      let us = behind (all (m .methods)) in
-      let e = spelt ∙ from-keep m in
-      let at = keyword-at words k-keep pre (w ++ (mark semicolon ∷ us)) e 0 (up-to-keep m (all (m .vars))) in
-      let long = length-append pre (key k-keep ∷ []) in
-      let end = closes-at words noKind semicolonKind (pre ++ (key k-keep ∷ [])) w us (mark semicolon)
-      (semicolons-balanced (m .keep)) (λ z. omega arith) refl
-      (e ∙ sym (append-assoc pre (key k-keep ∷ []) (w ++ (mark semicolon ∷ us))))
-      (nthOf (kindOf (key k-keep)) 0 kinds + 1) (omega arith) in
-      between-at words pre (key k-keep) 4 w (mark semicolon) us e _ _ at (omega arith)
+      condition-is k-keep (upTo m (all (m .vars))) (m .keep) _ 0 4 (spelt ∙ from-keep m) (up-to-keep m (all (m .vars)))
+
+  pub try-is : (before : List Cond) (c : Cond) (after : List Cond) → m .tries ≡ before ++ (c ∷ after)
+      → TryAt ts m before c (conditionIn kinds places (kindOf (key k-try)) (length before) 3 .from)
+      (conditionIn kinds places (kindOf (key k-try)) (length before) 3 .to)
+  unfolding TryAt
+  try-is before c after e =
+      condition-is k-try (upToTry m before) c _ (length before) 3 (spelt ∙ from-try m before c after e)
+      (try-number m before)
 
   pub variable-is : (before : List Var) (v : Var) (after : List Var) → all (m .vars) ≡ before ++ (v ∷ after)
       → VariableAt ts m before v (nameIn values places (nthOf (kindOf (key k-var)) (length before) kinds + 1) .from)

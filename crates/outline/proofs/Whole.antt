@@ -11,18 +11,19 @@ use lib.IntN.{ℤ}
 use lib.Dec.{ltb}
 use borrow.Author.Tests.{ltb-true, ltb-false}
 use Rattle.logic.proofs.Bools.{split}
-use Rattle.syntax.specs.Limits.{mostVars, mostMethods}
+use Rattle.syntax.specs.Limits.{mostVars, mostTries, mostMethods}
 use Rattle.machine.specs.Limits.{mostRegions}
-use Rattle.syntax.specs.Token.{key, mark, rparen, k-method, Token, lexemes}
+use Rattle.syntax.specs.Token.{key, mark, rparen, Keyword, k-keep, k-method, k-try, Token, lexemes}
 use Rattle.syntax.specs.Held.Kind.{kindOf, Words}
-use Rattle.syntax.specs.Tree.{Region, Method, Var, Monitor, all, spell, spellCond}
+use Rattle.syntax.specs.Tree.{Cond, Region, Method, Var, Monitor, all, spell, spellCond}
 use Rattle.meaning.specs.Held.{Biased}
 use Rattle.meaning.specs.State.{numberOf, starts}
 use Rattle.meaning.specs.Runs.{State, regionsOf}
+use Rattle.meaning.specs.Outline.{TryAt}
 use Rattle.meaning.specs.Model as model
 use Rattle.meaning.proofs.StateLaws.{starts-state}
 use Rattle.meaning.proofs.KeywordPlaces.{times}
-use Rattle.meaning.proofs.KeywordCounts.{method-count, not-monitor}
+use Rattle.meaning.proofs.KeywordCounts.{try-count, method-count, not-monitor}
 use Rattle.variables.specs.Bounded.{Bounded}
 use Rattle.variables.specs.declared.Bounds.{Bounds}
 use Rattle.variables.proofs.Indices.{elem-left}
@@ -31,16 +32,18 @@ use Rattle.layout.specs.Laid.{Laid}
 use Rattle.layout.specs.declared.Layout.{Layout}
 use Rattle.layout.proofs.Same.{kinds-length}
 use Rattle.outline.specs.Found.{countOf}
-use Rattle.outline.specs.Slices.{nameIn, keepIn, variableIn, methodIn, regionIn}
+use Rattle.outline.specs.Slices.{nameIn, conditionIn, variableIn, methodIn, regionIn}
 use Rattle.outline.specs.Slices.{Listed}
-use Rattle.outline.specs.Outlined.{noVariable, noMethod, noRegion, VariableIs, MethodIs, RegionIs, Outlines}
+use Rattle.outline.specs.Outlined.{noSpan, noVariable, noMethod, noRegion, VariableIs, MethodIs, RegionIs}
+use Rattle.outline.specs.Outlined.{Outlines}
 use Rattle.outline.specs.declared.Outline.{Outline}
 use Rattle.outline.proofs.Stands.{count-at}
-use Rattle.outline.proofs.Parts.{title-is, keep-is, variable-is, method-is, first-is, guard-is, body-is}
+use Rattle.outline.proofs.Parts.{title-is, keep-is, variable-is, try-is, method-is, first-is, guard-is, body-is}
 
 -- what the code says
 pub record Made (kinds values places : List ℕ) (b : Bounds) (l : Layout) (r : Outline) : Type 0 where
   pub vars : r .vars ≡ b .count
+  pub tries : r .tries ≡ countOf (kindOf (key k-try)) (take (length kinds) kinds)
   pub methods : r .methods ≡ countOf (kindOf (key k-method)) (take (length kinds) kinds)
   pub regions : r .regions ≡ l .regions
   pub guards : r .guards ≡ l .guards
@@ -48,8 +51,9 @@ pub record Made (kinds values places : List ℕ) (b : Bounds) (l : Layout) (r : 
   pub start : (vs : List Var) (as′ : List ℤ) → Bounded vs b → Biased vs as′ (b .starts) → State vs as′
       → r .start ≡ numberOf vs as′
   pub title : r .title ≡ nameIn values places 1
-  pub keep : r .keep ≡ keepIn kinds places
+  pub keep : r .keep ≡ conditionIn kinds places (kindOf (key k-keep)) 0 4
   pub each-variable : Listed mostVars (b .count) noVariable (variableIn kinds values places b) (r .variable)
+  pub each-try : Listed mostTries (r .tries) noSpan (λ k. conditionIn kinds places (kindOf (key k-try)) k 3) (r .tried)
   pub each-method : Listed mostMethods (r .methods) noMethod (methodIn kinds values places) (r .method)
   pub each-region : Listed mostRegions (l .regions) noRegion (λ k. regionIn kinds places (getD (l .«guard_of») k 0) k)
       (r .region)
@@ -95,13 +99,20 @@ few-regions m ts l spelt laid slots = split (ltb mostRegions (length (model.regi
 
 module _ {file : List ℕ} {ts : List Token} {kinds values places : List ℕ} {b : Bounds} {l : Layout} {r : Outline}
     (made : Made kinds values places b l r) (words : Words file ts kinds values places) (m : Monitor)
-    (spelt : lexemes ts ≡ spell m) (few : length (all (m .methods)) ≤ mostMethods) (bounded : Bounded (model.vars m) b)
+    (spelt : lexemes ts ≡ spell m) (few-tries : length (m .tries) ≤ mostTries)
+    (few : length (all (m .methods)) ≤ mostMethods) (bounded : Bounded (model.vars m) b)
     (laid : Laid m (lexemes ts) l) where
+  -- a keyword's count is how often the tree spells it
+  counted : (k : Keyword) → countOf (kindOf (key k)) (take (length kinds) kinds) ≡ times k (spell m)
+  counted k =
+      count-at words k (lexemes ts) [] (sym (append-nil (lexemes ts))) (length kinds) (kinds-length words)
+      ∙ ap (times k) spelt
+
+  tries-are : r .tries ≡ length (m .tries)
+  tries-are = made .tries ∙ counted k-try ∙ try-count m
+
   methods-are : r .methods ≡ length (all (m .methods))
-  methods-are =
-      made .methods
-      ∙ count-at words k-method (lexemes ts) [] (sym (append-nil (lexemes ts))) (length kinds) (kinds-length words)
-      ∙ ap (times k-method) spelt ∙ method-count m
+  methods-are = made .methods ∙ counted k-method ∙ method-count m
 
   variable-at : (before : List Var) (v : Var) (after : List Var) → all (m .vars) ≡ before ++ (v ∷ after)
       → VariableIs ts m before v (getD (r .variable) (length before) noVariable)
@@ -118,6 +129,14 @@ module _ {file : List ℕ} {ts : List Token} {kinds values places : List ℕ} {b
         low = bounded .ranges .lows-held k v at;
         high = bounded .ranges .highs-held k v at;
       })
+
+  try-at : (before : List Cond) (c : Cond) (after : List Cond) → m .tries ≡ before ++ (c ∷ after)
+      → TryAt ts m before c (getD (r .tried) (length before) noSpan .from)
+      (getD (r .tried) (length before) noSpan .to)
+  try-at before c after e =
+      let inside = one-of (m .tries) before c after e in
+      rw (made .each-try .filled (length before) (omega arith) (omega (arith, tries-are)))
+      (try-is words m spelt before c after e)
 
   method-at : (before : List Method) (x : Method) (after : List Method) → all (m .methods) ≡ before ++ (x ∷ after)
       → MethodIs ts m before x (getD (r .method) (length before) noMethod)
@@ -150,6 +169,7 @@ module _ {file : List ℕ} {ts : List Token} {kinds values places : List ℕ} {b
   outlines =
       record {
         vars = made .vars ∙ bounded .counted;
+        tries = tries-are;
         methods = methods-are;
         regions = made .regions ∙ laid .region-count;
         guards = made .guards ∙ laid .guard-count;
@@ -159,9 +179,11 @@ module _ {file : List ℕ} {ts : List Token} {kinds values places : List ℕ} {b
         title = rw (made .title) (title-is words m spelt);
         keep = rw (made .keep) (keep-is words m spelt);
         each-variable = variable-at;
+        each-try = try-at;
         each-method = method-at;
         each-region = region-at;
         no-variable = λ k h. made .each-variable .behind k (omega (arith, bounded .counted));
+        no-try = λ k h. made .each-try .behind k (omega (arith, tries-are));
         no-method = λ k h. made .each-method .behind k (omega (arith, methods-are));
         no-region = λ k h. made .each-region .behind k (omega (arith, laid .region-count));
       }

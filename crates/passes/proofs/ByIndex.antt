@@ -12,9 +12,9 @@ use lib.Seq.{take-suc, drop-cons}
 use lib.Dec.{leb, eqb}
 use borrow.Author.Tests.{leb-false}
 use Rattle.syntax.specs.Token.{Lexeme, name, number, mark, lbrace, rbrace, lparen, rparen, Token, k-var, k-method}
-use Rattle.syntax.specs.Token.{k-waituntil}
+use Rattle.syntax.specs.Token.{k-waituntil, k-try}
 use Rattle.syntax.specs.Decide.Lexeme.{isKey}
-use Rattle.syntax.specs.Limits.{mostTokens, mostOpen, mostVars, mostMethods}
+use Rattle.syntax.specs.Limits.{mostTokens, mostOpen, mostVars, mostMethods, mostTries}
 use Rattle.machine.specs.Limits.{mostRegions}
 use Rattle.syntax.specs.Held.Kind.{kindOf, valueOf, Words}
 use Rattle.syntax.proofs.ByKind.{kind-mark}
@@ -112,10 +112,10 @@ unfolding tally
 tally-kept true limit n e h = omega (arith, leb-false limit n e)
 tally-kept false limit n e h = h
 
-neither : (a b c : Bool) → a || b || c ≡ false → (a ≡ false) × (b ≡ false)
-neither false false c e = (refl, refl)
-neither true b c e = absurd (true≢false e)
-neither false true c e = absurd (true≢false e)
+neither : (a b c d : Bool) → a || b || c || d ≡ false → (a ≡ false) × (b ≡ false)
+neither false false c d e = (refl, refl)
+neither true b c d e = absurd (true≢false e)
+neither false true c d e = absurd (true≢false e)
 
 -- A definition that carries a summary along the tokens and names the first that offends
 
@@ -177,37 +177,43 @@ crowding =
       token = λ s t ts. crowded-token (s .0) (s .1) (s .2) t ts;
     }
 
-pub past-nothing : (v m w : ℕ) → pastLimit v m w [] ≡ none
+pub past-nothing : (v m w c : ℕ) → pastLimit v m w c [] ≡ none
 unfolding pastLimit
-past-nothing v m w = refl
+past-nothing v m w c = refl
 
-pub past-token : (v m w : ℕ) (t : Token) (ts : List Token)
-    → pastLimit v m w (t ∷ ts)
+pub past-token : (v m w c : ℕ) (t : Token) (ts : List Token)
+    → pastLimit v m w c (t ∷ ts)
     ≡ elim ((isKey k-var (t .lexeme) && leb mostVars v) || (isKey k-method (t .lexeme) && leb mostMethods m)
-    || (isKey k-waituntil (t .lexeme) && leb mostRegions w)) as (λ b. Option ℕ) [
+    || (isKey k-waituntil (t .lexeme) && leb mostRegions w) || (isKey k-try (t .lexeme) && leb mostTries c))
+    as (λ b. Option ℕ) [
       | true ↦ some (t .at)
       | false ↦ pastLimit (tally (isKey k-var (t .lexeme)) v) (tally (isKey k-method (t .lexeme)) m)
-          (tally (isKey k-waituntil (t .lexeme)) w) ts
+          (tally (isKey k-waituntil (t .lexeme)) w) (tally (isKey k-try (t .lexeme)) c) ts
     ]
 unfolding pastLimit
-past-token v m w t ts = refl
+past-token v m w c t ts = refl
 
-abbrev pub limiting : Pass (ℕ × ℕ × ℕ)
+abbrev pub limiting : Pass (ℕ × ℕ × ℕ × ℕ)
 limiting =
     record {
-      find = λ s ts. pastLimit (s .0) (s .1) (s .2) ts;
+      find = λ s ts. pastLimit (s .0) (s .1) (s .2) (s .3) ts;
       test = λ s l. (isKey k-var l && leb mostVars (s .0)) || (isKey k-method l && leb mostMethods (s .1))
-          || (isKey k-waituntil l && leb mostRegions (s .2));
-      next = λ s l. (tally (isKey k-var l) (s .0), tally (isKey k-method l) (s .1), tally (isKey k-waituntil l) (s .2));
-      nothing = λ s. past-nothing (s .0) (s .1) (s .2);
-      token = λ s t ts. past-token (s .0) (s .1) (s .2) t ts;
+          || (isKey k-waituntil l && leb mostRegions (s .2)) || (isKey k-try l && leb mostTries (s .3));
+      next = λ s l. (
+        tally (isKey k-var l) (s .0),
+        tally (isKey k-method l) (s .1),
+        tally (isKey k-waituntil l) (s .2),
+        tally (isKey k-try l) (s .3),
+      );
+      nothing = λ s. past-nothing (s .0) (s .1) (s .2) (s .3);
+      token = λ s t ts. past-token (s .0) (s .1) (s .2) (s .3) t ts;
     }
 
 -- Where no limit is passed: no more names are declared than keywords stand before, and these are few
 
 pub record Few (ts : List Token) (i : ℕ) (last : Lexeme) (vs ms : ℕ) : Type 0 where
-  pub counts : ℕ × ℕ × ℕ
-  pub so-far : pastLimit 0 0 0 0 ts ≡ pastLimit (counts .0) (counts .1) (counts .2) (drop i ts)
+  pub counts : ℕ × ℕ × ℕ × ℕ
+  pub so-far : pastLimit 0 0 0 0 ts ≡ pastLimit (counts .0) (counts .1) (counts .2) (counts .3) (drop i ts)
   pub vars : tally (isKey k-var last) vs ≤ counts .0
   pub methods : tally (isKey k-method last) ms ≤ counts .1
   pub few-vars : counts .0 ≤ mostVars
@@ -216,7 +222,7 @@ pub record Few (ts : List Token) (i : ℕ) (last : Lexeme) (vs ms : ℕ) : Type 
 pub few-first : (ts : List Token) → Few ts 0 (number 0) 0 0
 unfolding isKey tally
 few-first ts = record {
-  counts = (0, 0, 0);
+  counts = (0, 0, 0, 0);
   so-far = refl;
   vars = omega arith;
   methods = omega arith;
@@ -233,12 +239,12 @@ pub few-next : {file : List ℕ} {ts : List Token} {kinds values places : List �
 few-next {ts = ts} h n {i = i} vs′ ms′ f l v m =
     let s = f .counts in
     let t = tokenAt ts i .lexeme in
-    let e = passed limiting h (0, 0, 0) s i (f .so-far) l n in
+    let e = passed limiting h (0, 0, 0, 0) s i (f .so-far) l n in
     let k = neither (isKey k-var t && leb mostVars (s .0)) (isKey k-method t && leb mostMethods (s .1))
-    (isKey k-waituntil t && leb mostRegions (s .2)) e in
+    (isKey k-waituntil t && leb mostRegions (s .2)) (isKey k-try t && leb mostTries (s .3)) e in
     record {
       counts = limiting .next s t;
-      so-far = goes-on limiting h (0, 0, 0) s i (f .so-far) l e;
+      so-far = goes-on limiting h (0, 0, 0, 0) s i (f .so-far) l e;
       vars = tally-mono (isKey k-var t) vs′ (s .0) (omega (arith, f .vars));
       methods = tally-mono (isKey k-method t) ms′ (s .1) (omega (arith, f .methods));
       few-vars = tally-kept (isKey k-var t) mostVars (s .0) (k .0) (f .few-vars);

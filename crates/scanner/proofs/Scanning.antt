@@ -14,6 +14,7 @@ use Rattle.syntax.specs.Bytes.{bytes, letter, digit, sameBytes}
 use Rattle.syntax.specs.Decide.Leading.{leading}
 use Rattle.syntax.specs.Token.{Lexeme, Keyword, name, key, keywords, marks}
 use Rattle.syntax.specs.Decide.Lexeme.{keywordNumber}
+use Rattle.syntax.specs.Held.Kind.{keywordCount}
 use Rattle.syntax.specs.Decide.Scan.{nothing, found, scan, atMost, wordOf, markOf}
 use Rattle.scanner.specs.Step.{place, keyCode, tokenOf, stepOf, stepTo, wordAt, numberAt}
 use Rattle.scanner.specs.declared.Token.the-variants as token
@@ -68,26 +69,19 @@ module _ (w : List ℕ) where
       (λ e. absurd (omega (arith, hit x xs w refl e)))
       (λ e. omega (arith, miss x (xs ++ ys) w refl e refl, place-behind xs ys (omega (arith, miss x xs w refl e refl))))
 
-  pub place-most : (xs : List (List ℕ)) → place xs w ≤ length xs
-  place-most [] = omega (arith, no-place w)
-  place-most (x ∷ xs) =
-      by-cases (sameBytes x w)
-      (λ e. omega (arith, hit x xs w refl e))
-      (λ e. omega (arith, miss x xs w refl e refl, place-most xs))
-
--- the texts of reserved words; and whether these stand in the order of their numbers, with 10 behind the last
+-- the texts of reserved words; and whether these stand in the order of their numbers, with their count behind the last
 unfoldable pub texts : List (String × Keyword) → List (List ℕ)
 texts [] = []
 texts (k ∷ ks) = bytes (k .0) ∷ texts ks
 
 ordered : ℕ → List (String × Keyword) → Bool
-ordered n [] = eqb n 10
+ordered n [] = eqb n keywordCount
 ordered n (k ∷ ks) = eqb (keywordNumber (k .1)) n && ordered (suc n) ks
 
 key-place : (n : ℕ) (ks : List (String × Keyword)) (w : List ℕ) → ordered n ks ≡ true → n + place (texts ks) w
     ≡ keyCode (wordOf ks w)
 unfolding ordered texts keyCode wordOf
-key-place n [] w o = omega (arith, eqb-true n 10 o, no-place w)
+key-place n [] w o = omega (arith, eqb-true n keywordCount o, no-place w)
 key-place n (k ∷ ks) w o =
     let h = and-true (eqb (keywordNumber (k .1)) n) (ordered (suc n) ks) o in
     by-cases (sameBytes (bytes (k .0)) w)
@@ -100,17 +94,30 @@ keyword-place : (w : List ℕ) → place (texts keywords) w ≡ keyCode (wordOf 
 unfolding ordered keywords keywordNumber
 keyword-place w = omega (arith, key-place 0 keywords w refl)
 
--- a reserved word's number by its place among the first five, or among the other five behind them
+-- a reserved word's number by its place among the first five, among the next five behind them, or behind these ten
 module _ (w : List ℕ) (m : ℕ) (front : m ≡ place (texts (take 5 keywords)) w) where
   pub key-front : m < 5 → m ≡ keyCode (wordOf keywords w)
   unfolding keywords texts
   key-front h = front ∙ place-front w (texts (take 5 keywords)) (texts (drop 5 keywords)) (rw front at h)
       ∙ keyword-place w
 
-  pub key-behind : 5 ≤ m → (n : ℕ) → n ≡ place (texts (drop 5 keywords)) w → 5 + n ≡ keyCode (wordOf keywords w)
-  unfolding keywords texts
-  key-behind h n e =
-      rw e (place-behind w (texts (take 5 keywords)) (texts (drop 5 keywords)) (rw front at h) ∙ keyword-place w)
+  module _ (h : 5 ≤ m) (n : ℕ) (middle : n ≡ place (texts (take 5 (drop 5 keywords))) w) where
+    behind : 5 + place (texts (drop 5 keywords)) w ≡ keyCode (wordOf keywords w)
+    unfolding keywords texts
+    behind =
+        place-behind w (texts (take 5 keywords)) (texts (drop 5 keywords)) (rw front at h) ∙ keyword-place w
+
+    pub key-middle : n < 5 → 5 + n ≡ keyCode (wordOf keywords w)
+    unfolding keywords texts
+    key-middle l =
+        ap (λ (k : ℕ). 5 + k)
+        (middle ∙ place-front w (texts (take 5 (drop 5 keywords))) (texts (drop 10 keywords)) (rw middle at l)) ∙ behind
+
+    pub key-last : 5 ≤ n → (k : ℕ) → k ≡ place (texts (drop 10 keywords)) w → 10 + k ≡ keyCode (wordOf keywords w)
+    unfolding keywords texts
+    key-last l k e =
+        let inner = place-behind w (texts (take 5 (drop 5 keywords))) (texts (drop 10 keywords)) (rw middle at l) in
+        omega (arith, e, inner, behind)
 
 -- a word of the list, or the name that it is
 pub data WordOr (w : List ℕ) : Lexeme → Type 0 where

@@ -9,6 +9,7 @@ returns c = (
   refl,
   record {
     vars = refl;
+    tries = refl;
     methods = refl;
     regions = refl;
     guards = refl;
@@ -17,6 +18,7 @@ returns c = (
     title = cc;
     keep = cc;
     variables = cc;
+    each-try = cc;
     each-method = cc;
     each-region = cc;
   },
@@ -26,4 +28,4 @@ pub no-outline-spec : {M : Type 1} → statement M
 no-outline-spec =
     tie.close
     (tie.spec (λ c κs. search needs) (λ c κs. search needs) (λ c κs. search needs) (λ c κs. search needs)
-    (λ c κs. search needs) (λ c κs. search needs) returns)
+    (λ c κs. search needs) (λ c κs. search needs) (λ c κs. search needs) returns)
