@@ -156,6 +156,35 @@ fn the_lowest_region_and_then_the_lowest_state() {
     wants(&with("true", &["x < 3", "x != 2"], &lower), GOOD, &[broken(1, 1, 0), Chosen]);
 }
 
+/// The sixteenth region and the last state of 4,096 are asked as the others.
+#[test]
+fn the_last_region_and_the_last_state() {
+    let two = format!("{STAY} {STAY}");
+    let last = format!("{STAY} {UP}");
+    let sixteen = [[two.as_str(); 7].as_slice(), &[&last]].concat();
+    let fates = [broken(1, 15, 0), broken(2, 15, 1), Chosen];
+    wants(&with("true", &["x != 1", "x != 2", "x < 4"], &sixteen), GOOD, &fates);
+    let square = |guard: &str| {
+        file(
+            "var x = 0 in 0..63; var y = 0 in 0..63;",
+            "true; try x > 0 || y < 63; try x < 64",
+            &format!("method a {{ waituntil ({guard}) {{ x := 0; }} }}"),
+        )
+    };
+    wants(&square("x == 63 && y == 63"), GOOD, &[broken(1, 0, 4095), Chosen]);
+    wants(&square("x == 63 && y == 62"), GOOD, &[Chosen, Chosen]);
+}
+
+/// Start values that are not the lowest.
+#[test]
+fn from_another_state_than_the_lowest() {
+    let down = "method a { waituntil (x > 0) { x := x - 1; } }";
+    let tries = "true; try x == 2; try x != 0; try x < 2; try x != 1; try x < 3; try x > 1";
+    let file = file("var x = 2 in 0..3;", tries, down);
+    let fall = broken(1, 0, 2);
+    wants(&file, GOOD, &[fall, broken(2, 0, 1), FalseAtStart, fall, Chosen, fall]);
+}
+
 /// keep and the guard narrow what a try must bear.
 #[test]
 fn only_kept_states_where_the_guard_holds_bind() {

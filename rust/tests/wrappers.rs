@@ -69,6 +69,8 @@ fn examples_have_their_tables_and_lines() {
                 ("monitor.txt", "trace-plain-only.txt", "table.txt", "lines-plain-only.txt"),
                 ("monitor.txt", "trace-recheck.txt", "table.txt", "lines-recheck.txt"),
                 ("monitor-kept.txt", "", "table-kept.txt", ""),
+                ("monitor-tried.txt", "", "table-tried.txt", ""),
+                ("monitor-without.txt", "", "table-without.txt", ""),
                 ("monitor-published.txt", "", "table-published.txt", ""),
             ] {
                 if !folder.join(monitor).is_file() || !folder.join(table).is_file() {

@@ -30,3 +30,8 @@ module _ (set other rest : ℕ) (fits : rest < 2 ^ 16)
   some-left n =
       split (any 16 (λ u. member other u && not (member set u))) (λ h. h)
       (λ f. absurd (n (no-member rest fits (λ u low. is u ∙ is-false (λ t. clash (any-intro 16 _ u low t) f)))))
+
+-- nothing is lacked of the empty set
+pub lacks-none : (set : ℕ) → lacks set 0 ≡ false
+unfolding lacks
+lacks-none set = any-false 16 _ (λ u low. rw (member-none u))

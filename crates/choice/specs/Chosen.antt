@@ -1,7 +1,7 @@
 -- What the slices hold of a file before the choice, and what the choice then is.
-use Prim.Native.Nat.{ℕ, zero, suc, _≤_, _<_}
+use Prim.Native.Nat.{ℕ, _≤_, _<_}
 use mathlib.Core.Path.{_≡_}
-use mathlib.Core.Bool.{Bool, true, false}
+use mathlib.Core.Bool.{true, false}
 use mathlib.Core.List.{List}
 use lib.ListN.{length}
 use Rattle.syntax.specs.Tree.{Monitor}
@@ -35,16 +35,14 @@ pub record Tried (m : Monitor) (states : ℕ) (guard-of : List ℕ) (count-of st
   pub by-tries : TruthSets (vars m) (m .tries) tried
   pub outcomes : Outcomes m (truth (m .keep) (vars m)) after
 
--- what becomes of a try, as it is held: no pass stands for none
-unfoldable pub fateBy : Bool → ℕ → ℕ → ℕ → Fate
-fateBy true p r s = chosen
-fateBy false zero r s = false-at-start
-fateBy false (suc p) r s = broken (suc p) r s
+-- what becomes of a try, as it is held: of one that no body breaks all numbers are 0 (R 16.18)
+unfoldable pub slotFor : Fate → Slot
+slotFor chosen = record { stands = true; pass = 0; region = 0; state = 0 }
+slotFor false-at-start = record { stands = false; pass = 0; region = 0; state = 0 }
+slotFor (broken p r s) = record { stands = false; pass = p; region = r; state = s }
 
-unfoldable pub heldFate : Choice → ℕ → Fate
-heldFate c i = fateBy (slotOf c i .stands) (slotOf c i .pass) (slotOf c i .region) (slotOf c i .state)
-
--- the choice of a file
+-- the choice of a file: its bits, and each of sixteen slots; one behind the tries is as that of a try that is false at the
+-- start values
 pub record Chooses (m : Monitor) (c : Choice) : Type 0 where
   pub bits : c .chosen ≡ chosenBits m
-  pub fates : (i : ℕ) → i < length (m .tries) → heldFate c i ≡ fateOf m i
+  pub slots : (i : ℕ) → i < mostTries → slotOf c i ≡ slotFor (fateOf m i)

@@ -26,7 +26,8 @@ pub struct Choice {
 
 // A set of tries, of which none is dropped.
 pub fn undropped(set: u16) -> Choice
-    ensures { λ r. ⌜ (r .chosen ≡ set) × ((i : ℕ) → i < mostTries → getD (r .passes) i 0 ≡ 0) ⌝ }
+    ensures { λ r. ⌜ (r .chosen ≡ set) × ((u : ℕ) → u < mostTries
+        → slotOf r u ≡ record { stands = member set u; pass = 0; region = 0; state = 0 }) ⌝ }
 {
     Choice {
         chosen: set,
@@ -236,8 +237,11 @@ pub fn strengthen(kept: &mut [u8], tried: &[u16], chosen: u16, states: usize)
     if chosen == 0 {
         return;
     }
+    if kept.len() < states {
+        return;
+    }
     let mut s: usize = 0;
-    while s < states && s < kept.len() {
+    while s < states {
         if misses(states::number_at(tried, s), chosen) {
             kept[s] = 0;
         }

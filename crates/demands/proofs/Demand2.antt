@@ -38,6 +38,9 @@ use Rattle.meaning.proofs.ModelLaws.{guard-of-region, one-guard-iff, first-appe
 use Rattle.meaning.specs.Table.{Row, Small}
 use Rattle.meaning.proofs.TableLines.{rowsOf, table-lines, row-stands, rows-increasing, rows-decoded, rows-few}
 use Rattle.meaning.proofs.Verdicts.{accepted-iff, refused-iff}
+use Rattle.meaning.specs.Decide.Choice.{inSet, chosenTries}
+use Rattle.meaning.proofs.Choosing.{chosen-largest, one-largest, fates, chosen-members, chosen-small, kept-iff}
+use Rattle.meaning.proofs.Choosing.{no-tries, none-chosen}
 use Rattle.meaning.proofs.Sizes.{sizes}
 use lib.IntN.{ℤ}
 use Rattle.meaning.proofs.BodyLaws.{outcome-of-runs, block-runs-state}
@@ -341,6 +344,15 @@ pub demand-2 : Demand2
 demand-2 = record {
   accepts = accepted-iff;
   refuses = refused-iff;
+  choice = λ m good. record {
+    largest = chosen-largest m good;
+    only = λ X p i. one-largest m X (inSet (chosenTries m)) p (chosen-largest m good) i;
+    fates = fates m good;
+    bits = chosen-members m;
+    small = chosen-small m;
+    kept = kept-iff m;
+  };
+  no-tries = λ m e. record { kept = no-tries m e; bits = none-chosen m e };
   state-numbers = λ file m e. states-numbered (accepted-iff file m .0 e .sound .ranges);
   guard-numbers = guards-numbered;
   table = λ file m e. (rowsOf (model m), is-table file m e);

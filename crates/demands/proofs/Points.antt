@@ -25,7 +25,7 @@ use Rattle.demands.specs.Points.{DemandPoints, ToldFrom}
 use Rattle.demands.proofs.Prefixes.{front-taken, front-taken-iff}
 use Rattle.demands.proofs.Demand2.{follows-rules, run-stops}
 use Rattle.demands.proofs.Demand3.{demand-3}
-use Rattle.demands.proofs.Widths.{each-length}
+use Rattle.meaning.proofs.Each.{each-length}
 
 -- Pieces of one size, joined
 

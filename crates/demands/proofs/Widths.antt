@@ -27,6 +27,7 @@ use Rattle.meaning.specs.Accepted.{one-var}
 use Rattle.meaning.specs.Runs.{State, no-values, one-value}
 use Rattle.logic.proofs.Bools.{both, and, not-true, true-not}
 use Rattle.meaning.proofs.TableLines.{rowsOf, row-lines-length}
+use Rattle.meaning.proofs.Each.{each-length}
 use Rattle.meaning.proofs.Integers.{not-less-trans, distance-in-range}
 use Rattle.meaning.specs.Refusal.{NoFile}
 use Rattle.meaning.proofs.ModelLaws.{element-below}
@@ -112,11 +113,6 @@ values-fit (one-var g gs) (one-value r s) (suc k) h = values-fit gs s k (omega a
 state-length : {vs : List Var} {as′ : List ℤ} → State vs as′ → length as′ ≡ length vs
 state-length no-values = refl
 state-length (one-value r s) = ap suc (state-length s)
-
-pub each-length : {A : Type 0} (n t : ℕ) (f : ℕ → A) → length (eachFrom n t f) ≡ n
-unfolding eachFrom
-each-length zero t f = refl
-each-length (suc n) t f = ap suc (each-length n (t + 1) f)
 
 each-has : (P : Place → Type 0) (n t : ℕ) (f : ℕ → Place) → P idle → ((u : ℕ) → P (f u)) → (k : ℕ)
     → P (getD (eachFrom n t f) k idle)

@@ -3,26 +3,31 @@
 -- accepts exactly the traces that its step rules allow. Beside these stands what the numbers of states and guards are.
 -- The claim is `Demand2`.
 use Rattle.machine.specs.Monitor as machine
-use Prim.Native.Nat.{ℕ, _≤_, _<_}
+use Prim.Native.Nat.{ℕ, _^_, _≤_, _<_}
 use mathlib.Core.Path.{_≡_}
 use mathlib.Core.Bool.{Bool, true, false}
 use mathlib.Core.Logic.{_↔_}
-use mathlib.Core.List.{List, List·Memᴰ}
+use mathlib.Core.List.{List, [], List·Memᴰ}
 use lib.ListN.{length, getD}
 use Rattle.syntax.specs.Tree.{Monitor, Region, Var, spellCond}
 use Rattle.machine.specs.Monitor.{Frame, Point, Config, stopped, withState, allIdle}
 use Rattle.machine.specs.Limits.{mostLines}
+use Rattle.syntax.specs.Limits.{mostTries}
+use Rattle.sets.specs.Set.{member}
 use Rattle.machine.specs.Algorithm1.{Holds, Fails, Triple, Stands, Signals}
 use Rattle.machine.specs.Rules.{Rules, Stops, Semantics, NoticesOver, PlainNoticesBy, TableNoticesBy, RulesBy, StopsBy}
 use Rattle.meaning.specs.Value.{truth}
 use Rattle.meaning.specs.State.{count, stateAt, numberOf, Earlier}
 use Rattle.meaning.specs.Answer.{Answer, accepted, refused}
 use Rattle.meaning.specs.Decide.Check.{check}
+use Rattle.meaning.specs.Kept.{keptAt}
+use Rattle.meaning.specs.Choice.{TrySet, AllHold, Largest, AreFates}
+use Rattle.meaning.specs.Decide.Choice.{inSet, chosenTries, chosenBits, fateOf}
 use Rattle.meaning.specs.Model.{vars, model, noGuard, regions, guards, region, guardOf}
 use Rattle.meaning.specs.Decide.Table.{tableOf}
 use Rattle.meaning.specs.Calls.{noticesOf, Machine, plain-machine, table-machine, Startable}
 use Rattle.meaning.specs.Decide.Calls.{runList}
-use Rattle.meaning.specs.Accepted.{Accepted, Meets}
+use Rattle.meaning.specs.Accepted.{Accepted, GoodRanges, Meets}
 use Rattle.meaning.specs.Runs.{BlockRuns, State}
 use Rattle.meaning.specs.Table.{Row, rowLines, Increasing, Small}
 use Rattle.meaning.specs.Refusal.{Refusal}
@@ -49,6 +54,25 @@ pub record GuardsNumbered (m : Monitor) : Type 0 where
       → (guardOf m r ≡ guardOf m q) ↔ (spellCond (region m r .guard) ≡ spellCond (region m q .guard))
   -- "numbered from 0 by first appearance": an earlier region has each lower number (R 3.9)
   pub first : (r g : ℕ) → r < length (regions m) → g < guardOf m r → (q : ℕ) × (q < r) × (guardOf m q ≡ g)
+
+-- The kept condition
+
+-- of the tries of a file: the chosen ones are the largest set that will do, and what becomes of each (R 5.11, 5.15)
+pub record Choice (m : Monitor) : Type 0 where
+  pub largest : Largest m (inSet (chosenTries m))
+  pub only : (X : TrySet) → Largest m X → (i : ℕ) → X i ≡ inSet (chosenTries m) i
+  pub fates : AreFates m (fateOf m)
+  -- "reported as sixteen bits, the first `try` lowest" (R 5.14)
+  pub bits : (i : ℕ) → i < mostTries → member (chosenBits m) i ≡ inSet (chosenTries m) i
+  pub small : chosenBits m < 2 ^ mostTries
+  -- "the kept condition is keep and the chosen ones together" (R 5.1)
+  pub kept : (as′ : List ℤ) → (keptAt m as′ ≡ true)
+      ↔ ((truth (m .keep) (vars m) as′ ≡ true) × AllHold m (inSet (chosenTries m)) as′)
+
+-- of a file without tries: all is as keep alone has it (R 5.13)
+pub record NoTries (m : Monitor) : Type 0 where
+  pub kept : (as′ : List ℤ) → keptAt m as′ ≡ truth (m .keep) (vars m) as′
+  pub bits : chosenBits m ≡ 0
 
 -- The table
 
@@ -152,6 +176,9 @@ pub record Demand2 : Type 0 where
   -- (R 12.4)
   pub accepts : (file : List ℕ) (m : Monitor) → (check file ≡ accepted m) ↔ Accepted file m
   pub refuses : (file : List ℕ) (a : Answer) → (check file ≡ refused a) ↔ Refusal file a
+  -- for every tree with good ranges, so for every file that 1 to 7 pass (R 12.16)
+  pub choice : (m : Monitor) → GoodRanges (vars m) → Choice m
+  pub no-tries : (m : Monitor) → m .tries ≡ [] → NoTries m
   -- (R 12.15)
   pub state-numbers : (file : List ℕ) (m : Monitor) → check file ≡ accepted m → StatesNumbered (vars m)
   -- for every tree, also one that is not accepted (R 12.15)

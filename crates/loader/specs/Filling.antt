@@ -16,18 +16,23 @@ use Rattle.meaning.specs.Model.{vars, regions}
 use Rattle.evaluator.specs.Coding.{Codes}
 use Rattle.variables.specs.Bounded.{Bounded}
 use Rattle.variables.specs.declared.Bounds.{Bounds}
-use Rattle.layout.specs.Laid.{Laid}
+use Rattle.layout.specs.Laid.{Laid, TriesLaid}
 use Rattle.layout.specs.declared.Layout.{Layout}
+use Rattle.layout.specs.declared.Tries.{Tries}
 use Rattle.states.specs.Rows.{KeptAll, HoldsAll, AfterAll, Outcomes}
 use Rattle.answers.specs.Says.{Says}
-use Rattle.answers.specs.declared.Answer.{Answer}
+use Rattle.choice.specs.Chosen.{Chooses}
+use Rattle.loader.specs.declared.Settled.{Settled}
 
-pub record Filling (m : Monitor) (ls : List Lexeme) (kinds values : List ℕ) (b : Bounds) (l : Layout) : Type 0 where
-  pub codes : Codes (vars m) ls kinds values
-  pub bounded : Bounded (vars m) b
-  pub laid : Laid m ls l
-  pub few : length ls ≤ 8192
-  pub few-regions : length (regions m) ≤ 16
+pub record Filling (m : Monitor) (ls : List Lexeme) (kinds values : List ℕ) (b : Bounds) (l : Layout) (t : Tries) : Type 0
+  where
+    pub codes : Codes (vars m) ls kinds values
+    pub bounded : Bounded (vars m) b
+    pub laid : Laid m ls l
+    pub tries-laid : TriesLaid m ls t
+    pub few : length ls ≤ 8192
+    pub few-regions : length (regions m) ≤ 16
+    pub few-tries : length (m .tries) ≤ 16
 
 -- the kept condition, the guards that hold and the outcomes of the bodies, at every state
 pub record Rows (m : Monitor) (kept holds after : List ℕ) : Type 0 where
@@ -35,11 +40,19 @@ pub record Rows (m : Monitor) (kept holds after : List ℕ) : Type 0 where
   pub by-holds : HoldsAll m holds
   pub outcomes : Outcomes m (keptAt m) after
 
--- 8 with the place of `keep`, 9, or 0; and the slices filled where it is not 8
-pub record Filled (m : Monitor) (place : ℕ) (r : Answer) (kept holds after : List ℕ) : Type 0 where
-  pub fails : keptAt m (starts (vars m)) ≡ false → Says r (answer 8 place 0)
-  pub breaks : keptAt m (starts (vars m)) ≡ true → (k n : ℕ) → broken m ≡ some (k, n)
-      → Says r (answer 9 k n)
-  pub passes : keptAt m (starts (vars m)) ≡ true → broken m ≡ none
-      → Says r (answer 0 0 0) × KeptAll m kept × HoldsAll m holds × AfterAll m after
-  pub rows : keptAt m (starts (vars m)) ≡ true → Rows m kept holds after
+-- each slice is as long as it was
+abbrev pub AsLong : List ℕ → List ℕ → List ℕ → List ℕ → List ℕ → List ℕ → Type 0
+AsLong kept₀ holds₀ after₀ kept holds after =
+    (length kept ≡ length kept₀) × (length holds ≡ length holds₀) × (length after ≡ length after₀)
+
+-- where 8 passes: 9 or 0, the choice, and the slices filled
+pub record Settles (m : Monitor) (r : Settled) (kept holds after : List ℕ) : Type 0 where
+  pub breaks : (k n : ℕ) → broken m ≡ some (k, n) → Says (r .answer) (answer 9 k n)
+  pub passes : broken m ≡ none → Says (r .answer) (answer 0 0 0) × AfterAll m after
+  pub rows : Rows m kept holds after
+  pub choice : Chooses m (r .choice)
+
+-- 8 with the place of `keep`, or what is settled behind it
+pub record Filled (m : Monitor) (place : ℕ) (r : Settled) (kept holds after : List ℕ) : Type 0 where
+  pub fails : keptAt m (starts (vars m)) ≡ false → Says (r .answer) (answer 8 place 0)
+  pub settles : keptAt m (starts (vars m)) ≡ true → Settles m r kept holds after

@@ -18,6 +18,7 @@ use Rattle.meaning.specs.Kept.{keptAt}
 use Rattle.meaning.specs.Refusal as words
 use Rattle.variables.specs.Bounded.{Bounded}
 use Rattle.layout.specs.Laid.{Laid}
+use Rattle.choice.specs.Chosen.{Chooses}
 use Rattle.loader.specs.Filling.{Rows}
 use Rattle.answers.specs.Says.{Is}
 use Rattle.loader.specs.declared.Judged.{Judged}
@@ -41,6 +42,11 @@ JudgedBy (suc n) file ts j = (suc n ≤ 7) × Is (j .answer) (check file)
 unfoldable pub Judges : List ℕ → List Token → Judged → Type 0
 Judges file ts j = JudgedBy (j .answer .number) file ts j
 
+-- how many tries there are, and the choice among them
+pub record Chosen (m : Monitor) (l : Loaded) : Type 0 where
+  pub counted : l .tries ≡ length (m .tries)
+  pub choice : Chooses m (l .choice)
+
 -- of an accepted file: its variables, and the slices that hold its monitor freed from its syntax
 pub record Monitored (m : Monitor) (l : Loaded) (kept holds after : List ℕ) : Type 0 where
   pub bounded : Bounded (vars m) (l .bounds)
@@ -48,16 +54,17 @@ pub record Monitored (m : Monitor) (l : Loaded) (kept holds after : List ℕ) : 
   pub held-places : HeldPlaces (model m) (l .layout .begins) (l .layout .«goes_on»)
   pub region-count : l .layout .regions ≡ length (regions m)
   pub guard-count : l .layout .guards ≡ length (guards m)
+  pub chosen : Chosen m l
 
 -- the verdict; of an accepted file its monitor; of every file that the checks 1 to 7 pass its variables and its layout, and
--- where 8 passes too the rows of truths and outcomes
+-- where 8 passes too the rows of truths and outcomes, and the choice
 pub record Loads (file : List ℕ) (l : Loaded) (kept holds after : List ℕ) : Type 0 where
   pub verdict : Is (l .answer) (check file)
   pub monitored : (m : Monitor) → check file ≡ accepted m → Monitored m l kept holds after
   pub outlined : (ts : List Token) (m : Monitor) → words.Past7 file ts m
       → Bounded (vars m) (l .bounds) × Laid m (lexemes ts) (l .layout)
   pub rows : (ts : List Token) (m : Monitor) → words.Past7 file ts m → keptAt m (starts (vars m)) ≡ true
-      → Rows m kept holds after
+      → Rows m kept holds after × Chosen m l
 
 -- what loading leaves in the slices that it is lent: those of a file refused with 1 to 8 are as they were, and none
 -- changes its length. What they hold where 8 passes, so beside 0 and 9, `Loads` says; left free is what stands behind

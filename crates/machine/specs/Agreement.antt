@@ -54,7 +54,7 @@ tableRun m s fs = run m (tableTold m (entryOf m)) 0 (allIdle s) fs
 unfoldable pub Agrees : Monitor → Type 0
 Agrees m = (s : ℕ) → m .kept s ≡ true → (fs : List Frame) → AgreeOn m (plainRun m s) (tableRun m s) Recheck fs
 
--- What the check of a file guarantees of its monitor (R 3.3, 5.8, 9.22, 9.34)
+-- What the check of a file guarantees of its monitor (R 3.3, 5.18, 9.22, 9.34)
 pub record Checked (m : Monitor) : Type 0 where
   pub below : (s : ℕ) → m .kept s ≡ true → s < m .states
   pub keeps : (r s : ℕ) → m .kept s ≡ true → m .holds (m .guardOf r) s ≡ true → m .kept (m .after r s) ≡ true

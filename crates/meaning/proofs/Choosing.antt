@@ -185,10 +185,18 @@ module _ (m : Monitor) where
   below-or-past : (i : ℕ) → (i < length (m .tries)) ⊎ (length (m .tries) ≤ i)
   below-or-past i = split (ltb i (length (m .tries))) (λ h. inl (ltb-true i _ h)) (λ h. inr (ltb-false i _ h))
 
-  pass-within : (xs : List Bool) (i : ℕ) → inSet (pass m xs) i ≡ true → inSet xs i ≡ true
+  pub pass-within : (xs : List Bool) (i : ℕ) → inSet (pass m xs) i ≡ true → inSet xs i ≡ true
   pass-within xs i h =
       ⊎-elim (λ low. both (inSet xs i) (isNone (firstBreak m xs (tryAt m i))) (sym (pass-at xs i low) ∙ h) .0)
       (λ high. clash h (pass-past xs i high)) (below-or-past i)
+
+  passes-none : (xs : List Bool) → length (passes m 0 xs) ≡ length xs
+  unfolding passes
+  passes-none xs = refl
+
+  passes-one : (k : ℕ) (xs : List Bool) → length (passes m (suc k) xs) ≡ length (passes m k (pass m xs))
+  unfolding passes
+  passes-one k xs = refl
 
   pub passes-within : (n : ℕ) (xs : List Bool) (i : ℕ) → inSet (passes m n xs) i ≡ true → inSet xs i ≡ true
   unfolding passes
@@ -379,7 +387,7 @@ module _ (m : Monitor) where
   fate-some n q xs i k s e = rw (e, fateFrom)
 
   -- by cases of what breaks it first
-  by-break : {C : Type 0} (xs : List Bool) (i : ℕ) → (firstBreak m xs (tryAt m i) ≡ none → C)
+  pub by-break : {C : Type 0} (xs : List Bool) (i : ℕ) → (firstBreak m xs (tryAt m i) ≡ none → C)
       → ((k s : ℕ) → firstBreak m xs (tryAt m i) ≡ some (k, s) → C) → C
   by-break {C} xs i f g = go (firstBreak m xs (tryAt m i)) refl
     where
@@ -477,6 +485,17 @@ module _ (m : Monitor) where
   passes-add (suc k) n xs =
       let e : suc k + n ≡ suc (k + n) = omega arith in
       ap (λ (j : ℕ). passes m j xs) e ∙ passes-add k n (pass m xs)
+
+  pub passes-next : (k : ℕ) (xs : List Bool) → passes m (k + 1) xs ≡ pass m (passes m k xs)
+  unfolding passes
+  passes-next k xs = passes-add k 1 xs
+
+  pub passes-long : (k : ℕ) → length (passes m k (trueAtStart m)) ≡ length (m .tries)
+  passes-long k = go k (trueAtStart m) start-long
+    where
+      go : (k : ℕ) (xs : List Bool) → length xs ≡ length (m .tries) → length (passes m k xs) ≡ length (m .tries)
+      go zero xs e = passes-none xs ∙ e
+      go (suc k) xs e = passes-one k xs ∙ go k (pass m xs) (pass-long xs)
 
   fate-not-start : (n q : ℕ) (xs : List Bool) (i : ℕ) → fateFrom m n q xs i ≡ false-at-start → ⊥
   unfolding fateFrom

@@ -39,7 +39,7 @@ use Rattle.stepper.specs.declared.Run as code
 use Rattle.stepper.specs.Shown.{noticesIn, Shows, placeOf, placesOf, threadsOf, idleThread, toldOn}
 use Rattle.demands.proofs.Demand2.{run-reached, run-stops}
 use Rattle.demands.proofs.Demand3.{each-read}
-use Rattle.demands.proofs.Widths.{each-length}
+use Rattle.meaning.proofs.Each.{each-length}
 use Rattle.run.specs.Way.{runOf}
 use Rattle.run.specs.Ended.{Admits, not-kept, no-frame, all-frames, EndsAs, StopsAs, stopIn}
 use Rattle.run.specs.declared.frames.Ended.{Ended}

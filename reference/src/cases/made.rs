@@ -90,6 +90,23 @@ fn choices(add: &mut Add) {
     add("a try that is a guard", x(&["x == 3", "x < 3"], &EXAMPLE_8), "");
     let lower = ["waituntil (x == 2) { x := 3; }", "waituntil (x < 2) { x := 3; }"];
     add("the lower region from the higher state", x(&["x < 3"], &lower), "");
+    let down = "waituntil (x == 3) { x := 2; }";
+    add("the last state", x(&["x != 2"], &[down]), "");
+    let from_2 = "var x = 2 in 0..3;";
+    let tries = ["x == 2", "x != 0", "x < 2", "x < 3"];
+    let round = "waituntil (x > 0) { x := x - 1; }";
+    add(
+        "from another state than the lowest",
+        file(from_2, "true", &tries, &[STAY, round]),
+        "010101",
+    );
+    let square = "var x = 0 in 0..63; var y = 0 in 0..63;";
+    let corner = "waituntil (x == 63 && y == 63) { x := 0; }";
+    let facts = ["x > 0 || y < 63", "x < 64"];
+    add("the last of 4,096 states", file(square, "true", &facts, &[STAY, corner]), "000001");
+    let [two, last] = [STAY, UP].map(|region| format!("{STAY} {region}"));
+    let sixteen = [[two.as_str(); 7].as_slice(), &[&last]].concat();
+    add("the last of sixteen regions", x(&["x != 1", "x != 2", "x < 4"], &sixteen), "");
     let negative = "var tries = -2 in -4..-1; var Try = 0 in 0..1;";
     let down = "waituntil (tries > -4) { tries := tries - 1; }";
     let facts = ["tries <= -2", "0 - tries + 1 == 0 || Try == 0", "Try - tries > 1"];

@@ -77,8 +77,8 @@ file that cannot be read or written.
 
 const SHOW: &str = "\
 Shows a hand-in whole: variables, kept condition and tries,
-guards, regions and table of a file, and the run of a trace on both machines, frame
-by frame.
+guards, regions and table of a file, and the run of a trace
+on both machines, frame by frame.
 
 Usage: panel show FILE [TRACE] [OPTIONS]
        panel show DIR [OPTIONS]

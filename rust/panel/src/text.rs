@@ -74,15 +74,13 @@ fn tried(sheet: &Sheet) -> Option<Vec<Tried>> {
 
 /// The tries: which are chosen, and why each other one is not.
 fn tries_of(out: &mut Out, sheet: &Sheet, tries: &[Tried]) -> io::Result<()> {
-    let kept =
-        if tries::chosen(tries).is_empty() { "the kept condition is keep" } else { "the kept condition is keep and the chosen ones" };
-    out.heading(&format!("Tries: {}; {kept}", tries::count(tries)))?;
+    const INDENT: &str = "              ";
+    out.heading(&format!("Tries: {}; {}", tries::count(tries), tries::kept(tries)))?;
     for (k, tried) in tries.iter().enumerate() {
         let style = if tried.fate == Fate::Chosen { Style::Good } else { Style::Mark };
-        out.text(style, &format!("  {k:02X}  {:6}  ", tries::word(&tried.fate)), "              ", &tried.text)?;
+        out.text(style, &format!("  {k:02X}  {:6}  ", tries::word(&tried.fate)), INDENT, &tried.text)?;
         if let Some(why) = tries::why(sheet, tries, k) {
-            let why = why.replace(" = ", &format!("{NO_BREAK}={NO_BREAK}"));
-            out.text(Style::Plain, "      ", "      ", &why)?;
+            out.text(Style::Plain, INDENT, INDENT, &why.replace(" = ", &format!("{NO_BREAK}={NO_BREAK}")))?;
         }
     }
     for hint in tries::hints(tries) {

@@ -52,36 +52,36 @@ pub fn chosen(tries: &[Tried]) -> Vec<usize> {
     those(tries, |fate| *fate == Fate::Chosen)
 }
 
-/// Tries by their numbers: `try 02`, or `tries 02 and 05`.
-fn named(numbers: &[usize]) -> String {
-    let all: Vec<String> = numbers.iter().map(|k| format!("{k:02X}")).collect();
-    format!("{} {}", if all.len() == 1 { "try" } else { "tries" }, words::listed(&all))
+/// Numbers of tries: `02`, `02 and 05`.
+fn listed(numbers: &[usize]) -> String {
+    words::listed(&numbers.iter().map(|k| format!("{k:02X}")).collect::<Vec<_>>())
 }
 
-/// How many are chosen: `2 of 5 tries are chosen`.
+/// How many are chosen: `2 of 5 chosen`.
 pub fn count(tries: &[Tried]) -> String {
-    let n = chosen(tries).len();
-    let all = match tries.len() {
-        1 => "the one try".into(),
-        all => format!("{all} tries"),
-    };
-    match (n, tries.len()) {
-        (1, 1) => format!("{all} is chosen"),
-        (0, 1) => format!("{all} is not chosen"),
-        (0, _) => format!("none of {all} is chosen"),
-        (1, _) => format!("1 of {all} is chosen"),
-        (n, len) if n == len => format!("all {all} are chosen"),
-        (n, _) => format!("{n} of {all} are chosen"),
+    match (chosen(tries).len(), tries.len()) {
+        (0, all) => format!("none of {all} chosen"),
+        (n, all) if n == all && n > 1 => format!("all {all} chosen"),
+        (n, all) => format!("{n} of {all} chosen"),
     }
 }
 
-/// The same with the numbers of the chosen ones.
+/// The same, and which.
 pub fn summary(tries: &[Tried]) -> String {
     let chosen = chosen(tries);
-    match chosen.len() {
-        0 => count(tries),
-        n if n == tries.len() => count(tries),
-        _ => format!("{}: {}", count(tries), named(&chosen)),
+    if chosen.is_empty() {
+        format!("tries: {}", count(tries))
+    } else {
+        format!("tries: {} ({})", count(tries), listed(&chosen))
+    }
+}
+
+/// What the kept condition then is.
+pub fn kept(tries: &[Tried]) -> &'static str {
+    if chosen(tries).is_empty() {
+        "the kept condition is keep alone"
+    } else {
+        "the kept condition is keep and the chosen ones"
     }
 }
 
@@ -94,31 +94,29 @@ pub fn word(fate: &Fate) -> &'static str {
     }
 }
 
-/// In which pass a try is broken, and which tries fell in the pass before.
-pub fn when(tries: &[Tried], pass: u8) -> String {
+/// Who breaks a try, and which tries fell in the pass before: `by show (region 04), once try 02 had fallen`.
+pub fn breaker(sheet: &Sheet, tries: &[Tried], pass: u8, region: u8) -> String {
     let before = those(tries, |fate| matches!(fate, Fate::Broken { pass: fell, .. } if fell + 1 == pass));
-    if before.is_empty() {
-        format!("in pass {pass}")
-    } else {
-        format!("in pass {pass}, once {} had fallen", named(&before))
-    }
+    let once = match before.len() {
+        0 => String::new(),
+        1 => format!(", once try {} had fallen", listed(&before)),
+        _ => format!(", once tries {} had fallen", listed(&before)),
+    };
+    format!("by {}{once}", words::region(sheet, region))
 }
 
 /// Why a try is not chosen, as a sentence; nothing of a chosen one.
 pub fn why(sheet: &Sheet, tries: &[Tried], k: usize) -> Option<String> {
-    match &tries[k].fate {
+    match tries[k].fate {
         Fate::Chosen => None,
         Fate::FalseAtStart => Some(format!("False at the start values: {}.", sheet.state_text(&sheet.start_values()))),
-        &Fate::Broken { pass, region, state } => {
-            let when = when(tries, pass);
-            let whose = words::region(sheet, region);
+        Fate::Broken { pass, region, state } => {
+            let by = format!("Broken in pass {pass} {}: from state {state}", breaker(sheet, tries, pass, region));
             Some(match &tries[k].step {
-                Some(step) => format!(
-                    "Broken {when}: from {} the body of {whose} makes it false{}.",
-                    sheet.state_text(&step.before.1),
-                    words::changes(sheet, &step.before.1, &step.after.1)
-                ),
-                None => format!("Broken {when}: from state {state} the body of {whose} makes it false."),
+                Some(Step { before: (_, before), after: (_, after), .. }) => {
+                    format!("{by} ({}) {}.", sheet.state_text(before), words::changes(sheet, before, after))
+                }
+                None => format!("{by}."),
             })
         }
     }
@@ -130,10 +128,10 @@ pub fn hints(tries: &[Tried]) -> Vec<&'static str> {
     let later = those(tries, |fate| matches!(fate, Fate::Broken { pass: 2.., .. }));
     let mut hints = Vec::new();
     if !later.is_empty() {
-        hints.push("A try that falls rules out no values any more, and others may fall in the next pass.");
+        hints.push("A try that has fallen rules out no states any more, so others may fall in the next pass.");
     }
     if !broken.is_empty() {
-        hints.push("Where no run comes to the values that a try is broken from, another try that rules them out may save it.");
+        hints.push("If no run comes to the state that a try is broken from, a further try that rules that state out may save it.");
     }
     hints
 }

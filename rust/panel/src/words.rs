@@ -87,16 +87,16 @@ pub fn entry(sheet: &Sheet, entry: &Entry) -> String {
     }
 }
 
-/// What a body has changed: `, full becomes 1`.
+/// What a body has changed: `full becomes 1`.
 pub fn changes(sheet: &Sheet, before: &[i16], after: &[i16]) -> String {
     let changed: Vec<String> = (0..sheet.outline.variables.len())
         .filter(|&k| before[k] != after[k])
         .map(|k| format!("{} becomes {}", sheet.variable_name(k), after[k]))
         .collect();
     if changed.is_empty() {
-        ", no value changes".into()
+        "no value changes".into()
     } else {
-        format!(", {}", listed(&changed))
+        listed(&changed)
     }
 }
 
@@ -126,7 +126,7 @@ pub fn frame(sheet: &Sheet, frame: &Frame, before: &Point, after: Option<&Point>
         Some(Place::Due(next)) => format!("; it is due at {}", sheet.region_name((*next).into())),
         _ => String::new(),
     };
-    format!("{comes}: {text} holds, the body runs{}{due}.", changes(sheet, &before.values, &after.values))
+    format!("{comes}: {text} holds, the body runs, {}{due}.", changes(sheet, &before.values, &after.values))
 }
 
 /// Where one machine has stopped and the other goes on: the frame that the table's machine alone refuses.

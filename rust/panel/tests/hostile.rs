@@ -50,15 +50,18 @@ fn damaged_hand_ins() {
     let mut draw = Draw(7);
     let good = std::fs::read(root().join("examples/breaker/monitor.txt")).expect("the file");
     let trace = std::fs::read(root().join("examples/breaker/trace.txt")).expect("the trace");
-    for k in 0..60 {
-        let file = match k % 3 {
+    let guesses = std::fs::read(root().join("examples/breaker-guesses/monitor.txt")).expect("the file");
+    for k in 0..80 {
+        let file = match k % 4 {
             0 => good.clone(),
             1 => damaged(&mut draw, &good),
+            2 => damaged(&mut draw, &guesses),
             _ => (0..draw.below(300)).map(|_| draw.next() as u8).collect(),
         };
         let file = scratch.put("monitor.txt", &file);
         let trace = scratch.put("trace.txt", &damaged(&mut draw, &trace));
         tame(&["check".as_ref(), file.as_os_str()]);
+        tame(&["place".as_ref(), file.as_os_str()]);
         tame(&["show".as_ref(), file.as_os_str(), trace.as_os_str()]);
         tame(&["run".as_ref(), file.as_os_str(), trace.as_os_str()]);
     }
@@ -92,7 +95,8 @@ fn long_lines() {
             tame(&["check".as_ref(), file.as_os_str()]);
         }
         let guard = "full==1&&".repeat(n.min(120)) + "true";
-        let text = format!("monitor m{{var full=0 in 0..1;keep true;method a{{waituntil({guard}){{}}}}}}");
+        let long = "full==0&&".repeat(n.min(60)) + "true";
+        let text = format!("monitor m{{var full=0 in 0..1;keep true;try {long};try!({long});method a{{waituntil({guard}){{}}}}method b{{waituntil(true){{full:=1;}}}}}}");
         let file = scratch.put("monitor.txt", text.as_bytes());
         let trace = scratch.put("trace.txt", b"000000\n");
         tame(&["show".as_ref(), file.as_os_str(), trace.as_os_str()]);

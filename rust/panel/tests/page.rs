@@ -170,6 +170,69 @@ fn refused_files_show_the_place() {
     }
 }
 
+/// Box and breaker as before; and of a file with tries each one's mark, condition and reason, and the steps as the library's states have them.
+#[test]
+fn tries_have_their_marks_and_steps() {
+    let (mut marked, mut steps) = (0, 0);
+    let many: String = (1..=16).map(|k| format!("try x\t!= {k}\n&& !(x > {k} &&\r\n x < {k});")).collect();
+    let chain =
+        format!("monitor m {{ var x = 0 in 0..16; keep true; {many} method up {{ waituntil (x < 16) {{ x := x + 1; }} }} }}").into_bytes();
+    for (name, file, trace) in hand_ins().into_iter().chain([("chain".to_string(), chain, None)]) {
+        let html = made(&file, trace.as_deref());
+        let fates = damsonyet::fates(&file).unwrap_or_default();
+        assert_eq!(html.contains("id=\"tries\""), !fates.is_empty(), "{name}");
+        let Ok((outline, _)) = damsonyet::outline(&file) else {
+            assert!(!html.contains("class=\"try"), "{name}");
+            continue;
+        };
+        assert_eq!(html.contains("class=\"try"), !outline.tries.is_empty(), "{name}");
+        if fates.is_empty() {
+            assert!(!html.contains("tries:"), "{name}");
+            continue;
+        }
+        let sheet = Sheet::new(&file, outline);
+        let part = html.split("<ol class=\"tries\">").nth(1).unwrap().split("</ol>").next().unwrap();
+        let items: Vec<&str> = part.split("<li class=").skip(1).collect();
+        assert_eq!(items.len(), fates.len(), "{name}");
+        for (k, (item, fate)) in items.iter().zip(&fates).enumerate() {
+            let condition = format!("<span class=\"number\">t{k:02X}</span> <code>{}</code>", escaped(&sheet.try_text(k)));
+            assert!(item.contains(&condition), "{name}: {condition} in {item}");
+            let shown: String =
+                item.replace("</span>", " ").split('<').filter_map(|part| part.split_once('>')).map(|(_, text)| text).collect();
+            let values = |values: &[i16]| {
+                let named = values.iter().enumerate().map(|(v, value)| format!("{} {value} ", sheet.variable_name(v)));
+                named.collect::<String>()
+            };
+            let state = |number: u16| damsonyet::state_at(&file, number.into()).unwrap().unwrap();
+            match *fate {
+                damsonyet::Fate::Chosen => {
+                    assert!(item.starts_with("\"yes\"><b class=\"fate\">chosen</b>") && !item.contains("values"), "{name}")
+                }
+                damsonyet::Fate::FalseAtStart => {
+                    assert!(item.starts_with("\"no\"><b class=\"fate\">false at the start</b>"), "{name}");
+                    assert!(shown.contains(&format!("start values: {}", values(&sheet.start_values()))), "{name}: {shown}");
+                }
+                damsonyet::Fate::Broken { pass, region, state: from } => {
+                    assert!(
+                        item.starts_with("\"no\"><b class=\"fate\">broken</b>") && shown.contains(&format!("pass {pass} by ")),
+                        "{name}"
+                    );
+                    let before = state(from);
+                    let Some(damsonyet::Outcome::Ends(to)) = before.after[usize::from(region)] else { panic!("{name}: it ends") };
+                    let after = state(to);
+                    assert!(shown.contains(&format!("state {from}: {}", values(&before.values))), "{name}: {shown}");
+                    assert!(shown.contains(&format!("state {to}: {}", values(&after.values))), "{name}: {shown}");
+                    let changed = before.values.iter().zip(&after.values).filter(|(a, b)| a != b).count();
+                    assert_eq!(item.matches("class=\"changed\"").count(), changed, "{name}");
+                    steps += 1;
+                }
+            }
+            marked += 1;
+        }
+    }
+    assert!(marked >= 27 && steps >= 20, "{marked} {steps}");
+}
+
 /// How often a run of points that are alike begins, of those that are asked for.
 fn begins<T: PartialEq>(points: &[Point], of: impl Fn(&Point) -> T, asked: impl Fn(&T) -> bool) -> usize {
     let values: Vec<T> = points.iter().map(of).collect();
@@ -394,11 +457,16 @@ fn clean(html: &str) {
 #[test]
 fn hostile_bytes_are_shown_and_do_nothing() {
     let (good, _) = example("box", "trace.txt");
+    let (guesses, _) = example("breaker-guesses", "trace.txt");
     let mut dice = Dice(7);
     let hostile: &[u8] =
         b"</script><script>alert(1)</script><img src=x onerror=alert(2)>\x00\x1B]0;x\x07<!-- & \" ' ]]> \xFF\xFE\xE2\x80\xAE";
     for k in 0..200 {
-        let mut file = if k % 2 == 0 { good.clone() } else { Vec::new() };
+        let mut file = match k % 4 {
+            0 => good.clone(),
+            1 => guesses.clone(),
+            _ => Vec::new(),
+        };
         for _ in 0..dice.roll(9) {
             let at = dice.roll(file.len() + 1);
             match dice.roll(3) {

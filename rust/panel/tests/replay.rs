@@ -104,6 +104,25 @@ fn points_lines(run: &Json, trace: usize) -> String {
     format!("{answers}{}0A00000000\n{short}", count_line(points.len(), &buffer))
 }
 
+/// The lines about tries: the chosen ones and how many there are, or the refusal; and a line for each try.
+fn tries_lines(place: &Json) -> String {
+    let tries = place.get("tries").map_or(&[][..], Json::list);
+    let mut lines = match is_accepted(place) {
+        true => format!("00{:04X}{:04X}\n", place.at("chosen").number(), tries.len()),
+        false => answer_line(place.at("answer")),
+    };
+    for tried in tries {
+        let number = |key: &str| tried.at(key).number();
+        lines += &match tried.at("fate").text() {
+            "chosen" => "0000000000\n".into(),
+            "false" => "FF00000000\n".into(),
+            "broken" => format!("{:02X}{:04X}{:04X}\n", number("pass"), number("region"), number("state")),
+            other => panic!("a fate {other}"),
+        };
+    }
+    lines
+}
+
 fn written(write: impl FnOnce(&mut dyn std::io::Write) -> std::io::Result<()>) -> Json {
     let mut bytes = Vec::new();
     write(&mut bytes).expect("written");
@@ -113,9 +132,16 @@ fn written(write: impl FnOnce(&mut dyn std::io::Write) -> std::io::Result<()>) -
 
 /// All that is told of a case, from the four objects of it.
 fn told(check: &Json, place: &Json, run: &Json, show: &Json, trace: usize) -> String {
-    assert_eq!(check.keys(), ["answer"]);
-    assert_eq!(check.at("answer"), place.at("answer"));
-    assert_eq!(check.at("answer"), show.at("answer"));
+    let tried = matches!(check.at("answer").numbers()[0], 0 | 9);
+    assert_eq!(check.keys(), if tried { vec!["answer", "chosen", "tries"] } else { vec!["answer"] });
+    for key in ["answer", "chosen", "tries"] {
+        assert_eq!(check.get(key), place.get(key));
+        assert_eq!(check.get(key), show.get(key));
+    }
+    if let Some(outline) = show.get("outline").filter(|_| tried) {
+        let conditions: Vec<&Json> = check.at("tries").list().iter().map(|tried| tried.at("condition")).collect();
+        assert_eq!(conditions, outline.at("tries").list().iter().collect::<Vec<_>>());
+    }
     if is_accepted(check) {
         assert_eq!(show.at("place"), place);
         assert_eq!(show.at("run"), run);
@@ -124,7 +150,7 @@ fn told(check: &Json, place: &Json, run: &Json, show: &Json, trace: usize) -> St
     } else {
         assert!(show.get("place").is_none() && show.get("run").is_none());
     }
-    placer_lines(place) + &runner_lines(run) + &points_lines(run, trace)
+    placer_lines(place) + &runner_lines(run) + &points_lines(run, trace) + &tries_lines(place)
 }
 
 /// On a thread with room for the library's calls, as the program has it.

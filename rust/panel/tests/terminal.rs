@@ -74,8 +74,16 @@ fn colour_is_for_terminals() {
 
 #[test]
 fn lines_fit_the_terminal() {
-    let examples =
-        ["box", "breaker", "ticketed-readers-writers", "refusals/9-late-closed", "refusals/14-table-only", "refusals/3-too-many"];
+    let examples = [
+        "box",
+        "breaker",
+        "breaker-guesses",
+        "refusals/9-weak-try",
+        "ticketed-readers-writers",
+        "refusals/9-late-closed",
+        "refusals/14-table-only",
+        "refusals/3-too-many",
+    ];
     for example in examples {
         let folder = format!("examples/{example}");
         let mut lengths = Vec::new();

@@ -3,8 +3,10 @@ mod picture;
 mod run;
 mod table;
 mod text;
+mod tries;
 
 use crate::sheet::Sheet;
+use crate::tries::Tried;
 use crate::words::{self, some, Refused};
 use damsonyet::Refusal;
 use text::escape;
@@ -35,8 +37,12 @@ pub fn page(input: &Input) -> String {
         Err(refusal) => (None, Err(refusal)),
     };
     let refused = verdict.err().map(|refusal| (refusal, words::refusal(input.file, &refusal)));
-    let mut parts = vec![Part { id: "file", heading: "The file", html: file(input, sheet.as_ref(), refused.as_ref()) }];
-    let mut told = vec![verdict_html(sheet.as_ref(), refused.as_ref())];
+    let tried = sheet.as_ref().and_then(crate::tries::tries).unwrap_or_default();
+    let mut parts = vec![Part { id: "file", heading: "The file", html: file(input, sheet.as_ref(), &tried, refused.as_ref()) }];
+    let mut told = vec![verdict_html(sheet.as_ref(), &tried, refused.as_ref())];
+    if let Some(sheet) = sheet.as_ref().filter(|_| !tried.is_empty()) {
+        parts.push(Part { id: "tries", heading: "The tries", html: tries::tries(sheet, &tried) });
+    }
     if let (Some(sheet), Ok(table)) = (&sheet, damsonyet::place(input.file)) {
         parts.push(Part { id: "table", heading: "The table", html: table::table(sheet, &table) });
         if let Some((trace, name)) = input.trace {
@@ -85,19 +91,20 @@ fn document(name: &str, input: &Input, told: &str, parts: &[Part]) -> String {
     )
 }
 
-fn verdict_html(sheet: Option<&Sheet>, refused: Option<&(Refusal, Refused)>) -> String {
+fn verdict_html(sheet: Option<&Sheet>, tried: &[Tried], refused: Option<&(Refusal, Refused)>) -> String {
     if let Some((_, refused)) = refused {
         return format!("<p class=\"verdict no\"><b>Refused.</b> {}.</p>", escape(&refused.headline));
     }
     let Some(sheet) = sheet else { return String::new() };
     let outline = &sheet.outline;
     format!(
-        "<p class=\"verdict yes\"><b>Accepted.</b> {}, {}, {}, {}, {}.</p>",
+        "<p class=\"verdict yes\"><b>Accepted.</b> {}, {}, {}, {}, {}{}.</p>",
         some(outline.variables.len(), "variable"),
         some(outline.states, "state"),
         some(outline.methods.len(), "method"),
         some(outline.regions.len(), "region"),
-        some(outline.guards, "guard")
+        some(outline.guards, "guard"),
+        if tried.is_empty() { String::new() } else { format!("; tries: {}", crate::tries::count(tried)) }
     )
 }
 
@@ -123,7 +130,7 @@ fn refused_html(refused: &Refused) -> String {
     )
 }
 
-fn file(input: &Input, sheet: Option<&Sheet>, refused: Option<&(Refusal, Refused)>) -> String {
+fn file(input: &Input, sheet: Option<&Sheet>, tried: &[Tried], refused: Option<&(Refusal, Refused)>) -> String {
     let mut out = String::new();
     let at = refused.filter(|(refusal, _)| (2..=8).contains(&refusal.number)).and_then(|(_, refused)| refused.at);
     let broken = refused.filter(|(refusal, _)| refusal.number == 9).map(|(refusal, _)| refusal.first);
@@ -136,13 +143,14 @@ fn file(input: &Input, sheet: Option<&Sheet>, refused: Option<&(Refusal, Refused
             out.push_str(&format!("<p>The place is <a href=\"#refused\">line {line}, column {column}</a>, byte {at}.</p>\n"));
         }
     }
-    out.push_str(&text::listing(input.file, sheet, at.zip(refused.map(|(_, refused)| refused.headline.as_str())), broken));
-    if sheet.is_some() {
-        out.push_str(
+    out.push_str(&text::listing(input.file, sheet, tried, at.zip(refused.map(|(_, refused)| refused.headline.as_str())), broken));
+    if let Some(sheet) = sheet {
+        let tries = if sheet.outline.tries.is_empty() { "" } else { text::TRIES };
+        out.push_str(&format!(
             "<p class=\"small legend\"><span class=\"guard\" data-tag=\"g00\">a guard</span> with its number, \
-             <span class=\"body\">a body</span>, <span class=\"keep\">the kept condition</span>; \
-             at the left the line, and the region that begins there with its method.</p>\n",
-        );
+             <span class=\"body\">a body</span>, <span class=\"keep\">the kept condition</span>{tries}; \
+             at the left the line, and the region that begins there with its method.</p>\n"
+        ));
     }
     out
 }

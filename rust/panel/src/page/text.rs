@@ -1,6 +1,8 @@
 //! Text for HTML: escaping, and the file with its parts marked.
 use crate::sheet::{pair, Sheet};
+use crate::tries::Tried;
 use crate::words::{grouped, some};
+use damsonyet::Fate;
 use std::ops::Range;
 
 /// Text with what HTML gives a meaning escaped, and control characters replaced.
@@ -53,10 +55,14 @@ struct Mark {
 /// What is shown of the file at most: as much as a file may have.
 const SHOWN: usize = 8192;
 
-/// The file with line numbers, its regions and its kept condition marked; the refused byte, if there is one, with what is said of it; and the
+/// What the legend says of marked tries.
+pub const TRIES: &str = ", <span class=\"try yes\" data-tag=\"t00 ✓\">a chosen try</span>, \
+    <span class=\"try no\" data-tag=\"t01 ✗\">one that is not chosen</span>";
+
+/// The file with line numbers, its regions, its kept condition and its tries marked; the refused byte, if there is one, with what is said of it; and the
 /// region that breaks, if there is one.
-pub fn listing(file: &[u8], sheet: Option<&Sheet>, refused: Option<(usize, &str)>, broken: Option<usize>) -> String {
-    let marks = sheet.map_or_else(Vec::new, |sheet| marks(sheet, broken));
+pub fn listing(file: &[u8], sheet: Option<&Sheet>, tried: &[Tried], refused: Option<(usize, &str)>, broken: Option<usize>) -> String {
+    let marks = sheet.map_or_else(Vec::new, |sheet| marks(sheet, tried, broken));
     let mut out = String::from("<div class=\"scroll code\" tabindex=\"0\" role=\"group\" aria-label=\"the file's text\">\n");
     let widest = sheet.map_or(0, |sheet| (0..sheet.outline.regions.len()).map(|r| sheet.region_name(r).len() + 4).max().unwrap_or(0));
     out.push_str(&format!("<div class=\"lines\" style=\"--note:{widest}ch\">\n"));
@@ -99,8 +105,19 @@ pub fn listing(file: &[u8], sheet: Option<&Sheet>, refused: Option<(usize, &str)
     out
 }
 
-fn marks(sheet: &Sheet, broken: Option<usize>) -> Vec<Mark> {
+fn marks(sheet: &Sheet, tried: &[Tried], broken: Option<usize>) -> Vec<Mark> {
     let mut marks = vec![Mark { span: sheet.outline.keep.clone(), class: "keep", tag: String::new(), says: "the kept condition".into() }];
+    for (k, span) in sheet.outline.tries.iter().enumerate() {
+        let number = pair(k as u8);
+        // Of a file that is refused with 8 no fates are told.
+        let (class, mark, says) = match tried.get(k).map(|tried| tried.fate) {
+            Some(Fate::Chosen) => ("try yes", " ✓", ", chosen"),
+            Some(Fate::FalseAtStart) => ("try no", " ✗", ", false at the start values"),
+            Some(Fate::Broken { .. }) => ("try no", " ✗", ", broken"),
+            None => ("try", "", ""),
+        };
+        marks.push(Mark { span: span.clone(), class, tag: format!("t{number}{mark}"), says: format!("try {number}{says}") });
+    }
     for (r, region) in sheet.outline.regions.iter().enumerate() {
         let (number, name) = (pair(r as u8), escape(&sheet.region_name(r)));
         let guard = pair(region.guard_number);
