@@ -23,11 +23,12 @@ use Rattle.meaning.specs.Accepted.{GoodRanges}
 use Rattle.meaning.specs.Runs.{State, IsRegion, regionsOf}
 use Rattle.meaning.specs.Model.{vars, regions, region, noRegion, noGuard}
 use Rattle.meaning.specs.Decide.Bodies.{outcome}
-use Rattle.meaning.specs.Decide.Choice.{endsFalse, inSet, tryAt, allHold, binds, breaksTry, firstBreak, pass}
+use Rattle.meaning.specs.Decide.Choice.{endsFalse, inSet, tryAt, allHold, binds, breaksTry, firstBreak, chosenTries}
+use Rattle.meaning.specs.Decide.Choice.{chosenBits}
 use Rattle.meaning.proofs.ModelLaws.{region-numbered, element-below}
 use Rattle.meaning.proofs.StateLaws.{number-below, state-at-number}
 use Rattle.meaning.proofs.Searching.{where-none-iff, where-some-iff}
-use Rattle.meaning.proofs.Choosing.{pass-at, pass-past, stays-in, falls-out}
+use Rattle.meaning.proofs.Choosing.{chosen-members, chosen-below}
 use Rattle.states.specs.Rows.{TruthSets, TruthRow, Outcomes, outcomeNumber, Moved}
 use Rattle.states.specs.Promises.{Looked}
 use Rattle.states.proofs.Breaking.{bit-is}
@@ -57,27 +58,38 @@ any-longer n k f g low same rest =
     any-of-any h = split (any k f) (λ t. t) (λ t. clash (sym (any-same n g g (λ u b. refl)) ∙ h) (any-false n g (λ u b.
         sym (same u b) ∙ is-false (λ w. clash (any-intro k f u (omega arith) w) t))))
 
-module _ {m : Monitor} {states : ℕ} {guard-of : List ℕ} {regions-of start tries : ℕ} {keep holds after tried : List ℕ}
-    (held : Tried m states guard-of regions-of start tries keep holds after tried) where
+module _ (m : Monitor) (tried : List ℕ) (by-tries : TruthSets (vars m) (m .tries) tried) where
   -- the truth of a try at a state
   pub try-truth : (u s : ℕ) → u < length (m .tries) → s < count (vars m)
       → member (getD tried s 0) u ≡ truth (tryAt m u) (vars m) (stateAt (vars m) s)
   unfolding tryAt TruthSets
   try-truth u s low few =
-      held .by-tries u s low few
+      by-tries u s low few
       ∙ ap (λ (c : Cond). truth c (vars m) (stateAt (vars m) s)) (getD-below (m .tries) u noGuard _ low)
 
-  module _ (set : ℕ) (xs : List Bool) (is : SetIs m set xs) where
-    -- a state's tries lack nothing of the set where all of it holds
-    all-there : (s : ℕ) → s < count (vars m) → not (lacks (getD tried s 0) set) ≡ allHold m xs (stateAt (vars m) s)
-    unfolding lacks allHold
-    all-there s few =
-        ap not (any-longer (length (m .tries)) 16 (λ u. member set u && not (member (getD tried s 0) u))
-        (λ u. inSet xs u && not (truth (tryAt m u) (vars m) (stateAt (vars m) s)))
-        (omega (arith, held .tries-counted, held .few-tries))
-        (λ u low. rw (is .members u (omega (arith, held .tries-counted, held .few-tries)), try-truth u s low few))
-        (λ u high low. rw (is .members u low, is .none-past u high)))
+  -- a state's tries lack nothing of a set where all of it holds
+  pub all-there : length (m .tries) ≤ 16 → (set : ℕ) (xs : List Bool) → SetIs m set xs → (s : ℕ) → s < count (vars m)
+      → not (lacks (getD tried s 0) set) ≡ allHold m xs (stateAt (vars m) s)
+  unfolding lacks allHold
+  all-there few-tries set xs is s few =
+      ap not (any-longer (length (m .tries)) 16 (λ u. member set u && not (member (getD tried s 0) u))
+      (λ u. inSet xs u && not (truth (tryAt m u) (vars m) (stateAt (vars m) s))) few-tries
+      (λ u low. rw (is .members u (omega arith), try-truth u s low few))
+      (λ u high low. rw (is .members u low, is .none-past u high)))
 
+-- the reported bits and the chosen tries
+pub chosen-set : (m : Monitor) → SetIs m (chosenBits m) (chosenTries m)
+chosen-set m = record {
+  members = chosen-members m;
+  none-past = λ u high. is-false (λ x. let low = chosen-below m u x in omega arith);
+}
+
+module _ {m : Monitor} {states : ℕ} {guard-of : List ℕ} {regions-of start tries : ℕ} {keep holds after tried : List ℕ}
+    (held : Tried m states guard-of regions-of start tries keep holds after tried) where
+  few-tries : length (m .tries) ≤ 16
+  few-tries = omega (arith, held .tries-counted, held .few-tries)
+
+  module _ (set : ℕ) (xs : List Bool) (is : SetIs m set xs) where
     -- an outcome by its number
     ends-is : (u : ℕ) → u < length (m .tries) → (o : Option (List ℤ)) → ((bs : List ℤ) → o ≡ some bs → State (vars m) bs)
         → ltb (outcomeNumber (vars m) o) 4096 && not (member (getD tried (outcomeNumber (vars m) o) 0) u)
@@ -88,7 +100,7 @@ module _ {m : Monitor} {states : ℕ} {guard-of : List ℕ} {regions-of start tr
         let st = ends bs refl in
         let few = number-below (held .good) st in
         let small : numberOf (vars m) bs < 4096 = omega (arith, held .few-states) in
-        rw (lt-ltb (numberOf (vars m) bs) 4096 small, try-truth u (numberOf (vars m) bs) low few
+        rw (lt-ltb (numberOf (vars m) bs) 4096 small, try-truth m tried (held .by-tries) u (numberOf (vars m) bs) low few
         ∙ ap (truth (tryAt m u) (vars m)) (state-at-number (held .good) st))
 
     -- the tests by the slices are those of the file
@@ -112,7 +124,7 @@ module _ {m : Monitor} {states : ℕ} {guard-of : List ℕ} {regions-of start tr
         let (h-set, h-keep, h-to, h-guard) = binding keep holds tried guard set s to b in
         let k = bit-one (truth (m .keep) (vars m) as′) (sym (held .by-keep s few) ∙ eqb-true (getD keep s 0) 1 h-keep) in
         let g = sym (l .by-guard s few) ∙ h-guard in
-        and (and (and k (sym (all-there s few) ∙ h-set)) g)
+        and (and (and k (sym (all-there m tried (held .by-tries) few-tries set xs is s few) ∙ h-set)) g)
         (sym ends ∙ ap (λ (n : ℕ). ltb n 4096 && not (member (getD tried n 0) u)) (sym (moved .number k g)) ∙ and h-to f))
         (λ h.
         let (b, f) = both (binds m xs q as′) (endsFalse (vars m) (tryAt m u) o) h in
@@ -120,7 +132,7 @@ module _ {m : Monitor} {states : ℕ} {guard-of : List ℕ} {regions-of start tr
         let (k, a) = both (truth (m .keep) (vars m) as′) (allHold m xs as′) x in
         let (h-to, h-f) = both (ltb to 4096) (not (member (getD tried to 0) u))
         (ap (λ (n : ℕ). ltb n 4096 && not (member (getD tried n 0) u)) (moved .number k g) ∙ ends ∙ f) in
-        and (bound keep holds tried guard set s to (not-true (all-there s few ∙ a))
+        and (bound keep holds tried guard set s to (not-true (all-there m tried (held .by-tries) few-tries set xs is s few ∙ a))
         (eq-eqb (getD keep s 0) 1 (held .by-keep s few ∙ bit-true k)) h-to ∙ l .by-guard s few ∙ g) h-f)
 
     -- a pass over the slices, of a try of the file

@@ -128,7 +128,7 @@ module _ (m : Monitor) where
         ap (stateAt (vars m)) (held .starts) ∙ state-at-number (held .good) st in
         let few : start < count (vars m) = omega (arith, held .starts, number-below (held .good) st) in
         is u low ∙ ap (λ (b : Bool). member (getD tried start 0) u && b) (lt-ltb u tries (omega (arith, held .tries-counted)))
-        ∙ and-true (member (getD tried start 0) u) ∙ try-truth held u start below few
+        ∙ and-true (member (getD tried start 0) u) ∙ try-truth m tried (held .by-tries) u start below few
         ∙ ap (truth (tryAt m u) (vars m)) at ∙ sym (start-at m u below))
         (λ h.
         let high = ltb-false u (length (m .tries)) h in

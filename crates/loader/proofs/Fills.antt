@@ -1,46 +1,43 @@
--- What filling the slices says, by its answer; and where guards and bodies stand, as the tables ask it.
+-- What filling the slices says, by its answer; and where guards, tries and bodies stand, as the tables ask it.
 use Prim.Native.Nat.{ℕ, _%_, _≤_, _<_}
 use native.Mathlib.Omega.{arith}
 use mathlib.Core.Path.{_≡_, refl, sym, ap, _∙_}
-use mathlib.Core.Bool.{Bool, true, false, not}
-use mathlib.Core.List.{List, _∷_}
+use mathlib.Core.Bool.{Bool, true, false, not, _&&_}
+use mathlib.Core.List.{List, _∷_, _++_}
 use mathlib.Core.Option.{Option, none, some}
 use lib.ListN.{length, getD}
-use lib.IntN.{ℤ}
 use Rattle.syntax.specs.Token.{Lexeme, mark, semicolon}
-use Rattle.syntax.specs.Tree.{Monitor}
+use Rattle.syntax.specs.Tree.{Cond, Monitor, spellCond}
 use Rattle.logic.specs.Tests.{bit}
 use Rattle.logic.proofs.Bools.{clash, different}
+use Rattle.logic.proofs.Lists.{getD-below}
 use Rattle.meaning.specs.Value.{truth}
-use Rattle.meaning.specs.State.{starts, stateAt}
+use Rattle.meaning.specs.State.{count, starts, stateAt}
 use Rattle.meaning.specs.Kept.{keptAt}
 use Rattle.meaning.specs.Decide.Check.{broken}
-use Rattle.meaning.specs.Model.{vars, guards}
+use Rattle.meaning.specs.Decide.Choice.{noTry, tryAt, chosenTries, chosenBits}
+use Rattle.meaning.specs.Model.{vars, guards, noGuard, holds}
+use Rattle.meaning.proofs.Choosing.{kept-iff, start-kept}
 use Rattle.variables.specs.declared.Bounds.{Bounds}
 use Rattle.layout.specs.declared.Layout.{Layout}
-use Rattle.states.specs.Rows.{TruthRow, GuardsAt, BodiesAt, GuardNumbers, KeptAll, HoldsAll, Outcomes, BrokenAs}
+use Rattle.layout.specs.declared.Tries.{Tries}
+use Rattle.states.specs.Rows.{TruthRow, TruthSets, ConditionsAt, BodiesAt, GuardNumbers, KeptAll, HoldsAll, Outcomes}
+use Rattle.states.specs.Rows.{BrokenAs}
 use Rattle.states.proofs.Holding.{guards-few, kept-of-row}
 use Rattle.states.proofs.Breaking.{after-all}
-use Rattle.states.specs.Promises.{Condition, Guards}
+use Rattle.states.specs.Promises.{Condition, Conditions}
 use Rattle.states.specs.declared.Broken.{Broken}
 use Rattle.states.specs.declared.Broken.the-variants.{Never, At}
-use Rattle.answers.specs.declared.Answer.{Answer}
+use Rattle.choice.specs.Slots.{lacks}
+use Rattle.choice.specs.Chosen.{Chooses}
+use Rattle.choice.proofs.Passing.{all-there, chosen-set}
 use Rattle.loader.proofs.GuardsAt.{guards-stand}
 use Rattle.loader.proofs.Counts.{ends-kept}
-use Rattle.loader.specs.Filling.{Filling, Filled, Rows}
+use Rattle.loader.specs.Filling.{Filling, Settles, Filled, Rows}
+use Rattle.loader.specs.declared.Settled.{Settled}
 
--- The code evaluates the tokens behind `keep`: their truth is the kept condition's
-
-pub keep-is-kept : (m : Monitor) (as′ : List ℤ) → truth (m .keep) (vars m) as′ ≡ keptAt m as′
-unfolding keptAt
-keep-is-kept m as′ = refl
-
-pub kept-row : (m : Monitor) (row : List ℕ) → TruthRow (vars m) (truth (m .keep) (vars m)) row → KeptAll m row
-unfolding TruthRow
-kept-row m row t = kept-of-row m row (λ s h. t s h ∙ ap bit (keep-is-kept m (stateAt (vars m) s)))
-
-module _ {m : Monitor} {ls : List Lexeme} {kinds values : List ℕ} {b : Bounds} {l : Layout}
-    (f : Filling m ls kinds values b l) where
+module _ {m : Monitor} {ls : List Lexeme} {kinds values : List ℕ} {b : Bounds} {l : Layout} {t : Tries}
+    (f : Filling m ls kinds values b l t) where
   pub keeping : Condition (vars m) (m .keep) kinds values b (l .keep)
   keeping =
       record {
@@ -57,8 +54,8 @@ module _ {m : Monitor} {ls : List Lexeme} {kinds values : List ℕ} {b : Bounds}
   few-guards = omega (arith, guards-few m, f .few-regions)
 
   guards-of : (ats : List ℕ) → ((g : ℕ) → g < 16 → getD ats g 0 ≡ getD (l .«guards_at») (getD (l .firsts) g 0 % 16) 0)
-      → GuardsAt m ls ats
-  unfolding GuardsAt
+      → ConditionsAt (guards m) ls ats
+  unfolding ConditionsAt
   guards-of ats e =
       guards-stand m ls ats (l .firsts) (l .«guards_at») (f .laid .first-below) (f .laid .first-has)
       (λ r h. let q = f .laid .regions-stand r h in (q .behind-guard, q .guard-stands))
@@ -68,7 +65,7 @@ module _ {m : Monitor} {ls : List Lexeme} {kinds values : List ℕ} {b : Bounds}
 
   pub guarding : (ats : List ℕ)
       → ((g : ℕ) → g < 16 → getD ats g 0 ≡ getD (l .«guards_at») (getD (l .firsts) g 0 % 16) 0)
-      → Guards m kinds values b ats (l .guards)
+      → Conditions (vars m) (guards m) kinds values b ats (l .guards)
   guarding ats e =
       record {
         ls = ls;
@@ -76,8 +73,30 @@ module _ {m : Monitor} {ls : List Lexeme} {kinds values : List ℕ} {b : Bounds}
         bounded = f .bounded;
         few = f .few;
         counted = f .laid .guard-count;
-        few-guards = omega (arith, few-guards, f .laid .guard-count);
+        few-conditions = omega (arith, few-guards, f .laid .guard-count);
         places = guards-of ats e;
+      }
+
+  -- the tries begin where the layout says
+  tries-at : ConditionsAt (m .tries) ls (t .ats)
+  unfolding ConditionsAt tryAt
+  tries-at i h =
+      let (us, e) = f .tries-laid .stand i h in (
+        mark semicolon ∷ us,
+        e ∙ ap (λ (c : Cond). spellCond c ++ (mark semicolon ∷ us)) (getD-below (m .tries) i noTry noGuard h),
+        ends-kept us,
+      )
+
+  pub trying : Conditions (vars m) (m .tries) kinds values b (t .ats) (t .count)
+  trying =
+      record {
+        ls = ls;
+        codes = f .codes;
+        bounded = f .bounded;
+        few = f .few;
+        counted = f .tries-laid .count;
+        few-conditions = omega (arith, f .tries-laid .count, f .few-tries);
+        places = tries-at;
       }
 
   pub bodies-of : BodiesAt m ls (l .«bodies_at»)
@@ -104,50 +123,76 @@ unfolding BrokenAs
 passed none a e = refl
 passed (some q) a e = different (cc)
 
-module _ (m : Monitor) (place : ℕ) (r : Answer) (kept holds after : List ℕ) {t : Bool}
-    (is : t ≡ keptAt m (starts (vars m))) where
-  -- 8
-  pub filled-8 : t ≡ false → (r .number ≡ 8) × (r .first ≡ place) × (r .second ≡ 0) → Filled m place r kept holds after
+-- the guards that hold, as a set of all of them
+pub holds-of : (m : Monitor) (rows : List ℕ) → TruthSets (vars m) (guards m) rows → HoldsAll m rows
+unfolding TruthSets HoldsAll holds
+holds-of m rows t = t
+
+-- an outcome where keep and the guard hold is one where the kept condition and the guard do
+pub outcomes-kept : (m : Monitor) (rows : List ℕ) → Outcomes m (truth (m .keep) (vars m)) rows → Outcomes m (keptAt m) rows
+unfolding Outcomes
+outcomes-kept m rows o r h =
+    record {
+      each = λ s low. record { number = λ k g. o r h .each s low .number (kept-iff m _ .0 k .0) g };
+    }
+
+-- the row of keep, with the chosen tries: that of the kept condition
+pub kept-strong : (m : Monitor) (tried kept₀ kept : List ℕ) (chosen : ℕ) → length (m .tries) ≤ 16
+    → chosen ≡ chosenBits m
+    → TruthRow (vars m) (truth (m .keep) (vars m)) kept₀ → TruthSets (vars m) (m .tries) tried
+    → ((s : ℕ) (b : Bool) → s < count (vars m) → getD kept₀ s 0 ≡ bit b
+    → getD kept s 0 ≡ bit (b && not (lacks (getD tried s 0) chosen)))
+    → KeptAll m kept
+unfolding TruthRow keptAt
+kept-strong m tried kept₀ kept chosen few is row sets strong =
+    kept-of-row m kept (λ s low.
+    strong s (truth (m .keep) (vars m) (stateAt (vars m) s)) low (row s low)
+    ∙ ap (λ (b : Bool). bit (truth (m .keep) (vars m) (stateAt (vars m) s) && b))
+    (ap (λ (n : ℕ). not (lacks (getD tried s 0) n)) is
+    ∙ all-there m tried sets few (chosenBits m) (chosenTries m) (chosen-set m) s low))
+
+module _ (m : Monitor) (place : ℕ) (r : Settled) (kept holds after : List ℕ) {t : Bool}
+    (is : t ≡ truth (m .keep) (vars m) (starts (vars m))) where
+  -- 8: at the start values the chosen tries hold, so keep alone decides
+  pub filled-8 : t ≡ false → (r .answer .number ≡ 8) × (r .answer .first ≡ place) × (r .answer .second ≡ 0)
+      → Filled m place r kept holds after
   filled-8 off (a, b, c) =
       record {
         fails = λ _. record { number = a; first = b; second = c };
-        breaks = λ on k n e. clash on (sym is ∙ off);
-        passes = λ on e. clash on (sym is ∙ off);
-        rows = λ on. clash on (sym is ∙ off);
+        settles = λ on. clash on (start-kept m ∙ sym is ∙ off);
       }
 
-  module _ (on : t ≡ true) {x : Broken} (a : BrokenAs x (broken m)) (full : Rows m kept holds after) where
-    -- 9
-    pub filled-9 : (k n : ℕ) → x ≡ At k n → (r .number ≡ 9) × (r .first ≡ k) × (r .second ≡ n)
-        → Filled m place r kept holds after
-    filled-9 k n e (p, q, s) =
-        let stops = stopped (broken m) a e in
-        record {
-          fails = λ off. clash on (is ∙ off);
-          breaks = λ _ i j h.
-              let same : _≡_ {A = ℕ × ℕ} (k, n) (i, j) = cc in
-              record {
-                number = p;
-                first = q ∙ ap (λ (x : ℕ × ℕ). x .0) same;
-                second =
-                    s ∙ ap (λ (x : ℕ × ℕ). x .1) same;
-              };
-          passes = λ _ h. different (cc);
-          rows = λ _. full;
-        }
+  pub filled-on : t ≡ true → Settles m r kept holds after → Filled m place r kept holds after
+  filled-on on s = record { fails = λ off. clash (start-kept m ∙ sym is ∙ on) off; settles = λ _. s }
 
-    -- 0
-    pub filled-0 : x ≡ Never → (r .number ≡ 0) × (r .first ≡ 0) × (r .second ≡ 0) → Filled m place r kept holds after
-    filled-0 e (p, q, s) =
-        let none-stops = passed (broken m) a e in
-        record {
-          fails = λ off. clash on (is ∙ off);
-          breaks = λ _ i j h. different (cc);
-          passes = λ _ h. (
-            record { number = p; first = q; second = s },
-            full .by-kept,
-            full .by-holds,
-            after-all m after (full .outcomes) h,
-          );
-          rows = λ _. full;
-        }
+module _ (m : Monitor) (r : Settled) (kept holds after : List ℕ) {x : Broken} (a : BrokenAs x (broken m))
+    (full : Rows m kept holds after) (choice : Chooses m (r .choice)) where
+  -- 9
+  pub settled-9 : (k n : ℕ) → x ≡ At k n → (r .answer .number ≡ 9) × (r .answer .first ≡ k) × (r .answer .second ≡ n)
+      → Settles m r kept holds after
+  settled-9 k n e (p, q, s) =
+      let stops = stopped (broken m) a e in
+      record {
+        breaks = λ i j h.
+            let same : _≡_ {A = ℕ × ℕ} (k, n) (i, j) = cc in
+            record {
+              number = p;
+              first = q ∙ ap (λ (x : ℕ × ℕ). x .0) same;
+              second = s ∙ ap (λ (x : ℕ × ℕ). x .1) same;
+            };
+        passes = λ h. different (cc);
+        rows = full;
+        choice = choice;
+      }
+
+  -- 0
+  pub settled-0 : x ≡ Never → (r .answer .number ≡ 0) × (r .answer .first ≡ 0) × (r .answer .second ≡ 0)
+      → Settles m r kept holds after
+  settled-0 e (p, q, s) =
+      let none-stops = passed (broken m) a e in
+      record {
+        breaks = λ i j h. different (cc);
+        passes = λ h. (record { number = p; first = q; second = s }, after-all m after (full .outcomes) h);
+        rows = full;
+        choice = choice;
+      }

@@ -22,9 +22,10 @@ use Rattle.meaning.proofs.Sizes.{Sizes}
 use Rattle.meaning.proofs.Verdicts.{accepted-iff, past-7-late, past-7-one}
 use Rattle.variables.specs.Bounded.{Bounded}
 use Rattle.passes.specs.Tokens.{Resolved}
-use Rattle.layout.specs.Laid.{IsKeep, Laid, Linked}
+use Rattle.layout.specs.Laid.{IsKeep, Laid, TriesLaid, Linked}
 use Rattle.syntax.specs.Held.Kind.{Kinds}
 use Rattle.layout.specs.declared.Layout.{Layout}
+use Rattle.layout.specs.declared.Tries.{Tries}
 use Rattle.states.proofs.Holding.{held}
 use Rattle.answers.specs.Says.{Says, Is, answerOf}
 use Rattle.answers.specs.declared.Answer as code
@@ -32,11 +33,11 @@ use Rattle.layout.proofs.Same.{lexemes-length}
 use Rattle.loader.proofs.Refusals.{kinds-of, says-8, says-9, says-0}
 use Rattle.loader.proofs.Counts.{few-tokens, few-parts}
 use Rattle.loader.proofs.Names.{codes}
-use Rattle.loader.proofs.TokensStand.{keep-stands}
 use Rattle.loader.proofs.Flags.{held-places}
-use Rattle.loader.specs.Loading.{Past7, JudgedBy, Judges, Monitored, Loads, Leaves}
+use Rattle.loader.specs.Loading.{Past7, JudgedBy, Judges, Chosen, Monitored, Loads, Leaves}
 use Rattle.loader.specs.Filling.{Filling, Filled, Rows}
 use Rattle.loader.specs.declared.Judged.{Judged}
+use Rattle.loader.specs.declared.Settled.{Settled}
 use Rattle.loader.specs.declared.Loaded.{Loaded}
 use Rattle.loader.proofs.Fills.{numbers-of}
 
@@ -115,9 +116,9 @@ module _ {file : List ℕ} {ts : List Token} {kinds values places : List ℕ} (w
   pub kinds-long : length kinds ≡ length ts
   kinds-long = rw (w .by-kind, length-map)
 
-  pub is-keep : IsKeep m ts (j .keep)
+  pub is-keep : IsKeep m (lexemes ts) (j .keep)
   unfolding IsKeep
-  is-keep = keep-stands ts m (p .grammar) (j .keep) (p .keep-stands)
+  is-keep = p .keep-stands
 
   pub few-lexemes : length (lexemes ts) ≤ 1024
   few-lexemes = omega (arith, few, lexemes-length ts)
@@ -131,22 +132,25 @@ module _ {file : List ℕ} {ts : List Token} {kinds values places : List ℕ} (w
   resolved-long resolved r = rw (r, length-map, lexemes-length)
 
   -- names and braces resolved
-  pub filling : (l : Layout) (resolved linked : List ℕ) → Laid m (lexemes ts) l → Resolved ts resolved
-      → Linked (lexemes ts) resolved linked → Filling m (lexemes ts) kinds linked (j .bounds) l
-  filling l resolved linked laid r k =
+  pub filling : (l : Layout) (t : Tries) (resolved linked : List ℕ) → Laid m (lexemes ts) l → TriesLaid m (lexemes ts) t
+      → Resolved ts resolved → Linked (lexemes ts) resolved linked
+      → Filling m (lexemes ts) kinds linked (j .bounds) l t
+  filling l t resolved linked laid tries r k =
       record {
         codes = codes m resolved linked (p .grammar) w r (k .as-long) (k .others) (k .linked);
         bounded = p .bounded;
         laid = laid;
+        tries-laid = tries;
         few = omega (arith, few-lexemes);
         few-regions = sizes .regions;
+        few-tries = sizes .tries;
       }
 
-  module _ (l : Layout) (a : code.Answer) (kept holds after : List ℕ) {linked : List ℕ}
-      (f : Filling m (lexemes ts) kinds linked (j .bounds) l) {place : ℕ} (at-keep : place ≡ getD places (j .keep) 0)
-      (filled : Filled m place a kept holds after) where
+  module _ (l : Layout) (t : Tries) (r : Settled) (kept holds after : List ℕ) {linked : List ℕ}
+      (f : Filling m (lexemes ts) kinds linked (j .bounds) l t) {place : ℕ} (at-keep : place ≡ getD places (j .keep) 0)
+      (filled : Filled m place r kept holds after) where
     abbrev loaded : Loaded
-    loaded = record { answer = a; bounds = j .bounds; layout = l }
+    loaded = record { answer = r .answer; bounds = j .bounds; layout = l; tries = t .count; choice = r .choice }
 
     outlined : (us : List Token) (n : Monitor) → words.Past7 file us n
         → Bounded (vars n) (j .bounds) × Laid n (lexemes us) l
@@ -154,13 +158,17 @@ module _ {file : List ℕ} {ts : List Token} {kinds values places : List ℕ} (w
         let (one, two) = past-7-one (w .cut) (p .grammar) q in
         rw (one, two) (p .bounded, f .laid)
 
+    chosen : keptAt m (starts (vars m)) ≡ true → Chosen m loaded
+    chosen on = record { counted = f .tries-laid .count; choice = filled .settles on .choice }
+
     rows : (us : List Token) (n : Monitor) → words.Past7 file us n → keptAt n (starts (vars n)) ≡ true
-        → Rows n kept holds after
+        → Rows n kept holds after × Chosen n loaded
     rows us n q =
         let (one, two) = past-7-one (w .cut) (p .grammar) q in
-        subst (λ (x : Monitor). keptAt x (starts (vars x)) ≡ true → Rows x kept holds after) (sym two) (filled .rows)
+        subst (λ (x : Monitor). keptAt x (starts (vars x)) ≡ true → Rows x kept holds after × Chosen x loaded) (sym two)
+        (λ on. (filled .settles on .rows, chosen on))
 
-    refuses : {v : Answer} → check file ≡ refused v → Says a v → Loads file loaded kept holds after
+    refuses : {v : Answer} → check file ≡ refused v → Says (r .answer) v → Loads file loaded kept holds after
     refuses e s =
         record { verdict = is-refused file e s; monitored = λ n h. different (cc); outlined = outlined; rows = rows }
 
@@ -168,7 +176,8 @@ module _ {file : List ℕ} {ts : List Token} {kinds values places : List ℕ} (w
         → check file ≡ accepted m → Loads file loaded kept holds after
     unfolding Is answerOf
     accepts on none-breaks e =
-        let (says, by-kept, by-holds, by-after) = filled .passes on none-breaks in
+        let (says, by-after) = filled .settles on .passes none-breaks in
+        let full = filled .settles on .rows in
         record {
           outlined = outlined;
           rows = rows;
@@ -177,11 +186,12 @@ module _ {file : List ℕ} {ts : List Token} {kinds values places : List ℕ} (w
               let same : m ≡ n = cc in
               subst (λ (x : Monitor). Monitored x loaded kept holds after) same (record {
                 bounded = p .bounded;
-                held = held m (accepted-iff file m .0 e .sound) (sizes .regions) by-kept by-holds by-after
+                held = held m (accepted-iff file m .0 e .sound) (sizes .regions) (full .by-kept) (full .by-holds) by-after
                     (numbers-of f);
                 held-places = held-places m (f .laid .begin-flags) (f .laid .follow-flags);
                 region-count = f .laid .region-count;
                 guard-count = f .laid .guard-count;
+                chosen = chosen on;
               });
         }
 
@@ -197,5 +207,5 @@ module _ {file : List ℕ} {ts : List Token} {kinds values places : List ℕ} (w
             → Loads file loaded kept holds after
         go on (some (k, n)) e =
             refuses (says-9 w (p .uncrowded) m (p .grammar) (p .counts) (p .names) (p .ranges) on e)
-            (filled .breaks on k n e)
+            (filled .settles on .breaks k n e)
         go on none e = accepts on e (says-0 w (p .uncrowded) m (p .grammar) (p .counts) (p .names) (p .ranges) on e)

@@ -16,7 +16,7 @@ use Rattle.syntax.specs.Tree.{Int, plain, negated, Atom, literal, variable, Ter
 use Rattle.syntax.specs.Tree.{Simple, negation, bracketed, constant, compare, Block, end, then, Stmt, assign, if-then}
 use Rattle.syntax.specs.Tree.{if-else, Region, Method, Var, Monitor, all, each, spellInt, spellAtom, spellTerm}
 use Rattle.syntax.specs.Tree.{spellExpr, spellConstant, spellCond, spellConj, spellSimple, spellBlock, spellStmt}
-use Rattle.syntax.specs.Tree.{spellRegion, spellMethod, spellVar, spell}
+use Rattle.syntax.specs.Tree.{spellRegion, spellMethod, spellTry, spellVar, spell}
 use Rattle.logic.proofs.Bools.{split}
 use Rattle.logic.proofs.Bools.{different}
 use Rattle.meaning.proofs.KeywordPlaces.{times, times-append}
@@ -117,9 +117,19 @@ none-method : (x : Method) → times k-var (spellMethod x) ≡ 0
 unfolding times spellMethod isKey keywordNumber
 none-method x = simp (times-append, none-each spellRegion none-region (all (x .regions)))
 
+none-try : (c : Cond) → times k-var (spellTry c) ≡ 0
+unfolding times spellTry isKey keywordNumber
+none-try c = simp (times-append, none-cond)
+
 none-behind : (m : Monitor) → times k-var (behindKeep m) ≡ 0
 unfolding times behindKeep isKey keywordNumber
-none-behind m = simp (times-append, none-cond, none-each spellMethod none-method (all (m .methods)))
+none-behind m =
+    simp (
+      times-append,
+      none-cond,
+      none-each spellTry none-try (m .tries),
+      none-each spellMethod none-method (all (m .methods)),
+    )
 
 -- so there are no names behind `var` there
 no-titles : (before : Lexeme) (ls : List Lexeme) → isKey k-var before ≡ false → times k-var ls ≡ 0 → titlesIn before ls

@@ -177,7 +177,9 @@ fn tries_have_their_marks_and_steps() {
     let many: String = (1..=16).map(|k| format!("try x\t!= {k}\n&& !(x > {k} &&\r\n x < {k});")).collect();
     let chain =
         format!("monitor m {{ var x = 0 in 0..16; keep true; {many} method up {{ waituntil (x < 16) {{ x := x + 1; }} }} }}").into_bytes();
-    for (name, file, trace) in hand_ins().into_iter().chain([("chain".to_string(), chain, None)]) {
+    // Refused with 8, no fates are told.
+    let refused = b"monitor m { var x = 0 in 0..1; keep x == 1; try x < 2; method a { waituntil (true) { } } }".to_vec();
+    for (name, file, trace) in hand_ins().into_iter().chain([("chain".into(), chain, None), ("refused with 8".into(), refused, None)]) {
         let html = made(&file, trace.as_deref());
         let fates = damsonyet::fates(&file).unwrap_or_default();
         assert_eq!(html.contains("id=\"tries\""), !fates.is_empty(), "{name}");

@@ -145,10 +145,10 @@ fn file(input: &Input, sheet: Option<&Sheet>, tried: &[Tried], refused: Option<&
     }
     out.push_str(&text::listing(input.file, sheet, tried, at.zip(refused.map(|(_, refused)| refused.headline.as_str())), broken));
     if let Some(sheet) = sheet {
-        let tries = if sheet.outline.tries.is_empty() { "" } else { text::TRIES };
+        let kept = text::kept_legend(sheet, tried);
         out.push_str(&format!(
             "<p class=\"small legend\"><span class=\"guard\" data-tag=\"g00\">a guard</span> with its number, \
-             <span class=\"body\">a body</span>, <span class=\"keep\">the kept condition</span>{tries}; \
+             <span class=\"body\">a body</span>, {kept}; \
              at the left the line, and the region that begins there with its method.</p>\n"
         ));
     }

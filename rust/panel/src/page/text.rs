@@ -55,9 +55,17 @@ struct Mark {
 /// What is shown of the file at most: as much as a file may have.
 const SHOWN: usize = 8192;
 
-/// What the legend says of marked tries.
-pub const TRIES: &str = ", <span class=\"try yes\" data-tag=\"t00 ✓\">a chosen try</span>, \
-    <span class=\"try no\" data-tag=\"t01 ✗\">one that is not chosen</span>";
+/// What the legend says of the kept condition and of marked tries.
+pub fn kept_legend(sheet: &Sheet, tried: &[Tried]) -> &'static str {
+    match (sheet.outline.tries.is_empty(), tried.is_empty()) {
+        (true, _) => "<span class=\"keep\">the kept condition</span>",
+        (_, true) => "<span class=\"keep\">the condition of keep</span>, <span class=\"try\" data-tag=\"t00\">a try</span>",
+        _ => {
+            "<span class=\"keep\">the condition of keep</span>, <span class=\"try yes\" data-tag=\"t00 ✓\">a chosen try</span>, \
+             <span class=\"try no\" data-tag=\"t01 ✗\">one that is not chosen</span>"
+        }
+    }
+}
 
 /// The file with line numbers, its regions, its kept condition and its tries marked; the refused byte, if there is one, with what is said of it; and the
 /// region that breaks, if there is one.
@@ -106,7 +114,8 @@ pub fn listing(file: &[u8], sheet: Option<&Sheet>, tried: &[Tried], refused: Opt
 }
 
 fn marks(sheet: &Sheet, tried: &[Tried], broken: Option<usize>) -> Vec<Mark> {
-    let mut marks = vec![Mark { span: sheet.outline.keep.clone(), class: "keep", tag: String::new(), says: "the kept condition".into() }];
+    let kept = if sheet.outline.tries.is_empty() { "the kept condition" } else { "the condition of keep" };
+    let mut marks = vec![Mark { span: sheet.outline.keep.clone(), class: "keep", tag: String::new(), says: kept.into() }];
     for (k, span) in sheet.outline.tries.iter().enumerate() {
         let number = pair(k as u8);
         // Of a file that is refused with 8 no fates are told.

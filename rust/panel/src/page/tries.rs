@@ -35,12 +35,12 @@ pub fn tries(sheet: &Sheet, all: &[Tried]) -> String {
             Fate::Chosen => ("yes", "chosen", String::new()),
             Fate::FalseAtStart => {
                 let start = sheet.start_values();
-                let says = "<p class=\"small\">It is false at the start values:</p>\n";
+                let says = "<p class=\"small\">The start values:</p>\n";
                 ("no", "false at the start", format!("{says}<p class=\"step\">{}</p>\n", values(sheet, "start values", &start, &start)))
             }
             Fate::Broken { pass, region, state } => {
                 let by = escape(&tries::breaker(sheet, all, pass, region));
-                let says = format!("<p class=\"small\">It falls in pass {pass} {by}; the step from state {state} makes it false:</p>\n");
+                let says = format!("<p class=\"small\">In pass {pass} {by}, from state {state}:</p>\n");
                 ("no", "broken", says + &tried.step.as_ref().map_or_else(String::new, |of| step(sheet, of)))
             }
         };
