@@ -100,8 +100,11 @@ module _ {m : Monitor} {states : ℕ} {guard-of : List ℕ} {regions-of start tr
         let st = ends bs refl in
         let few = number-below (held .good) st in
         let small : numberOf (vars m) bs < 4096 = omega (arith, held .few-states) in
-        rw (lt-ltb (numberOf (vars m) bs) 4096 small, try-truth m tried (held .by-tries) u (numberOf (vars m) bs) low few
-        ∙ ap (truth (tryAt m u) (vars m)) (state-at-number (held .good) st))
+        rw (
+          lt-ltb (numberOf (vars m) bs) 4096 small,
+          try-truth m tried (held .by-tries) u (numberOf (vars m) bs) low few
+              ∙ ap (truth (tryAt m u) (vars m)) (state-at-number (held .good) st),
+        )
 
     -- the tests by the slices are those of the file
     breaks-is : (u r s : ℕ) → u < length (m .tries) → r < length (regions m) → s < count (vars m)

@@ -198,5 +198,5 @@ pub extern "C" fn damsonyet_number_of(file: &[u8], values: Values) -> Numbered
 pub extern "C" fn damsonyet_fates_of(file: &[u8]) -> Fates
     ensures { λ r. ⌜ FatesTold (now (file .entry)) r ⌝ }
 {
-    survey::fates(file)
+    survey::fates_of(file)
 }

@@ -115,7 +115,7 @@ fn show_points(file: &[u8], trace: &[u8], buffer: &mut [u8], size: usize, both: 
 fn show_tries(file: &[u8]) {
     let mut table = [0u8; output::OUTPUT_BYTES];
     let placed = monitor::place(file, &mut table);
-    let told = survey::fates(file);
+    let told = survey::fates_of(file);
     let answer = placed.answer;
     if answer.number == 0 {
         show(0, wide16(placed.chosen), told.tries);

@@ -32,6 +32,9 @@ use Rattle.outline.specs.declared.Outline.{Outline}
 use Rattle.lookup.specs.Looked.{Looked, StateIs, NoState, NumberIs, NoNumber}
 use Rattle.lookup.specs.declared.State.{State}
 use Rattle.lookup.specs.declared.Numbered.{Numbered}
+use Rattle.choice.specs.Slots.{slotOf}
+use Rattle.survey.specs.declared.Fates.{Fates}
+use Rattle.survey.specs.Told.{fateSlot, NoFates, FatesTold}
 use Rattle.survey.specs.Told.{OutlineTold, StateTold, NumberTold}
 use Rattle.answers.specs.Says.{Is, answerOf}
 use Rattle.answers.specs.declared.Answer as code
@@ -91,7 +94,7 @@ module _ {file : List ℕ} {l : Loaded} {kept holds after : List ℕ} (loads : L
           verdict = same-verdict e;
           told = λ ts m p on.
               let (bounded, laid) = loads .outlined ts m p in
-              let rows = loads .rows ts m p on in
+              let rows = loads .rows ts m p on .0 in
               let few = sizes-of ts m (p .past .past .past .grammar) (p .past .past .counts) .regions in
               is m (record {
                 bounded = bounded;
@@ -133,7 +136,7 @@ module _ {file : List ℕ} {l : Loaded} {kept holds after : List ℕ} (loads : L
     pub outline-told : eqb (l .answer .number) 0 || leb 8 (l .answer .number) ≡ true
         → {ts : List Token} {kinds values places : List ℕ} → Words file ts kinds values places
         → ((f : List ℕ) (us : List Token) (m : Monitor) → Words f us kinds values places → spell m ≡ lexemes us
-        → length (all (m .methods)) ≤ 8 → Bounded (vars m) (l .bounds) → Laid m (lexemes us) (l .layout)
+        → length (m .tries) ≤ 16 → length (all (m .methods)) ≤ 8 → Bounded (vars m) (l .bounds) → Laid m (lexemes us) (l .layout)
         → Outlines us m r) → OutlineTold file r
     outline-told high {ts} {kinds} {values} {places} w is =
         record {
@@ -144,6 +147,7 @@ module _ {file : List ℕ} {l : Loaded} {kept holds after : List ℕ} (loads : L
               let cut = tokenize-tokens file us .1 (q .past .past .cut) in
               let same : ts ≡ us = tokens-same (sym (w .cut) ∙ cut) in
               is file us m (subst (λ (x : List Token). Words file x kinds values places) same w) (q .grammar)
+              (sizes-of us m (q .grammar) (p .past .past .counts) .tries)
               (sizes-of us m (q .grammar) (p .past .past .counts) .methods) bounded laid;
           untold = λ a b. absurd (passes (l .answer .number) 7 high (omega (arith, number-is)) (omega (arith, number-is)));
         }
@@ -169,6 +173,36 @@ module _ {file : List ℕ} {l : Loaded} {kept holds after : List ℕ} (loads : L
           verdict = same-verdict e;
           told = λ ts m p. is (vars m) (loads .outlined ts m p .0);
           untold = λ a b. absurd (passes (l .answer .number) 7 high
+              (omega (arith, ap (λ (x : code.Answer). x .number) e))
+              (omega (arith, ap (λ (x : code.Answer). x .number) e)));
+        }
+
+  module _ (r : Fates) (e : r .answer ≡ l .answer) where
+    pub fates-untold : eqb (l .answer .number) 0 || leb 9 (l .answer .number) ≡ false → NoFates r → FatesTold file r
+    fates-untold low none =
+        let (a, b) = stops (l .answer .number) 8 low in
+        record {
+          verdict = same-verdict e;
+          told = λ ts m p on. absurd (past-8 (l .answer) (loads .verdict) p on a b);
+          untold = λ _ _. none;
+        }
+
+    -- the fields are those of the choice
+    pub fates-told : eqb (l .answer .number) 0 || leb 9 (l .answer .number) ≡ true → r .known ≡ true
+        → r .tries ≡ l .tries → r .chosen ≡ l .choice .chosen
+        → ((i : ℕ) → fateSlot r i ≡ slotOf (l .choice) i) → FatesTold file r
+    fates-told high known tries chosen slots =
+        record {
+          verdict = same-verdict e;
+          told = λ ts m p on.
+              let c = loads .rows ts m p on .1 in
+              record {
+                known = known;
+                tries = tries ∙ c .counted;
+                chosen = chosen ∙ c .choice .bits;
+                each-fate = λ i low. slots i ∙ c .choice .slots i low;
+              };
+          untold = λ a b. absurd (passes (l .answer .number) 8 high
               (omega (arith, ap (λ (x : code.Answer). x .number) e))
               (omega (arith, ap (λ (x : code.Answer). x .number) e)));
         }

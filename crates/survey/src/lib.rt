@@ -113,7 +113,7 @@ pub fn number_of(file: &[u8], values: [u16; syntax::VARIABLES]) -> Numbered
 }
 
 // What becomes of each try, of a file that is accepted or refused with 9.
-pub fn fates(file: &[u8]) -> Fates
+pub fn fates_of(file: &[u8]) -> Fates
     ensures { λ r. ⌜ FatesTold (now (file .entry)) r ⌝ }
 {
     let mut kept = [0u8; machine::STATES];

@@ -8,8 +8,11 @@ use Rattle.choice.proofs.undropped.Tie as tie
 
 returns : tie.Need-returns
 unfolding slotOf
-returns c = (refl, λ u low.
-    same-slot refl (getD-replicate 16 u 0 0 low) (getD-replicate 16 u 0 0 low) (getD-replicate 16 u 0 0 low))
+returns c = (
+  refl,
+  λ u low.
+      same-slot refl (getD-replicate 16 u 0 0 low) (getD-replicate 16 u 0 0 low) (getD-replicate 16 u 0 0 low),
+)
 
 pub undropped-spec : {M : Type 1} → statement M
 undropped-spec = tie.close (tie.spec returns)

@@ -16,7 +16,7 @@ returns-2 : tie.Need-returns-2
 returns-2 c =
     let w = c .before .before .before .before .before in
     let e = w .before .before .before in
-    let i = e .before .before .before .before .before in
+    let i = e .before .before .before .before .before .before in
     let loads = i .before .before .before .before .before .before .load .ensures .0 (long 4096 0) (long 4096 0)
     (long 65536 0) in
     too-short loads (omega (arith, i .if1 .left)) _ (e .entries-of .ensures _ loads) (w .write-table .ensures) _
@@ -26,7 +26,7 @@ returns-3 : tie.Need-returns-3
 returns-3 c =
     let w = c .before .before .before .before .before in
     let e = w .before .before .before in
-    let i = e .before .before .before .before .before in
+    let i = e .before .before .before .before .before .before in
     let loads = i .before .before .before .before .before .before .load .ensures .0 (long 4096 0) (long 4096 0)
     (long 65536 0) in
     placed loads (omega (arith, i .if1 .left)) _ (e .entries-of .ensures _ loads) (w .write-table .ensures) _
