@@ -1,7 +1,7 @@
 // Replays the second program's cases from one data file, and prints for each what placer and runner print, and of its
 // points from the start values both answers, how many there are, and a checksum of the buffer; then the same with a buffer
-// that is one byte too short; then what becomes of its tries. A case is the length of a monitor file and of a trace, four bytes each, the lowest first, and
-// then both.
+// that is one byte too short; then what becomes of its tries. A case is the length of a monitor file and of a trace, four
+// bytes each, the lowest first, and then both.
 use survey::Fates;
 ghost use Prim.Native.Nat.{_<_};
 ghost use Rattle.io.specs.Counts.{Counts};
@@ -57,7 +57,7 @@ fn read_part(fd: i32, into: &mut [u8], n: usize) -> usize
     io::read_full(fd, &mut into[..n])
 }
 
-// One case, as placer and runner print it: false where its lengths fit no buffer.
+// One case, read from the data: false where its lengths fit no buffer.
 fn replay(fd: i32) -> bool {
     let n = read_length(fd);
     let k = read_length(fd);
@@ -68,30 +68,26 @@ fn replay(fd: i32) -> bool {
     let mut trace = [0u8; output::TRACE_BYTES];
     let file_end = read_part(fd, &mut file, n);
     let trace_end = read_part(fd, &mut trace, k);
-    let mut out = [0u8; output::OUTPUT_BYTES];
-    let table = output::placer_lines(&file[..file_end], &mut out);
-    io::write_all(1, &out[..table]);
-    let runs = output::runner_lines(&file[..file_end], &trace[..trace_end], &mut out);
-    io::write_all(1, &out[..runs]);
-    let mut buffer = [UNWRITTEN; BUFFER];
-    let room = (trace_end / trace::FRAME + 1) * points::POINT;
-    show_points(
-        &file[..file_end],
-        &trace[..trace_end],
-        &mut buffer,
-        room + points::POINT,
-        true,
-    );
-    let mut short = [UNWRITTEN; BUFFER];
-    show_points(
-        &file[..file_end],
-        &trace[..trace_end],
-        &mut short,
-        room - 1,
-        false,
-    );
-    show_tries(&file[..file_end]);
+    show_case(&file[..file_end], &trace[..trace_end]);
     true
+}
+
+// The lines of one case: placer's and runner's, its points, and its tries.
+fn show_case(file: &[u8], trace: &[u8]) {
+    let mut out = [0u8; output::OUTPUT_BYTES];
+    let table = output::placer_lines(file, &mut out);
+    io::write_all(1, &out[..table]);
+    let runs = output::runner_lines(file, trace, &mut out);
+    io::write_all(1, &out[..runs]);
+    if output::TRACE_BYTES < trace.len() {
+        return;
+    }
+    let room = (trace.len() / trace::FRAME + 1) * points::POINT;
+    let mut buffer = [UNWRITTEN; BUFFER];
+    show_points(file, trace, &mut buffer, room + points::POINT, true);
+    let mut short = [UNWRITTEN; BUFFER];
+    show_points(file, trace, &mut short, room - 1, false);
+    show_tries(file);
 }
 
 // The points of a case in so many bytes of a buffer.
@@ -123,8 +119,10 @@ fn show_tries(file: &[u8]) {
         show(answer.number, answer.first, answer.second);
     }
     let mut i: usize = 0;
-    while i < told.tries && i < syntax::TRIES {
-        show_fate(told, i);
+    while i < syntax::TRIES {
+        if i < told.tries {
+            show_fate(told, i);
+        }
         i += 1;
     }
 }

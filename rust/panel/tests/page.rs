@@ -197,6 +197,16 @@ fn tries_have_their_marks_and_steps() {
         let items: Vec<&str> = part.split("<li class=").skip(1).collect();
         assert_eq!(items.len(), fates.len(), "{name}");
         for (k, (item, fate)) in items.iter().zip(&fates).enumerate() {
+            // In the file its condition is marked too, from its first line on.
+            let (class, mark, says) = match fate {
+                damsonyet::Fate::Chosen => ("yes", '✓', "chosen"),
+                damsonyet::Fate::FalseAtStart => ("no", '✗', "false at the start values"),
+                damsonyet::Fate::Broken { .. } => ("no", '✗', "broken"),
+            };
+            let text = String::from_utf8_lossy(&file[sheet.outline.tries[k].clone()]).trim().replace('\t', " ");
+            let text = escaped(text.lines().next().unwrap());
+            let marked_as = format!("<span class=\"try {class}\" data-tag=\"t{k:02X} {mark}\" title=\"try {k:02X}, {says}\">{text}</span>");
+            assert!(html.contains(&marked_as), "{name}: {marked_as}");
             let condition = format!("<span class=\"number\">t{k:02X}</span> <code>{}</code>", escaped(&sheet.try_text(k)));
             assert!(item.contains(&condition), "{name}: {condition} in {item}");
             let shown: String =

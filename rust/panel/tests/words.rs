@@ -107,6 +107,7 @@ fn slips_in_files() {
         slip(&[b' '; 8193], 1, "", "more than 8,192 bytes");
         let many = |part: &str, n: usize| (0..n).map(|k| part.replace('$', &k.to_string())).collect::<String>();
         slip(&changed("keep", &(many("var v$ = 0 in 0..0; ", 6) + "keep")), 5, "var v5", "7th variable");
+        slip(&changed("keep true;", &("keep true; ".to_string() + &many("try full < $; ", 17))), 5, "try full < 16", "17th try");
         slip(&changed("method get", &(many("method m$ { waituntil (true) { } } ", 7) + "method get")), 5, "method get", "9th method");
         slip(
             &changed("full := 1; }", &("full := 1; }".to_string() + &many(" waituntil (true) { }", 15))),
