@@ -11,3 +11,4 @@ pub mod Cases09
 pub mod Cases10
 pub mod Cases11
 pub mod Points
+pub mod Tries

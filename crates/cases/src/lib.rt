@@ -1,1 +1,1 @@
-// Theorems only: see specs/.
+// Theorems only: see proofs/.

@@ -22,6 +22,8 @@ use Rattle.meaning.specs.Decide.Choice.{fateFrom, fateOf}
 use Rattle.meaning.specs.Decide.Check.{broken, checkMeaning, checkTokens, check}
 use Rattle.meaning.specs.Lines.{hex4, refusalLine, placeByte, valueDigits, placeDigits, recordLine, runLine}
 use Rattle.meaning.specs.Lines.{machineLine, placer, runner}
+use Rattle.meaning.specs.Answer.{answer, accepted, refused}
+use Rattle.meaning.specs.Choice.{Fate, chosen, false-at-start, broken as broken-by}
 use Rattle.meaning.specs.Model.{sameLexeme, sameLexemes, sameGuard, placeIn, guardsOf, beginsIn, goesOnIn}
 use Rattle.meaning.specs.Model.{noGuard, noRegion, numberAfter, regions, guards, region, guardOf, holds, kept}
 use Rattle.meaning.specs.Model.{after, follows, model}
@@ -51,23 +53,38 @@ use Rattle.syntax.specs.Tree.{spellVar, spellTry, spell, InGrammar, Viable}
 use Rattle.meaning.specs.Points.{valueBytes, placeBytes, setBytes, sharedBytes, noticeBytes, noticesAt, plainPart}
 use Rattle.meaning.specs.Points.{tablePart, pointAt, stopAnswer, pointCount, listPoints, framePoints, pointsFrom}
 use Rattle.meaning.specs.Points.{pointRoom, pointsOf}
-use Prim.Native.Nat.{ℕ}
-use lib.ListN.{replicate}
+use lib.ListN.{length, replicate}
 use mathlib.Core.List.{List, _∷_, _++_}
 
--- What is run: `placer` on a file, `runner` on a file and a trace, one behind the other, or the points of a trace from a
--- state in a buffer of so many bytes
+-- What is run: `placer` on a file, `runner` on a file and a trace, one behind the other, the points of a trace from a
+-- state in a buffer of so many bytes, or the choice among a file's tries
 pub data Case : Type 0 where
   placing : List ℕ → Case
   running-of : List ℕ → List ℕ → Case
   whole : List ℕ → List ℕ → Case
   points-of : List ℕ → List ℕ → ℕ → ℕ → Case
+  tries-of : List ℕ → Case
+
+-- what becomes of a try, and of all tries of an accepted file behind the chosen bits and their count, in lines of ten digits
+unfoldable pub fateLine : Fate → List ℕ
+fateLine chosen = refusalLine (answer 0 0 0)
+fateLine false-at-start = refusalLine (answer 255 0 0)
+fateLine (broken-by p k n) = refusalLine (answer p k n)
+
+unfoldable pub triesLines : List ℕ → List ℕ
+triesLines file =
+    elim (check file) [
+      | accepted m ↦ refusalLine (answer 0 (chosenBits m) (length (m .tries)))
+          ++ forEach (length (m .tries)) 0 (λ i. fateLine (fateOf m i))
+      | refused a ↦ refusalLine a
+    ]
 
 unfoldable pub printing : Case → List ℕ
-unfolding any threads put without isDue isWaiting ahead beginWait leave allIdle onGuard waitsOn next firstNotified own plainTold mayBeAt may ran waited rechecked allowed act judged step run runs someMove everyMove stands unconditional broadcast entryOf acts entryTold tableTold written place toldBy eachFrom bits ones recordOf runningOf runList runFrames runFrom running opens closes tally crowded placeOf leftOf pastLimit member misnamed placesOf inByte goodRange illRanged regionsOf keptAfter breaks firstFrom firstWhere broken noTry endsFalse isNone inSet tryAt eachTry allHold binds breaksTry firstBreak pass passes trueAtStart chosenTries chosenBits fateFrom fateOf checkMeaning checkTokens check hex4 refusalLine placeByte valueDigits placeDigits recordLine runLine machineLine placer runner valueBytes placeBytes setBytes sharedBytes noticeBytes noticesAt plainPart tablePart pointAt stopAnswer pointCount listPoints framePoints pointsFrom pointRoom pointsOf sameLexeme sameLexemes sameGuard placeIn guardsOf beginsIn goesOnIn noGuard noRegion numberAfter regions guards region guardOf holds kept after follows model hexDigit hex2 hexBool entryLine forEach tableOf size count stateAt numberOf starts linesFrom isHex hexValue allHex pairAt isFrame frameOf prepend framesFrom framesOf intOf negative less compares valueOf inRange assigned atomValue joined termsValue exprValue truth conjTruth simpleTruth andThen runBlock runStmt outcome keptAt bytes between blank letter digit wordByte leading decimal sameBytes startsWith onwards _>>=_ give begins rest choose expect readName readNumber readMany readSome readInt readAtom readSign readTerm isSign readExpr readComparison readCond readConj readSimple readBlock readStmt readRegion readMethod readVar readTry atEnd readMonitor read keywords marks wordOf atMost markOf scan token-prepend tokensFrom tokenize lexemes markNumber keywordNumber isMark isKey isName spellInt spellAtom signMark spellTerm each spellExpr comparisonMark spellConstant spellCond spellConj spellSimple spellBlock spellStmt spellRegion spellMethod spellVar spellTry spell InGrammar Viable
+unfolding any threads put without isDue isWaiting ahead beginWait leave allIdle onGuard waitsOn next firstNotified own plainTold mayBeAt may ran waited rechecked allowed act judged step run runs someMove everyMove stands unconditional broadcast entryOf acts entryTold tableTold written place toldBy eachFrom bits ones recordOf runningOf runList runFrames runFrom running opens closes tally crowded placeOf leftOf pastLimit member misnamed placesOf inByte goodRange illRanged regionsOf keptAfter breaks firstFrom firstWhere broken noTry endsFalse isNone inSet tryAt eachTry allHold binds breaksTry firstBreak pass passes trueAtStart chosenTries chosenBits fateFrom fateOf fateLine triesLines checkMeaning checkTokens check hex4 refusalLine placeByte valueDigits placeDigits recordLine runLine machineLine placer runner valueBytes placeBytes setBytes sharedBytes noticeBytes noticesAt plainPart tablePart pointAt stopAnswer pointCount listPoints framePoints pointsFrom pointRoom pointsOf sameLexeme sameLexemes sameGuard placeIn guardsOf beginsIn goesOnIn noGuard noRegion numberAfter regions guards region guardOf holds kept after follows model hexDigit hex2 hexBool entryLine forEach tableOf size count stateAt numberOf starts linesFrom isHex hexValue allHex pairAt isFrame frameOf prepend framesFrom framesOf intOf negative less compares valueOf inRange assigned atomValue joined termsValue exprValue truth conjTruth simpleTruth andThen runBlock runStmt outcome keptAt bytes between blank letter digit wordByte leading decimal sameBytes startsWith onwards _>>=_ give begins rest choose expect readName readNumber readMany readSome readInt readAtom readSign readTerm isSign readExpr readComparison readCond readConj readSimple readBlock readStmt readRegion readMethod readVar readTry atEnd readMonitor read keywords marks wordOf atMost markOf scan token-prepend tokensFrom tokenize lexemes markNumber keywordNumber isMark isKey isName spellInt spellAtom signMark spellTerm each spellExpr comparisonMark spellConstant spellCond spellConj spellSimple spellBlock spellStmt spellRegion spellMethod spellVar spellTry spell InGrammar Viable
 printing (placing file) = placer file
 printing (running-of file trace) = runner file trace
 printing (whole file trace) = placer file ++ runner file trace
 printing (points-of file trace s room) =
     let p = pointsOf file trace s (replicate room 165) in
     refusalLine (p .plain) ++ (refusalLine (p .table) ++ (p .count ∷ p .buffer))
+printing (tries-of file) = triesLines file
