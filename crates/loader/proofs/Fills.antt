@@ -1,7 +1,7 @@
 -- What filling the slices says, by its answer; and where guards, tries and bodies stand, as the tables ask it.
 use Prim.Native.Nat.{ℕ, _%_, _≤_, _<_}
 use native.Mathlib.Omega.{arith}
-use mathlib.Core.Path.{_≡_, refl, sym, ap, _∙_}
+use mathlib.Core.Path.{_≡_, refl, sym, ap, subst, _∙_}
 use mathlib.Core.Bool.{Bool, true, false, not, _&&_}
 use mathlib.Core.List.{List, _∷_, _++_}
 use mathlib.Core.Option.{Option, none, some}
@@ -31,6 +31,7 @@ use Rattle.states.specs.declared.Broken.the-variants.{Never, At}
 use Rattle.choice.specs.Slots.{lacks}
 use Rattle.choice.specs.Chosen.{Chooses}
 use Rattle.choice.proofs.Passing.{all-there, chosen-set}
+use Rattle.answers.specs.declared.Answer.{Answer}
 use Rattle.loader.proofs.GuardsAt.{guards-stand}
 use Rattle.loader.proofs.Counts.{ends-kept}
 use Rattle.loader.specs.Filling.{Filling, Settles, Filled, Rows}
@@ -106,6 +107,12 @@ module _ {m : Monitor} {ls : List Lexeme} {kinds values : List ℕ} {b : Bounds}
   pub numbers-of : GuardNumbers m (l .«guard_of»)
   unfolding GuardNumbers
   numbers-of = f .laid .guard-numbers
+
+-- an answer handed on
+pub said : {a b : Answer} {n k i : ℕ} → a ≡ b → (b .number ≡ n) × (b .first ≡ k) × (b .second ≡ i)
+    → (a .number ≡ n) × (a .first ≡ k) × (a .second ≡ i)
+said {n = n} {k} {i} e t =
+    subst (λ (x : Answer). (x .number ≡ n) × (x .first ≡ k) × (x .second ≡ i)) (sym e) t
 
 -- a test that fails
 pub failed : {b : Bool} → not b ≡ false → b ≡ true

@@ -118,6 +118,16 @@ fn guards_at(layout: Layout) -> [u16; machine::REGIONS]
     ats
 }
 
+// An answer beside a choice.
+fn with_choice(answer: Answer, choice: Choice) -> Settled
+    ensures { λ r. ⌜ (r .answer ≡ answer) × (r .choice ≡ choice) ⌝ }
+{
+    Settled {
+        answer: answer,
+        choice: choice,
+    }
+}
+
 // 9, and the choice before it: the truths and the outcomes of the bodies, into lent slices. Where there are no tries,
 // `tried` is not written.
 fn fill_states(
@@ -183,14 +193,8 @@ fn fill_states(
     );
     choice::strengthen(kept, tried, choice.chosen, bounds.states);
     match states::first_broken(bounds, numbers, regions, kept, holds, after) {
-        Broken::At(r, s) => Settled {
-            answer: answers::say(9, r, s),
-            choice: choice,
-        },
-        Broken::Never => Settled {
-            answer: answers::say(0, 0, 0),
-            choice: choice,
-        },
+        Broken::At(r, s) => with_choice(answers::say(9, r, s), choice),
+        Broken::Never => with_choice(answers::say(0, 0, 0), choice),
     }
 }
 
@@ -217,10 +221,7 @@ fn fill(
     let starts = bounds.starts;
     let keep = layout.keep;
     if !states::holds_at(kinds, values, starts, keep) {
-        return Settled {
-            answer: answers::say(8, place, 0),
-            choice: choice::undropped(0),
-        };
+        return with_choice(answers::say(8, place, 0), choice::undropped(0));
     }
     if tries.count == 0 {
         let mut none = [0u16; 1];

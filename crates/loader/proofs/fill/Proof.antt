@@ -16,7 +16,7 @@ use Rattle.meaning.specs.Model.{vars}
 use Rattle.loader.specs.Filling.{Filling, AsLong}
 use Rattle.loader.specs.Loading.{Leaves}
 use Rattle.loader.proofs.Loads.{left-all}
-use Rattle.loader.proofs.Fills.{keeping, failed, filled-8, filled-on}
+use Rattle.loader.proofs.Fills.{keeping, said, failed, filled-8, filled-on}
 use Rattle.loader.proofs.fill.Statement.{statement}
 use Rattle.loader.proofs.fill.Tie as tie
 
@@ -36,9 +36,10 @@ holds-at-start c {m} {ls} f =
 -- 8 is judged before anything is filled
 returns : tie.Need-returns
 returns c =
-    let t = c .before .before in (
+    let t = c .before .before .before in (
       λ m ls f l₁ l₂ l₃.
-          filled-8 m _ _ _ _ _ (holds-at-start (t .before) f) (not-true (t .if1 .taken)) (c .before .say .ensures),
+          filled-8 m _ _ _ _ _ (holds-at-start (t .before) f) (not-true (t .if1 .taken))
+          (said (c .with-choice .ensures .0) (c .before .before .say .ensures)),
       left-all _ _ _ _,
     )
 
@@ -77,6 +78,6 @@ returns-3 c =
 pub fill-spec : {M : Type 1} → statement M
 fill-spec =
     tie.close
-    (tie.spec (λ c κs. search needs) (λ c κs. search needs) (λ c κs. search needs) returns (λ c. search needs)
+    (tie.spec (λ c κs. search needs) (λ c κs. search needs) (λ c κs. search needs) (λ c κs. search needs) returns (λ c. search needs)
     (λ c κs. search needs) (λ c. search needs) (λ c. search needs) (λ c. search needs) returns-2 (λ c. search needs)
     (λ c κs. search needs) (λ c. search needs) (λ c. search needs) (λ c. search needs) returns-3)

@@ -2,7 +2,7 @@
 -- kept condition, and 9 by what `first_broken` answers.
 use Prim.Native.Nat.{ℕ, _≤_}
 use native.Mathlib.Omega.{arith}
-use mathlib.Core.Path.{_≡_, sym, ap, _∙_}
+use mathlib.Core.Path.{_≡_, sym, subst}
 use mathlib.Core.Logic.{_⊎_, inl, inr}
 use mathlib.Core.List.{List}
 use lib.ListN.{length}
@@ -19,7 +19,7 @@ use Rattle.states.specs.Rows.{TruthRow, TruthSets, KeptAll, HoldsAll, Outcomes,
 use Rattle.choice.specs.Chosen.{Tried, Chooses}
 use Rattle.loader.specs.Filling.{Filling, Rows, AsLong}
 use Rattle.loader.proofs.Fills.{keeping, guarding, trying, bodies-of, numbers-of, holds-of, outcomes-kept}
-use Rattle.loader.proofs.Fills.{kept-strong, settled-9, settled-0}
+use Rattle.loader.proofs.Fills.{kept-strong, said, settled-9, settled-0}
 use Rattle.loader.proofs.fill_states.Statement.{statement}
 use Rattle.loader.proofs.fill_states.Tie as tie
 
@@ -150,20 +150,24 @@ tried-long c = omega (arith, holds-at c .fill-holds .kept .1 .1 .1 .1 .1 .1 .1 .
 
 returns : tie.Need-returns
 returns c =
-    let g = c .before .before .before .before in (
+    let g = c .before .before .before .before .before in
+    let w = c .with-choice .ensures in
+    let nine = said (w .0) (c .before .say .ensures) in (
       λ m ls f l₁ l₂ l₃ l₄.
-          settled-9 m _ _ _ _ (broken-as g f l₁ l₂ l₃ l₄) (full g f l₁ l₂ l₃ l₄) (chooses g f l₁ l₂ l₃ l₄) _ _
-          (c .before .before .r .given .1) (c .say .ensures),
-      (inl (c .say .ensures .0), long g),
+          settled-9 m _ _ _ _ (broken-as g f l₁ l₂ l₃ l₄) (full g f l₁ l₂ l₃ l₄)
+          (subst (Chooses m) (sym (w .1)) (chooses g f l₁ l₂ l₃ l₄)) _ _ (c .before .before .before .r .given .1) nine,
+      (inl (nine .0), long g),
     )
 
 returns-2 : tie.Need-returns-2
 returns-2 c =
-    let g = c .before .before .before in (
+    let g = c .before .before .before .before in
+    let w = c .with-choice2 .ensures in
+    let zero = said (w .0) (c .before .say2 .ensures) in (
       λ m ls f l₁ l₂ l₃ l₄.
-          settled-0 m _ _ _ _ (broken-as g f l₁ l₂ l₃ l₄) (full g f l₁ l₂ l₃ l₄) (chooses g f l₁ l₂ l₃ l₄)
-          (c .before .enum-told .given .1) (c .say2 .ensures),
-      (inr (c .say2 .ensures .0), long g),
+          settled-0 m _ _ _ _ (broken-as g f l₁ l₂ l₃ l₄) (full g f l₁ l₂ l₃ l₄)
+          (subst (Chooses m) (sym (w .1)) (chooses g f l₁ l₂ l₃ l₄)) (c .before .before .enum-told .given .1) zero,
+      (inr (zero .0), long g),
     )
 
 pub fill-states-spec : {M : Type 1} → statement M
@@ -171,6 +175,7 @@ fill-states-spec =
     tie.close
     (tie.spec (λ c κs. search needs) (λ c κs. search needs) (λ c κs. search needs) (λ c κs. search needs)
     (λ c κs. search needs) (λ c κs. search needs) (λ c κs. search needs) (λ c κs. search needs) (λ c. search needs)
-    (λ c κs. search needs) (λ c. search needs) (λ c κs. search needs) (λ c. long (c .before .before .before .before) .0) (λ c. long (c .before .before .before .before) .1)
-    (λ c. long (c .before .before .before .before) .2) (λ c. tried-long (c .before .before .before .before)) returns (λ c. long (c .before .before .before) .0) (λ c. long (c .before .before .before) .1)
-    (λ c. long (c .before .before .before) .2) (λ c. tried-long (c .before .before .before)) returns-2)
+    (λ c κs. search needs) (λ c κs. search needs) (λ c. search needs) (λ c κs. search needs) (λ c κs. search needs)
+    (λ c. long (c .before .before .before .before .before) .0) (λ c. long (c .before .before .before .before .before) .1)
+    (λ c. long (c .before .before .before .before .before) .2) (λ c. tried-long (c .before .before .before .before .before)) returns (λ c. long (c .before .before .before .before) .0) (λ c. long (c .before .before .before .before) .1)
+    (λ c. long (c .before .before .before .before) .2) (λ c. tried-long (c .before .before .before .before)) returns-2)
