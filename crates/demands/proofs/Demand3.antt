@@ -7,7 +7,7 @@ use mathlib.Core.Path.{_≡_, refl, sym, subst, ap, _∙_}
 use mathlib.Core.Bool.{Bool, true, false}
 use mathlib.Core.Logic.{_⊎_, inl, inr, ⊎-elim, _↔_}
 use mathlib.Core.List.{List, _∷_, []}
-use lib.ListN.{getD, getElem?}
+use lib.ListN.{getElem?}
 use Rattle.syntax.specs.Tree.{Monitor}
 use Rattle.syntax.proofs.Grammar.{one-cond}
 use Rattle.machine.specs.Monitor.{Frame, Config, Run, stopped, threads, Place, idle, waiting, Threads, SameThreads}
@@ -24,6 +24,7 @@ use Rattle.meaning.specs.Decide.Check.{check}
 use Rattle.meaning.specs.Model.{vars, kept, model, guardOf, holds}
 use Rattle.meaning.specs.Calls.{Machine, plain-machine, table-machine, Startable}
 use Rattle.meaning.specs.Bits.{eachFrom, bits}
+use Rattle.meaning.proofs.Each.{each-first}
 use Rattle.meaning.specs.Calls.{Record, threadsOf, recordOf, Running, ran, not-run}
 use Rattle.meaning.specs.Decide.Calls.{place, toldBy, runningOf, runList, running}
 use Rattle.meaning.specs.Accepted.{Accepted}
@@ -146,12 +147,6 @@ module _ (file bytes : List ℕ) (s : ℕ) where
 
 -- Lists of all threads
 
-pub each-read : {A : Type 0} (n t : ℕ) (f : ℕ → A) (d : A) (u : ℕ) → u < n → getD (eachFrom n t f) u d ≡ f (t + u)
-unfolding eachFrom
-each-read zero t f d u h = absurd (omega arith)
-each-read (suc n) t f d zero h = ap f (omega arith)
-each-read (suc n) t f d (suc u) h = each-read n (t + 1) f d u (omega arith) ∙ ap f (omega arith)
-
 each-at : {A : Type 0} (n t : ℕ) (f : ℕ → A) (u : ℕ) → u < n → getElem? (eachFrom n t f) u ≡ some (f (t + u))
 unfolding eachFrom
 each-at zero t f u h = absurd (omega arith)
@@ -208,7 +203,7 @@ module _ (m : Monitor) (c : Config) where
   record-threads : SameThreads (threadsOf (recordOf m c)) (c .threads)
   unfolding recordOf
   record-threads = record {
-    same-place = λ u h. each-read threads 0 (c .threads .place) idle u h ∙ ap (c .threads .place) (omega arith);
+    same-place = λ u h. each-first threads (c .threads .place) u idle h;
   }
 
   is-next : (u r : ℕ) → FirstWaiter m (recordOf m c) u r

@@ -43,12 +43,6 @@ module _ (ts : List Token) (m : Monitor) (spelt : spell m ≡ lexemes ts) where
   vars-end = (key k-keep, behindKeep m, refl, λ e. different (cc))
 
   module _ (k : ℕ) (behind : drop k (lexemes ts) ≡ key k-keep ∷ behindKeep m) where
-    -- so the token behind the variables is `keep`, with the kept condition behind it
-    pub keep-stands : (us : List Lexeme)
-        × (drop k (lexemes ts) ≡ key k-keep ∷ (spellCond (m .keep) ++ (mark semicolon ∷ us)))
-    unfolding behindKeep
-    keep-stands = (_, behind)
-
     keep-counted : k ≡ length (upTo m (all (m .vars)))
     unfolding each
     keep-counted =

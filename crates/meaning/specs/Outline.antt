@@ -56,7 +56,7 @@ upToRegion m methods x before =
     upToMethod m methods ++ (key k-method ∷ name (x .title) ∷ mark lbrace ∷ each spellRegion before)
 
 module _ (ts : List Token) (m : Monitor) where
-  -- the monitor's name (R 16.5), and the kept condition: what stands between `keep` and its semicolon (R 16.7)
+  -- the monitor's name (R 16.5), and the condition behind `keep`: what stands between `keep` and its semicolon (R 16.7)
   unfoldable pub TitleAt : ℕ → ℕ → Type 0
   TitleAt = NameAt ts (key k-monitor ∷ []) (m .title)
 

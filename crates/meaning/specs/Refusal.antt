@@ -108,7 +108,7 @@ pub data Refusal (file : List ℕ) : Answer → Type 0 where
   ends-early :
       {ts : List Token} → Past3 file ts → Viable (lexemes ts) → (InGrammar (lexemes ts) → ⊥)
       → Refusal file (answer 4 (length file) 0)
-  -- "first `var` past 6, `method` past 8 or `waituntil` past 16" (R 6.18)
+  -- "first `var` past 6, `method` past 8 or `waituntil` past 16", "first `try` past sixteen" (R 6.18)
   past-limit : {ts : List Token} {m : Monitor} {k : ℕ} → Past4 file ts m → FirstOffends PastLimit ts k
       → Refusal file (answer 5 k 0)
   -- "first word that declares a variable or method twice among its kind, or uses a variable not declared" (R 6.19)

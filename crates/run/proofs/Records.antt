@@ -38,8 +38,7 @@ use Rattle.stepper.specs.declared.Thread.{Thread}
 use Rattle.stepper.specs.declared.Run as code
 use Rattle.stepper.specs.Shown.{noticesIn, Shows, placeOf, placesOf, threadsOf, idleThread, toldOn}
 use Rattle.demands.proofs.Demand2.{run-reached, run-stops}
-use Rattle.demands.proofs.Demand3.{each-read}
-use Rattle.meaning.proofs.Each.{each-length}
+use Rattle.meaning.proofs.Each.{each-length, each-first}
 use Rattle.run.specs.Way.{runOf}
 use Rattle.run.specs.Ended.{Admits, not-kept, no-frame, all-frames, EndsAs, StopsAs, stopIn}
 use Rattle.run.specs.declared.frames.Ended.{Ended}
@@ -61,7 +60,7 @@ places-shown ts c l h =
     (λ i b.
     let low : i < 16 = omega arith in
     List·getD-map f ts i idleThread ∙ h .same-place i low
-    ∙ ap (c .threads .place) (omega arith) ∙ sym (each-read 16 0 (c .threads .place) (f idleThread) i low))
+    ∙ sym (each-first 16 (c .threads .place) i (f idleThread) low))
 
 -- a number below 2 ^ n whose members are given thread by thread is the bits of the list, and has as many ones
 pub set-shown : (n t s : ℕ) (f : ℕ → Bool) → s < 2 ^ n → ((u : ℕ) → u < n → member s u ≡ f (t + u))

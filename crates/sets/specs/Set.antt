@@ -1,4 +1,4 @@
--- A set of sixteen threads as a number: thread t is bit t.
+-- A set of numbers below sixteen (threads, guards, tries) as a number: t is bit t.
 use Prim.Native.Nat.{ℕ, zero, suc, _/_, _%_, _^_}
 use mathlib.Core.Bool.{Bool, true, false}
 use lib.Dec.{eqb}

@@ -88,7 +88,7 @@ pub record Var : Type 0 where
   pub low : Int
   pub high : Int
 
--- the parts in their order (R 2.3)
+-- the parts in their order: "After `keep` a file may list up to sixteen `try` conditions" (R 2.3, 2.17)
 pub record Monitor : Type 0 where
   pub title : List ℕ
   pub vars : Some Var
