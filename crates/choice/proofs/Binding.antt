@@ -7,8 +7,7 @@ use mathlib.Core.List.{List}
 use lib.ListN.{length, getD, set}
 use lib.Seq.{getD-set-same}
 use lib.Dec.{eqb, ltb}
-use borrow.Author.Tests.{ltb-true, lt-ltb}
-use Rattle.logic.proofs.Bools.{both, and, is-false, clash, true-not, not-true, split, split-eq}
+use Rattle.logic.proofs.Bools.{both, is-false, clash, not-true}
 use Rattle.sets.specs.Set.{member}
 use Rattle.choice.specs.Slots.{lacks, bindsBy, breaksRow, breaksBy, Slot, markSlot, markIf, rowSlot, rowsSlot}
 

@@ -1,13 +1,11 @@
 -- A set of sixteen is 0 exactly where it has no member; so whether one lacks a member of another is asked by a difference.
 use Prim.Native.Nat.{ℕ, _^_, _<_}
 use native.Mathlib.Omega.{arith}
-use mathlib.Core.Path.{_≡_, refl, sym, ap, _∙_}
-use mathlib.Core.Bool.{Bool, true, false, not, _&&_}
-use lib.Dec.{eqb}
-use borrow.Author.Tests.{eq-eqb, eqb-true}
+use mathlib.Core.Path.{_≡_, sym, ap, _∙_}
+use mathlib.Core.Bool.{true, false, not, _&&_}
 use Rattle.logic.specs.Tests.{any}
 use Rattle.logic.proofs.Any.{any-intro, any-false}
-use Rattle.logic.proofs.Bools.{split, clash, is-false, tests-equal, true-not, not-true}
+use Rattle.logic.proofs.Bools.{split, clash, is-false}
 use Rattle.sets.specs.Set.{member}
 use Rattle.sets.proofs.SetLaws.{same-members, member-none, member-within}
 use Rattle.choice.specs.Slots.{lacks}

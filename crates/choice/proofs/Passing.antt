@@ -1,26 +1,24 @@
 -- A pass over the slices is a pass of the choice: the tests by the slices are those of the file, and a slot is marked with
 -- what breaks its try first.
-use Prim.Native.Nat.{ℕ, zero, suc, _+_, _*_, _≤_, _<_}
+use Prim.Native.Nat.{ℕ, _+_, _*_, _≤_, _<_}
 use native.Mathlib.Omega.{arith}
-use mathlib.Core.Path.{_≡_, refl, sym, ap, subst, _∙_}
+use mathlib.Core.Path.{_≡_, refl, sym, ap, _∙_}
 use mathlib.Core.Bool.{Bool, true, false, not, _&&_}
-use mathlib.Core.Logic.{_⊎_, inl, inr, ⊎-elim}
 use mathlib.Core.List.{List}
 use mathlib.Core.Option.{Option, none, some, Option·some-injective}
 use lib.ListN.{length, getD}
-use lib.Dec.{eqb, ltb}
+use lib.Dec.{ltb}
 use lib.IntN.{ℤ}
 use borrow.Author.Tests.{eqb-true, eq-eqb, ltb-true, ltb-false, lt-ltb}
-use Rattle.logic.specs.Tests.{any, bit}
+use Rattle.logic.specs.Tests.{any}
 use Rattle.logic.proofs.Any.{any-intro, any-false, any-same}
-use Rattle.logic.proofs.Bools.{both, and, split, clash, tests-equal, is-false, not-true, true-not}
+use Rattle.logic.proofs.Bools.{both, and, split, clash, tests-equal, is-false, not-true}
 use Rattle.logic.proofs.Lists.{getD-below}
 use Rattle.sets.specs.Set.{member}
-use Rattle.syntax.specs.Tree.{Cond, Region, Var, Monitor}
+use Rattle.syntax.specs.Tree.{Cond, Region, Monitor}
 use Rattle.meaning.specs.Value.{truth}
 use Rattle.meaning.specs.State.{count, stateAt, numberOf}
-use Rattle.meaning.specs.Accepted.{GoodRanges}
-use Rattle.meaning.specs.Runs.{State, IsRegion, regionsOf}
+use Rattle.meaning.specs.Runs.{State, IsRegion}
 use Rattle.meaning.specs.Model.{vars, regions, region, noRegion, noGuard}
 use Rattle.meaning.specs.Decide.Bodies.{outcome}
 use Rattle.meaning.specs.Decide.Choice.{endsFalse, inSet, tryAt, allHold, binds, breaksTry, firstBreak, chosenTries}
@@ -29,9 +27,7 @@ use Rattle.meaning.proofs.ModelLaws.{region-numbered, element-below}
 use Rattle.meaning.proofs.StateLaws.{number-below, state-at-number}
 use Rattle.meaning.proofs.Searching.{where-none-iff, where-some-iff}
 use Rattle.meaning.proofs.Choosing.{chosen-members, chosen-below}
-use Rattle.states.specs.Rows.{TruthSets, TruthRow, Outcomes, outcomeNumber, Moved}
-use Rattle.states.specs.Promises.{Looked}
-use Rattle.states.proofs.Breaking.{bit-is}
+use Rattle.states.specs.Rows.{TruthSets, TruthRow, Outcomes, outcomeNumber}
 use Rattle.states.proofs.Lanes.{bit-true, bit-one, outcome-state}
 use Rattle.states.proofs.Regions.{looked}
 use Rattle.choice.specs.Slots.{lacks, bindsBy, breaksBy, Slot, markSlot, rowsSlot}

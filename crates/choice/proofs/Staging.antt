@@ -1,12 +1,11 @@
 -- Stage by stage: behind k passes each slot is as its try's fate says, or its try stands. From the tries at the start, by one
 -- pass to the next stage, to the choice.
-use Prim.Native.Nat.{ℕ, zero, suc, _+_, _-_, _^_, _≤_, _<_}
+use Prim.Native.Nat.{ℕ, _+_, _-_, _^_, _≤_, _<_}
 use native.Mathlib.Omega.{arith}
-use mathlib.Core.Path.{_≡_, refl, sym, ap, subst, _∙_}
-use mathlib.Core.Bool.{Bool, true, false, not, _&&_, and-false, and-true}
+use mathlib.Core.Path.{_≡_, refl, sym, ap, _∙_}
+use mathlib.Core.Bool.{Bool, true, false, _&&_, and-false, and-true}
 use mathlib.Core.Logic.{_⊎_, inl, inr, ⊎-elim}
 use mathlib.Core.List.{List}
-use mathlib.Core.Option.{Option, none, some}
 use lib.ListN.{length, getD}
 use lib.Seq.{ext-getD}
 use lib.Dec.{ltb}
@@ -19,7 +18,7 @@ use Rattle.meaning.specs.Value.{truth}
 use Rattle.meaning.specs.State.{count, stateAt, starts}
 use Rattle.meaning.specs.Model.{vars}
 use Rattle.meaning.specs.Choice.{Fate, chosen, false-at-start, broken, isChosen}
-use Rattle.meaning.specs.Decide.Choice.{inSet, tryAt, firstBreak, pass, passes, trueAtStart, chosenTries, chosenBits}
+use Rattle.meaning.specs.Decide.Choice.{inSet, tryAt, pass, passes, trueAtStart, chosenTries, chosenBits}
 use Rattle.meaning.specs.Decide.Choice.{fateOf}
 use Rattle.meaning.proofs.StateLaws.{starts-state, number-below, state-at-number}
 use Rattle.meaning.proofs.Choosing.{by-break, stays-in, falls-out, start-at, start-past, pass-within, passes-within}

@@ -1,11 +1,10 @@
 -- Where the parts of a file stand among its tokens.
 use Prim.Native.Nat.{ℕ, _<_}
 use mathlib.Core.Path.{_≡_}
-use mathlib.Core.List.{List, [], _∷_, _++_, map}
+use mathlib.Core.List.{List, [], _∷_, _++_}
 use mathlib.Core.Option.{some}
 use lib.ListN.{length, getD, drop, getElem?}
 use Rattle.syntax.specs.Token.{Lexeme, key, mark, lbrace, rbrace, rparen, semicolon, k-keep}
-use Rattle.syntax.specs.Held.Kind.{kindOf}
 use Rattle.syntax.specs.Tree.{Monitor, Region, Block, spellCond, spellBlock, spellMethod, each, all}
 use Rattle.logic.specs.Tests.{bit}
 use Rattle.machine.specs.Held.{followsBy}
@@ -14,7 +13,6 @@ use Rattle.meaning.specs.Held.{behindKeep}
 use Rattle.meaning.specs.Decide.Choice.{tryAt}
 use Rattle.layout.specs.declared.Layout.{Layout}
 use Rattle.layout.specs.declared.Tries.{Tries}
-use Rattle.syntax.specs.Held.Kind.{Kinds}
 
 -- the token of `keep`, with all that stands behind it
 unfoldable pub IsKeep : Monitor → List Lexeme → ℕ → Type 0

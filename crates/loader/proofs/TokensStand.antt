@@ -7,8 +7,8 @@ use mathlib.Core.Option.{Option, some}
 use mathlib.Core.List.{List, [], _∷_, _++_, map, append-nil}
 use lib.ListN.{length, take, drop, getD, length-append, length-drop, drop-of-length-le}
 use lib.Seq.{take-at}
-use Rattle.syntax.specs.Token.{Lexeme, key, mark, semicolon, Keyword, k-var, k-keep, Token, lexemes}
-use Rattle.syntax.specs.Tree.{Monitor, all, each, spellVar, spellCond, spell}
+use Rattle.syntax.specs.Token.{Lexeme, key, Keyword, k-var, k-keep, Token, lexemes}
+use Rattle.syntax.specs.Tree.{Monitor, all, each, spellVar, spell}
 use Rattle.syntax.specs.Held.Kind.{Words}
 use Rattle.meaning.specs.Decide.Check.{placesOf, placeOf, leftOf, illRanged}
 use Rattle.meaning.specs.Refusal.{FirstIllRanged}

@@ -15,11 +15,10 @@ use Rattle.sets.specs.Set.{member}
 use Rattle.logic.specs.Tests.{bit}
 use Rattle.logic.proofs.Bools.{split, is-false}
 use Rattle.meaning.specs.State.{count, stateAt}
-use Rattle.meaning.specs.Value.{truth}
 use Rattle.meaning.specs.Runs.{State}
 use Rattle.meaning.specs.Decide.Bodies.{outcome}
 use Rattle.meaning.specs.Model.{vars, regions, guards, region, guardOf, holds, kept}
-use Rattle.meaning.specs.Outline.{never, faults, ends, moveOf, move}
+use Rattle.meaning.specs.Outline.{moveOf, move}
 use Rattle.meaning.proofs.ModelLaws.{guard-below, holds-guard, holds-below}
 use Rattle.meaning.proofs.StateLaws.{number-below}
 use Rattle.variables.specs.declared.Bounds.{Bounds}

@@ -2,29 +2,27 @@
 -- no try that is in such a set; and what no pass drops will do. What becomes of each try is told by the pass that drops it.
 use Prim.Native.Nat.{ℕ, zero, suc, _+_, _-_, _^_, _≤_, _<_}
 use native.Mathlib.Omega.{arith}
-use native.Mathlib.Nat.{zero-add, add-zero}
 use mathlib.Core.Path.{_≡_, refl, sym, ap, subst, _∙_}
 use mathlib.Core.Bool.{Bool, true, false, not, _&&_, _||_, false≢true}
 use mathlib.Core.Logic.{_⊎_, inl, inr, ⊎-elim, _↔_}
-use mathlib.Core.List.{List, [], _∷_}
+use mathlib.Core.List.{List, []}
 use mathlib.Core.Option.{Option, none, some, Option·some-injective}
 use lib.ListN.{length, getElem?}
-use lib.Dec.{ltb, leb}
+use lib.Dec.{ltb}
 use lib.IntN.{ℤ}
 use borrow.Author.Tests.{ltb-true, ltb-false, le-leb, lt-leb}
 use Rattle.syntax.specs.Tree.{Cond, Region, Var, Monitor, all}
-use Rattle.logic.specs.Tests.{any}
 use Rattle.logic.proofs.Any.{any-intro, any-false}
 use Rattle.logic.proofs.Bools.{both, and, split, clash, either, or-left, or-right, not-true, true-not, is-false, no-some}
 use Rattle.logic.proofs.Bools.{different, tests-equal}
 use Rattle.meaning.specs.Value.{truth}
-use Rattle.meaning.specs.State.{count, stateAt, numberOf, starts}
+use Rattle.meaning.specs.State.{stateAt, numberOf, starts}
 use Rattle.meaning.specs.Accepted.{GoodRanges}
 use Rattle.meaning.specs.Runs.{State, BlockRuns, IsRegion, regionsOf}
 use Rattle.meaning.specs.Bits.{eachFrom, bits, ones}
 use Rattle.sets.specs.Set.{member}
 use Rattle.syntax.specs.Limits.{mostTries}
-use Rattle.meaning.specs.Choice.{TrySet, IsTry, AllHold, Binds, WillDo, Within, Largest, Fate, chosen}
+use Rattle.meaning.specs.Choice.{TrySet, IsTry, AllHold, Binds, WillDo, Within, Largest}
 use Rattle.meaning.specs.Choice.{false-at-start, broken, isChosen, lasts, Breaks, standing, BrokenIn, AreFates}
 use Rattle.meaning.specs.Kept.{keptAt}
 use Rattle.meaning.specs.Decide.Bodies.{outcome}

@@ -1,19 +1,16 @@
 -- Refusals 7 to 9: the check of a tree gives the one verdict that `Judged` has grounds for. Each test is taken to the
 -- statement that it decides, and states to their numbers.
-use Prim.Native.Nat.{ℕ, zero, suc, _+_, _≤_, _<_}
+use Prim.Native.Nat.{ℕ, _≤_, _<_}
 use native.Mathlib.Omega.{arith}
-use native.Mathlib.Nat.{zero-add, add-zero}
-use mathlib.Core.Path.{_≡_, refl, sym, ap, subst, subst₂, _∙_}
-use mathlib.Core.Bool.{Bool, true, false, not, _&&_, false≢true}
-use mathlib.Core.Logic.{_⊎_, inl, inr, ⊎-elim, _↔_}
-use mathlib.Core.List.{List, [], _∷_}
-use mathlib.Core.Option.{Option, none, some, Option·some-injective}
-use lib.ListN.{getD, getElem?}
-use lib.Dec.{eqb}
+use mathlib.Core.Path.{_≡_, refl, sym, ap, subst, _∙_}
+use mathlib.Core.Bool.{true, false, not, _&&_, false≢true}
+use mathlib.Core.Logic.{_⊎_, ⊎-elim, _↔_}
+use mathlib.Core.List.{List}
+use mathlib.Core.Option.{Option, none, some}
+use lib.ListN.{getD}
 use lib.IntN.{ℤ}
-use borrow.Author.Tests.{eqb-true, eqb-false}
 use Rattle.syntax.specs.Token.{k-var, k-keep, Token}
-use Rattle.syntax.specs.Tree.{Region, Var, Monitor, all}
+use Rattle.syntax.specs.Tree.{Region, Monitor, all}
 use Rattle.meaning.specs.Value.{truth}
 use Rattle.meaning.specs.Decide.Bodies.{outcome}
 use Rattle.meaning.specs.State.{count, stateAt, numberOf, starts}
@@ -24,7 +21,7 @@ use Rattle.meaning.specs.Decide.Check.{checkMeaning}
 use Rattle.meaning.specs.Accepted.{GoodRanges, Keeps, Meets, Sound}
 use Rattle.meaning.specs.Runs.{regionsOf, State, BlockRuns, IsRegion}
 use Rattle.meaning.specs.Model.{vars}
-use Rattle.logic.proofs.Bools.{both, and, split, clash, not-true, true-not, is-false, no-some, different}
+use Rattle.logic.proofs.Bools.{both, and, split, clash, not-true, true-not, is-false, different}
 use Rattle.meaning.proofs.StateLaws.{state-at, number-of-state-at, number-below, state-at-number}
 use Rattle.meaning.proofs.BodyLaws.{runs-of-outcome, outcome-of-runs, block-runs-state}
 use Rattle.meaning.proofs.RangeLaws.{ill-ranged-first, ill-ranged-good, good-or-ill}

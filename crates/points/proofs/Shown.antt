@@ -1,30 +1,27 @@
 -- What the code writes of a point as it holds it is the point of the list.
-use Prim.Native.Nat.{ℕ, zero, suc, _+_, _-_, _%_, _/_, _^_, _<_, _≤_}
+use Prim.Native.Nat.{ℕ, zero, suc, _+_, _-_, _%_, _/_, _^_, _<_}
 use native.Mathlib.Omega.{arith}
 use native.Mathlib.Nat.{mod-eq-of-lt, zero-add}
-use mathlib.Core.Path.{_≡_, refl, sym, ap, ap₂, _∙_, subst}
+use mathlib.Core.Path.{_≡_, refl, sym, ap, ap₂, _∙_}
 use mathlib.Core.Bool.{Bool, true, false, not, _&&_, and-true, and-false}
 use mathlib.Core.List.{List, [], _∷_, _++_}
 use lib.ListN.{length, getD, take, List·getD-eq-default}
 use lib.IntN.{ℤ, pos, _+ℤ_, natAbs}
 use lib.Dec.{ltb}
 use lib.Bits.{bitOr, or-zero-l, or-zero-r, or-shifted-r}
-use borrow.Author.Tests.{ltb-true, ltb-false, lt-ltb, le-ltb}
-use Rattle.logic.proofs.Bools.{split, clash}
+use borrow.Author.Tests.{ltb-true, ltb-false}
+use Rattle.logic.proofs.Bools.{split}
 use Rattle.sets.specs.Set.{member}
 use Rattle.syntax.specs.Limits.{mostVars}
 use Rattle.syntax.specs.Tree.{Monitor, Var}
-use Rattle.machine.specs.Monitor.{Place, idle, waiting, due, Threads, SameThreads, Config, Frame, Run, accepted, stopped}
+use Rattle.machine.specs.Monitor.{Place, idle, waiting, due, Threads, SameThreads, Config, Frame, Run}
 use Rattle.machine.specs.Monitor.{threads}
 use Rattle.machine.specs.Monitor as machine
-use Rattle.machine.specs.Held.{Held}
-use Rattle.machine.proofs.Reached.{PlaceWithin, Reached}
+use Rattle.machine.proofs.Reached.{PlaceWithin}
 use Rattle.meaning.specs.Held.{Biased}
 use Rattle.meaning.specs.Model.{vars, guards, model, holds}
 use Rattle.meaning.specs.State.{stateAt, count}
-use Rattle.meaning.specs.Calls.{plain-machine, table-machine}
-use Rattle.meaning.specs.Bits.{eachFrom, bits}
-use Rattle.meaning.specs.Decide.Calls.{runList}
+use Rattle.meaning.specs.Bits.{eachFrom}
 use Rattle.meaning.specs.Decide.Table.{forEach}
 use Rattle.meaning.specs.Lines.{placeByte}
 use Rattle.meaning.specs.Points.{valueBytes, placeBytes, setBytes, sharedBytes, noticeBytes, noticesAt, plainPart, tablePart}
@@ -32,11 +29,11 @@ use Rattle.meaning.specs.Points.{pointAt}
 use Rattle.meaning.proofs.ModelLaws.{holds-below, kept-below}
 use Rattle.digits.proofs.ForEach.{forEach-same}
 use Rattle.lines.proofs.Writing.{offset-abs}
-use Rattle.stepper.specs.Shown.{ofMachine, noticesIn, placesOf, threadsOf, Shows, toldOn}
+use Rattle.stepper.specs.Shown.{ofMachine, noticesIn, placesOf, threadsOf}
 use Rattle.stepper.specs.declared.Thread.{Thread}
 use Rattle.stepper.specs.declared.Run as code
 use Rattle.run.specs.Results.{machineOf}
-use Rattle.run.specs.Way.{runOf, At, TableAt, goes-on, has-stopped, Way}
+use Rattle.run.specs.Way.{runOf, At, TableAt, goes-on, has-stopped}
 use Rattle.run.specs.declared.frames.Going.{Going}
 use Rattle.run.proofs.Records.{set-shown, list-run}
 use Rattle.variables.specs.declared.Bounds.{Bounds}

@@ -8,7 +8,6 @@ use lib.ListN.{length, getD, drop}
 use lib.Dec.{eqb}
 use lib.IntN.{ℤ}
 use Rattle.syntax.specs.Limits.{mostVars}
-use Rattle.machine.specs.Limits.{mostStates}
 use Rattle.syntax.specs.Token.{Lexeme, mark, rbrace}
 use Rattle.sets.specs.Set.{member}
 use Rattle.syntax.specs.Tree.{Var, Cond, Region, spellCond, spellBlock}

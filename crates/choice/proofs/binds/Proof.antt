@@ -1,10 +1,8 @@
 -- `choice::binds` meets its contract: four look-ups, one behind the other.
 use Prim.Native.Nat.{ℕ}
 use mathlib.Core.Path.{_≡_, sym, ap, _∙_}
-use mathlib.Core.Bool.{true, false}
 use denote.Ref.{now}
 use lib.ListN.{getD}
-use lib.Dec.{eqb}
 use borrow.Author.Needs.{needs}
 use borrow.Author.Tests.{eq-eqb, ne-eqb, lt-ltb, le-ltb}
 use Rattle.sets.specs.Set.{member}

@@ -1,15 +1,13 @@
 -- `choice::choose` meets its contract. The loop's invariant: behind k passes the choice is at stage k.
-use Prim.Native.Nat.{ℕ, _+_, _-_, _^_, _≤_, _<_}
+use Prim.Native.Nat.{ℕ, _-_, _^_, _≤_, _<_}
 use native.Mathlib.Omega.{arith}
-use mathlib.Core.Path.{_≡_, refl, sym, ap, _∙_}
-use mathlib.Core.Bool.{Bool, _&&_}
-use lib.ListN.{getD}
+use mathlib.Core.Path.{refl, ap, _∙_}
+use mathlib.Core.Bool.{_&&_}
 use lib.Dec.{ltb}
-use denote.Ref.{now}
 use borrow.Author.Needs.{needs}
 use Rattle.sets.specs.Set.{member}
 use Rattle.syntax.specs.Tree.{Monitor}
-use Rattle.choice.specs.Chosen.{Tried, Chooses}
+use Rattle.choice.specs.Chosen.{Tried}
 use Rattle.choice.proofs.Staging.{Stage, stage-first, stage-next, stage-still, stage-last, all-passes}
 use Rattle.choice.proofs.choose.Statement.{statement}
 use Rattle.choice.proofs.choose.Tie as tie

@@ -1,12 +1,10 @@
 -- `choice::drop_all` meets its contract. The loop's invariant: those of the set below i are dropped, and no other.
 use Prim.Native.Nat.{ℕ, _-_, _≤_, _<_}
 use native.Mathlib.Omega.{arith}
-use mathlib.Core.Path.{_≡_, refl, sym, ap, _∙_}
-use mathlib.Core.Bool.{Bool, true, false, _&&_}
+use mathlib.Core.Path.{_≡_, refl, sym, _∙_}
 use mathlib.Core.Logic.{⊎-elim}
-use lib.Dec.{eqb, ltb}
 use borrow.Author.Needs.{needs}
-use borrow.Author.Tests.{eq-eqb, ne-eqb, lt-ltb, le-ltb}
+use borrow.Author.Tests.{eq-eqb, ne-eqb}
 use Rattle.logic.proofs.Bools.{split-eq}
 use Rattle.sets.specs.Set.{member}
 use Rattle.choice.specs.Slots.{slotOf, markIf}

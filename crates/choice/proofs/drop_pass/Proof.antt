@@ -1,11 +1,8 @@
 -- `choice::drop_pass` meets its contract. The loop's invariant: each try's slot is as the regions below r leave it.
 use Prim.Native.Nat.{ℕ, _+_, _-_, _*_, _≤_, _<_}
 use native.Mathlib.Omega.{arith}
-use mathlib.Core.Path.{_≡_, refl, sym, ap, _∙_}
-use mathlib.Core.List.{List}
-use lib.ListN.{getD, take, drop}
+use mathlib.Core.Path.{_≡_, refl, sym, _∙_}
 use denote.Ref.{now}
-use borrow.Author.Needs.{needs}
 use Rattle.states.proofs.Breaking.{part-at}
 use Rattle.choice.specs.Slots.{breaksBy, slotOf, rowsSlot}
 use Rattle.choice.proofs.Binding.{rows-none, rows-next, rows-same, row-of}

@@ -1,16 +1,14 @@
 -- `choice::drop_row` meets its contract. The loop's invariant: each try's slot is as the states below s leave it.
-use Prim.Native.Nat.{ℕ, _+_, _-_, _≤_, _<_}
+use Prim.Native.Nat.{ℕ, _-_, _≤_, _<_}
 use native.Mathlib.Omega.{arith}
 use mathlib.Core.Path.{_≡_, refl, sym, ap, _∙_}
-use mathlib.Core.Bool.{Bool, true, false, not, _&&_}
+use mathlib.Core.Bool.{false}
 use mathlib.Core.Logic.{⊎-elim}
-use mathlib.Core.List.{List}
-use lib.ListN.{getD}
 use denote.Ref.{now}
 use borrow.Author.Needs.{needs}
 use Rattle.sets.specs.Set.{member}
 use Rattle.sets.proofs.SetLaws.{member-none}
-use Rattle.choice.specs.Slots.{bindsBy, breaksRow, slotOf, markIf, rowSlot}
+use Rattle.choice.specs.Slots.{breaksRow, slotOf, rowSlot}
 use Rattle.choice.proofs.Binding.{row-none, next-slot, row-same, broken-bit, unbroken-bit, lost-bit, mark-off}
 use Rattle.choice.proofs.drop_row.Statement.{statement}
 use Rattle.choice.proofs.drop_row.Tie as tie

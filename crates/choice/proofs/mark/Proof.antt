@@ -1,14 +1,11 @@
 -- `choice::mark` meets its contract: try i's bit goes, and its three numbers are written.
-use Prim.Native.Nat.{ℕ}
 use native.Mathlib.Omega.{arith}
-use mathlib.Core.Path.{_≡_, refl, sym, ap, _∙_}
-use mathlib.Core.Bool.{Bool, true, false}
-use lib.Dec.{eqb}
+use mathlib.Core.Path.{_≡_, sym, _∙_}
 use lib.Seq.{getD-set-other}
 use borrow.Author.Needs.{needs}
 use borrow.Author.Tests.{ne-eqb, eq-eqb}
 use Rattle.logic.proofs.Bools.{split-eq}
-use Rattle.choice.specs.Slots.{slotOf, markIf}
+use Rattle.choice.specs.Slots.{slotOf}
 use Rattle.choice.proofs.Binding.{set-here, same-slot, mark-on, mark-off}
 use Rattle.choice.proofs.mark.Statement.{statement}
 use Rattle.choice.proofs.mark.Tie as tie

@@ -3,7 +3,7 @@
 use Prim.Native.Nat.{ℕ, _≤_}
 use native.Mathlib.Omega.{arith}
 use mathlib.Core.Path.{_≡_, sym, subst}
-use mathlib.Core.Logic.{_⊎_, inl, inr}
+use mathlib.Core.Logic.{inl, inr}
 use mathlib.Core.List.{List}
 use lib.ListN.{length}
 use denote.Ref.{now}
@@ -16,7 +16,7 @@ use Rattle.meaning.specs.Decide.Check.{broken}
 use Rattle.meaning.specs.Model.{vars, guards}
 use Rattle.meaning.proofs.StateLaws.{starts-state}
 use Rattle.states.specs.Rows.{TruthRow, TruthSets, KeptAll, HoldsAll, Outcomes, BrokenAs}
-use Rattle.choice.specs.Chosen.{Tried, Chooses}
+use Rattle.choice.specs.Chosen.{Chooses}
 use Rattle.loader.specs.Filling.{Filling, Rows, AsLong}
 use Rattle.loader.proofs.Fills.{keeping, guarding, trying, bodies-of, numbers-of, holds-of, outcomes-kept}
 use Rattle.loader.proofs.Fills.{kept-strong, said, settled-9, settled-0}
