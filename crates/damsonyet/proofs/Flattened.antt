@@ -21,7 +21,7 @@ use Rattle.run.specs.Results as results
 use Rattle.run.specs.declared.Running as code
 use Rattle.answers.specs.Says.{Says}
 use Rattle.answers.specs.declared.Answer as code-answer
-use Rattle.monitor.specs.Results.{Agrees}
+use Rattle.calls.specs.Results.{Agrees}
 use Rattle.damsonyet.specs.Flat.{Records, NoRecord, RanAs, BothAgree, Flattens}
 use Rattle.damsonyet.specs.declared.Ran.{Ran}
 

@@ -2,10 +2,10 @@
 // bytes as a pointer and a length, and answers by value. `include/damsonyet.h` declares them. No call asks anything of its
 // caller but what C itself asks; each states its complete result for every input.
 use answers::Answer;
+use calls::Placing;
+use calls::Pointing;
 use lookup::Numbered;
 use lookup::State;
-use monitor::Placing;
-use monitor::Pointing;
 use outline::Outline;
 use run::Both;
 use run::Running;
@@ -21,7 +21,7 @@ ghost use Rattle.meaning.specs.Lines.{placer, runner};
 ghost use Rattle.meaning.specs.Points.{pointsOf};
 ghost use Rattle.answers.specs.Says.{Is};
 ghost use Rattle.run.specs.Results.{Runs, machineOf};
-ghost use Rattle.monitor.specs.Results.{Places, Points, PointsSay, Agrees, Starts, startOf};
+ghost use Rattle.calls.specs.Results.{Places, Points, PointsSay, Agrees, Starts, startOf};
 ghost use Rattle.output.specs.Printed.{Prints};
 ghost use Rattle.survey.specs.Told.{OutlineTold, StateTold, NumberTold, FatesTold};
 ghost use Rattle.damsonyet.specs.Flat.{RanAs, Flattens, BothAgree};

@@ -1,11 +1,4 @@
-pub mod TokenSlices
-pub mod TokensStand
-pub mod Counts
 pub mod Names
 pub mod Scanned
-pub mod Refusals
-pub mod GuardsAt
 pub mod Flags
-pub mod Judging
-pub mod Fills
 pub mod Loads

@@ -30,20 +30,17 @@ use Rattle.states.proofs.Holding.{held}
 use Rattle.answers.specs.Says.{Says, Is, answerOf}
 use Rattle.answers.specs.declared.Answer as code
 use Rattle.layout.proofs.Same.{lexemes-length}
-use Rattle.loader.proofs.Refusals.{kinds-of, says-8, says-9, says-0}
-use Rattle.loader.proofs.Counts.{few-tokens, few-parts}
+use Rattle.judging.proofs.Refusals.{kinds-of, says-8, says-9, says-0}
+use Rattle.judging.proofs.Counts.{few-tokens, few-parts}
 use Rattle.loader.proofs.Names.{codes}
 use Rattle.loader.proofs.Flags.{held-places}
-use Rattle.loader.specs.Loading.{Past7, JudgedBy, Judges, Chosen, Monitored, Loads, Leaves}
-use Rattle.loader.specs.Filling.{Filling, Filled, Rows}
-use Rattle.loader.specs.declared.Judged.{Judged}
-use Rattle.loader.specs.declared.Settled.{Settled}
+use Rattle.judging.specs.Judging.{Past7, JudgedBy, Judges}
+use Rattle.loader.specs.Loading.{Chosen, Monitored, Loads}
+use Rattle.filling.specs.Filling.{Filling, Filled, Rows}
+use Rattle.judging.specs.declared.Judged.{Judged}
+use Rattle.filling.specs.declared.Settled.{Settled}
 use Rattle.loader.specs.declared.Loaded.{Loaded}
-use Rattle.loader.proofs.Fills.{numbers-of}
-
--- nothing was lent on
-pub left-all : (n : ℕ) (kept holds after : List ℕ) → Leaves n kept holds after kept holds after
-left-all n kept holds after = record { untouched = λ _ _. (refl, refl, refl); as-long = (refl, refl, refl) }
+use Rattle.filling.proofs.Fills.{numbers-of}
 
 -- an answer from 1 to 7 is that of no file that passes these checks
 not-passed : (file : List ℕ) (l : Loaded) → (l .answer .number ≡ 0 → ⊥) → l .answer .number ≤ 7

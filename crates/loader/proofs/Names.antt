@@ -24,7 +24,7 @@ use Rattle.meaning.specs.Held.{behindKeep}
 use Rattle.passes.specs.Tokens.{titlesFrom, titlesOf, slotIn, slotOrValue, Resolved}
 use Rattle.evaluator.specs.Coding.{slotOf, Codes}
 use Rattle.syntax.specs.Held.Kind.{Kinds}
-use Rattle.loader.proofs.TokenSlices.{lexemes-map, at-lexeme}
+use Rattle.judging.proofs.TokenSlices.{lexemes-map, at-lexeme}
 
 -- the names behind `var` among lexemes, the lexeme before coming first
 titlesIn : Lexeme → List Lexeme → List (List ℕ)

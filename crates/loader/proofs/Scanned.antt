@@ -15,10 +15,23 @@ use Rattle.meaning.specs.Answer.{answer, refused}
 use Rattle.meaning.specs.Decide.Check.{check}
 use Rattle.meaning.proofs.Stages.{check-1, check-2}
 use Rattle.logic.proofs.Bools.{split}
-use Rattle.scanner.specs.Coded.{Scans, scannedAs, scannedOf}
+use Rattle.scanner.specs.Coded.{Coded, Scans, scannedAs, scannedOf}
 use Rattle.scanner.specs.declared.Scanned.{Scanned}
 use Rattle.scanner.specs.declared.Scanned.the-variants as scanned
-use Rattle.loader.proofs.TokenSlices.{words}
+
+-- the slices of a scan, as far as it filled them, hold the tokens of the file
+words : {file : List ℕ} {ts : List Token} {kinds values places : List ℕ} → length file ≤ 8192
+    → tokenize file ≡ tokens ts
+    → Coded ts kinds values places → Words file ts (take (length ts) kinds) (take (length ts) values)
+    (take (length ts) places)
+words short cut c = record {
+  short = short;
+  cut = cut;
+  by-kind = c .by-kind;
+  by-value = c .by-value;
+  by-place =
+      c .by-place;
+}
 
 -- there are at most as many tokens as bytes
 rising-few : (from end : ℕ) (ts : List Token) → Rising from ts → ((t : Token) → List·Memᴰ t ts → t .at < end)

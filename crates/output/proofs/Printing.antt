@@ -26,8 +26,8 @@ use Rattle.answers.specs.Says.{Says}
 use Rattle.answers.specs.declared.Answer as code
 use Rattle.run.specs.Results.{Runs}
 use Rattle.run.specs.declared.Running.{Running}
-use Rattle.monitor.specs.Results.{Places, startOf}
-use Rattle.monitor.specs.declared.Placing.{Placing}
+use Rattle.calls.specs.Results.{Places, startOf}
+use Rattle.calls.specs.declared.Placing.{Placing}
 use Rattle.digits.specs.Written.{over, Writes}
 use Rattle.lines.specs.Written.{Fits, heldLine, PutsLine}
 use Rattle.lines.proofs.Writing.{held-line}

@@ -4,7 +4,8 @@ use Prim.Native.Nat.{ℕ}
 use native.Mathlib.Omega.{arith}
 use borrow.Author.Needs.{needs}
 use Rattle.loader.proofs.Scanned.{Counted, scanned-long, scanned-bad, scanned-tokens, scanned-counted}
-use Rattle.loader.proofs.Loads.{left-all, loads-said}
+use Rattle.filling.proofs.Fills.{left-all}
+use Rattle.loader.proofs.Loads.{loads-said}
 use Rattle.loader.proofs.load.Statement.{statement}
 use Rattle.loader.proofs.load.Tie as tie
 

@@ -4,7 +4,8 @@ use native.Mathlib.Omega.{arith}
 use mathlib.Core.Path.{sym, _∙_}
 use lib.Seq.{length-take-le}
 use borrow.Author.Needs.{needs}
-use Rattle.loader.proofs.Loads.{left-all, loads-judged, judged-tree, few, kinds-long}
+use Rattle.filling.proofs.Fills.{left-all}
+use Rattle.loader.proofs.Loads.{loads-judged, judged-tree, few, kinds-long}
 use Rattle.loader.proofs.load_tokens.Statement.{statement}
 use Rattle.loader.proofs.load_tokens.Tie as tie
 

@@ -1,7 +1,7 @@
 -- `monitor::points` meets its contract: what `points_loaded` says of what was loaded.
 use borrow.Author.Needs.{needs}
 use Rattle.logic.proofs.Lists.{long}
-use Rattle.monitor.proofs.Pointed.{points-say}
+use Rattle.calls.proofs.Pointed.{points-say}
 use Rattle.monitor.proofs.points.Statement.{statement}
 use Rattle.monitor.proofs.points.Tie as tie
 

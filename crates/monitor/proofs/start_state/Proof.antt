@@ -1,7 +1,7 @@
 -- `monitor::start_state` meets its contract: what `start_of` says of what was loaded.
 use borrow.Author.Needs.{needs}
 use Rattle.logic.proofs.Lists.{long}
-use Rattle.monitor.proofs.Same.{starts}
+use Rattle.calls.proofs.Same.{starts}
 use Rattle.monitor.proofs.start_state.Statement.{statement}
 use Rattle.monitor.proofs.start_state.Tie as tie
 

@@ -1,0 +1,2 @@
+pub mod GuardsAt
+pub mod Fills
