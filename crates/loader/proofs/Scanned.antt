@@ -15,9 +15,9 @@ use Rattle.meaning.specs.Answer.{answer, refused}
 use Rattle.meaning.specs.Decide.Check.{check}
 use Rattle.meaning.proofs.Stages.{check-1, check-2}
 use Rattle.logic.proofs.Bools.{split}
-use Rattle.scanner.specs.Coded.{Coded, Scans, scannedAs, scannedOf}
-use Rattle.scanner.specs.declared.Scanned.{Scanned}
-use Rattle.scanner.specs.declared.Scanned.the-variants as scanned
+use Rattle.tokens.specs.Coded.{Coded, Scans, scannedAs, scannedOf}
+use Rattle.tokens.specs.declared.Scanned.{Scanned}
+use Rattle.tokens.specs.declared.Scanned.the-variants as scanned
 
 -- the slices of a scan, as far as it filled them, hold the tokens of the file
 words : {file : List ℕ} {ts : List Token} {kinds values places : List ℕ} → length file ≤ 8192

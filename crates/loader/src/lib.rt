@@ -3,7 +3,7 @@ use answers::Answer;
 use choice::Choice;
 use judging::Judged;
 use layout::Layout;
-use scanner::Scanned;
+use tokens::Scanned;
 use variables::Bounds;
 ghost use mathlib.Core.Path.{_≡_};
 ghost use mathlib.Core.List.{List};
@@ -141,7 +141,7 @@ pub fn load(file: &[u8], kept: &mut [u8], holds: &mut [u16], after: &mut [u16]) 
     let mut kinds = [0u8; syntax::FILE_BYTES];
     let mut values = [0u16; syntax::FILE_BYTES];
     let mut places = [0u16; syntax::FILE_BYTES];
-    match scanner::scan(file, &mut kinds, &mut values, &mut places) {
+    match tokens::scan(file, &mut kinds, &mut values, &mut places) {
         Scanned::TooLong => not_loaded(answers::say(1, 0, 0)),
         Scanned::Bad(k) => not_loaded(answers::say(2, k, 0)),
         Scanned::Tokens(n) => load_tokens(

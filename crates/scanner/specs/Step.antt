@@ -1,15 +1,14 @@
 -- What the cursor's method finds, by the definitions of `syntax`.
-use Prim.Native.Nat.{ℕ, suc, _+_}
+use Prim.Native.Nat.{ℕ, _+_}
 use mathlib.Core.Bool.{Bool, true, false}
-use mathlib.Core.List.{List, [], _∷_}
+use mathlib.Core.List.{List}
 use lib.ListN.{take, drop}
 use lib.Dec.{eqb}
-use Rattle.syntax.specs.Bytes.{blank, digit, wordByte, decimal, sameBytes}
+use Rattle.syntax.specs.Bytes.{blank, digit, wordByte, decimal}
 use Rattle.syntax.specs.Decide.Leading.{leading}
 use Rattle.syntax.specs.Limits.{mostWordBytes, mostDigits}
 use Rattle.syntax.specs.Token.{Lexeme, name, key, number, mark, keywords}
-use Rattle.syntax.specs.Decide.Lexeme.{keywordNumber}
-use Rattle.syntax.specs.Held.Kind.{kindOf, keywordCount}
+use Rattle.syntax.specs.Held.Kind.{kindOf}
 use Rattle.syntax.specs.Decide.Scan.{nothing, found, scan, atMost, wordOf}
 use Rattle.syntax.specs.Decide.Scan as syntax
 use Rattle.scanner.specs.declared.Token.{Token}
@@ -31,18 +30,6 @@ marked (found (name x) n) = record { 0 = 0; 1 = 0 }
 marked (found (key k) n) = record { 0 = 0; 1 = 0 }
 marked (found (number v) n) = record { 0 = 0; 1 = 0 }
 marked (found (mark m) n) = record { 0 = kindOf (mark m); 1 = n }
-
--- the number of the first of some words that a text is, and their count where it is none of them
-unfoldable pub place : List (List ℕ) → List ℕ → ℕ
-place [] w = 0
-place (k ∷ ks) w = elim (sameBytes k w) [ true ↦ 0 | false ↦ suc (place ks w) ]
-
--- the number of a keyword, and their count where there is none
-unfoldable pub keyCode : Lexeme → ℕ
-keyCode (name x) = keywordCount
-keyCode (key k) = keywordNumber k
-keyCode (number n) = keywordCount
-keyCode (mark m) = keywordCount
 
 unfoldable pub tokenOf : ℕ → ℕ → Lexeme → Token
 tokenOf s n (name x) = Word s (s + n)

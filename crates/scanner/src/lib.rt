@@ -1,17 +1,15 @@
-// Cuts a file into tokens: a cursor by value whose method hands out the token and the advanced cursor, a reader that
-// holds the file's slice and calls the cursor, and the tokens of a whole file as numbers in lent arrays. Each promise
-// cites the definitions of `syntax`.
+// The tokens of a file one by one: a cursor by value whose method hands out the token and the advanced cursor, and a
+// reader that holds the file's slice and calls the cursor. Each promise cites the definitions of `syntax`.
 ghost use mathlib.Core.Path.{_≡_};
 ghost use mathlib.Core.List.{[], _∷_};
-ghost use Prim.Native.Nat.{_+_, _-_, _≤_, _<_};
-ghost use lib.ListN.{take, drop, getD, length};
-ghost use Rattle.syntax.specs.Bytes.{blank, letter, digit, wordByte, decimal, sameBytes};
+ghost use Prim.Native.Nat.{_+_, _≤_, _<_};
+ghost use lib.ListN.{drop, getD, length};
+ghost use Rattle.syntax.specs.Bytes.{blank, letter, digit, wordByte, decimal};
 ghost use Rattle.syntax.specs.Decide.Leading.{leading};
-ghost use Rattle.syntax.specs.Decide.Scan.{markOf, wordOf, nothing, scan as scanned};
-ghost use Rattle.syntax.specs.Limits.{mostBytes, mostWordBytes, mostDigits};
-ghost use Rattle.syntax.specs.Token.{marks, keywords};
-ghost use Rattle.scanner.specs.Step.{passes, marked, place, keyCode, wordAt, numberAt, stepOf, stepTo, stepAt};
-ghost use Rattle.scanner.specs.Coded.{lexemeCode, Within, codeOf, Scans};
+ghost use Rattle.syntax.specs.Decide.Scan.{markOf, nothing, scan as scanned};
+ghost use Rattle.syntax.specs.Limits.{mostDigits};
+ghost use Rattle.syntax.specs.Token.{marks};
+ghost use Rattle.scanner.specs.Step.{passes, marked, wordAt, numberAt, stepOf, stepTo, stepAt};
 
 // A token: a word with its offsets, a number with its value, a mark with its kind, or none.
 pub enum Token {
@@ -39,21 +37,8 @@ pub struct Step {
     pub next: Cursor,
 }
 
-// How many tokens a file has; the first byte that begins none (2); or that it is too long (1).
-pub enum Scanned {
-    Tokens(usize),
-    Bad(usize),
-    TooLong,
-}
-
 // A mark's kind and how many bytes it has: 0 where there is none.
 struct Marked(u8, usize);
-
-// How a token is held: its kind, with a number's value or a name's length.
-struct Code {
-    kind: u8,
-    value: u16,
-}
 
 // The classes of bytes, by number, for `run_end`.
 const BLANK: u8 = 0;
@@ -166,58 +151,6 @@ fn mark_of(a: u8, b: u8) -> Marked
         },
         _ => Marked(0, 0),
     }
-}
-
-// Whether a part of the file is a fixed word, byte for byte.
-fn is_word(part: &[u8], word: &[u8]) -> bool
-    ensures { λ r. ⌜ r ≡ sameBytes (now (word .entry)) (now (part .entry)) ⌝ }
-{
-    if part.len() != word.len() {
-        return false;
-    }
-    let mut i = 0;
-    while i < part.len() {
-        if part[i] != word[i] {
-            return false;
-        }
-        i += 1;
-    }
-    true
-}
-
-// The number of the first of five words that a part of the file is, and 5 where it is none of them.
-fn place_of(part: &[u8], a: &[u8], b: &[u8], c: &[u8], d: &[u8], e: &[u8]) -> u8
-    ensures { λ r. ⌜ r ≡ place (now (a .entry) ∷ now (b .entry) ∷ now (c .entry) ∷ now (d .entry) ∷ now (e .entry) ∷ [])
-        (now (part .entry)) ⌝ }
-{
-    if is_word(part, a) {
-        0
-    } else if is_word(part, b) {
-        1
-    } else if is_word(part, c) {
-        2
-    } else if is_word(part, d) {
-        3
-    } else if is_word(part, e) {
-        4
-    } else {
-        5
-    }
-}
-
-// The number of the reserved word that a part of the file is, and their count where it is none.
-fn keyword_of(part: &[u8]) -> u8
-    ensures { λ r. ⌜ r ≡ keyCode (wordOf keywords (now (part .entry))) ⌝ }
-{
-    let outer = place_of(part, b"monitor", b"var", b"in", b"keep", b"method");
-    if outer < 5 {
-        return outer;
-    }
-    let inner = place_of(part, b"waituntil", b"if", b"else", b"true", b"false");
-    if inner < 5 {
-        return 5 + inner;
-    }
-    if is_word(part, b"try") { 10 } else { 11 }
 }
 
 // The value of few enough digits.
@@ -348,93 +281,8 @@ impl<'a> Reader<'a> {
 
 // The next token behind blanks from a byte of a file, by a reader that is opened there: callers have plain parameters,
 // and their proofs no walk.
-fn read_token(file: &[u8], at: usize) -> Step
+pub fn read_token(file: &[u8], at: usize) -> Step
     ensures { λ r. ⌜ r ≡ stepAt (now (file .entry)) at ⌝ }
 {
     Reader::open(file, at).token()
-}
-
-// How a word of the file is held.
-fn word_code(file: &[u8], from: usize, end: usize) -> Code
-    requires { ⌜ (from ≤ end) × (end ≤ length (now file)) × (end ≤ from + mostWordBytes) ⌝ }
-    ensures { λ r. ⌜ r ≡ lexemeCode (wordOf keywords (take (end - from) (drop from (now (file .entry))))) ⌝ }
-{
-    let key = keyword_of(&file[from..end]);
-    if key == syntax::KEYWORDS {
-        Code {
-            kind: syntax::NAME,
-            value: (end - from) as u16,
-        }
-    } else {
-        Code {
-            kind: syntax::FIRST_KEYWORD + key,
-            value: 0,
-        }
-    }
-}
-
-// How a token is held: its kind, and a number's value or a name's length.
-fn code_of(file: &[u8], token: Token) -> Code
-    requires { ⌜ Within (now file) token ⌝ }
-    ensures { λ r. ⌜ r ≡ codeOf (now (file .entry)) token ⌝ }
-{
-    match token {
-        Token::Word(from, end) => word_code(file, from, end),
-        Token::Number(value) => Code {
-            kind: syntax::NUMBER,
-            value: value,
-        },
-        Token::Mark(mark) => Code {
-            kind: mark,
-            value: 0,
-        },
-        Token::None => Code { kind: 0, value: 0 },
-    }
-}
-
-// The tokens of a file, into slices that are long enough.
-fn scan_into(file: &[u8], kinds: &mut [u8], values: &mut [u16], places: &mut [u16]) -> Scanned
-    requires { ⌜ (length (now kinds) ≡ mostBytes) × (length (now values) ≡ mostBytes) × (length (now places)
-        ≡ mostBytes) ⌝ }
-    ensures { λ r. ⌜ Scans (now (file .entry)) r (now (kinds .entry)) (now (values .entry)) (now (places .entry))
-        (now (kinds .exit)) (now (values .exit)) (now (places .exit)) ⌝ }
-{
-    if syntax::FILE_BYTES < file.len() {
-        return Scanned::TooLong;
-    }
-    let mut cursor = Cursor::new();
-    let mut n: usize = 0;
-    while n < syntax::FILE_BYTES {
-        let at = cursor.at;
-        let step = read_token(file, at);
-        let start = step.start;
-        let next = step.next;
-        if next.at == start {
-            if start < file.len() {
-                return Scanned::Bad(start);
-            }
-            return Scanned::Tokens(n);
-        }
-        let token = step.token;
-        let code = code_of(file, token);
-        kinds[n] = code.kind;
-        values[n] = code.value;
-        places[n] = start as u16;
-        n += 1;
-        cursor = next;
-    }
-    Scanned::Tokens(n)
-}
-
-// The tokens of a file that is not too long: each token's kind, a number's value or a name's length, and its place.
-pub fn scan(
-    file: &[u8],
-    kinds: &mut [u8; syntax::FILE_BYTES],
-    values: &mut [u16; syntax::FILE_BYTES],
-    places: &mut [u16; syntax::FILE_BYTES],
-) -> Scanned
-    ensures { λ r. ⌜ Scans (now (file .entry)) r (now (kinds .entry)) (now (values .entry)) (now (places .entry))
-        (now (kinds .exit)) (now (values .exit)) (now (places .exit)) ⌝ }
-{
-    scan_into(file, kinds, values, places)
 }

@@ -5,7 +5,7 @@ use loader::Loaded;
 use lookup::Numbered;
 use lookup::State;
 use outline::Outline;
-use scanner::Scanned;
+use tokens::Scanned;
 ghost use mathlib.Core.Path.{_≡_};
 ghost use mathlib.Core.Bool.{_||_};
 ghost use lib.Dec.{eqb, leb};
@@ -54,7 +54,7 @@ fn outline_loaded(file: &[u8], loaded: Loaded) -> Outline
     let mut kinds = [0u8; syntax::FILE_BYTES];
     let mut values = [0u16; syntax::FILE_BYTES];
     let mut places = [0u16; syntax::FILE_BYTES];
-    match scanner::scan(file, &mut kinds, &mut values, &mut places) {
+    match tokens::scan(file, &mut kinds, &mut values, &mut places) {
         Scanned::TooLong => outline::no_outline(verdict),
         Scanned::Bad(_) => outline::no_outline(verdict),
         Scanned::Tokens(n) => outline::outline_of(

@@ -12,14 +12,14 @@ use Rattle.syntax.specs.Bytes.{blank}
 use Rattle.syntax.specs.Decide.Leading.{leading}
 use Rattle.syntax.specs.Token.{Lexeme, Token}
 use Rattle.syntax.specs.Decide.Scan.{Scan, nothing, found, scan, Tokens, tokens, none-at, prepend, tokensFrom, tokenize}
 use Rattle.scanner.specs.Step.{stepOf, stepAt}
-use Rattle.scanner.specs.Coded.{lexemeCode, codeOf, Within, Coded, scannedAs, scannedOf, SameBehind}
-use Rattle.scanner.specs.Coded.{TokensWritten, Scans}
+use Rattle.tokens.specs.Coded.{lexemeCode, codeOf, Within, Coded, scannedAs, scannedOf, SameBehind}
+use Rattle.tokens.specs.Coded.{TokensWritten, Scans}
 use Rattle.syntax.specs.Held.Kind.{kindOf, valueOf}
 use Rattle.scanner.specs.declared.Step.{Step}
-use Rattle.scanner.specs.declared.Scanned.the-variants as scanned
+use Rattle.tokens.specs.declared.Scanned.the-variants as scanned
 use Rattle.scanner.proofs.FirstElement.{by-cases, leading-none, leading-stop, leading-more}
-use Rattle.scanner.proofs.Coding.{Found, missing, there, found-at}
+use Rattle.tokens.proofs.Coding.{Found, missing, there, found-at}
 
 -- bytes that are passed over
 pass : (at n : ℕ) (bs : List ℕ) → tokensFrom at n bs ≡ tokensFrom (at + n) 0 (drop n bs)

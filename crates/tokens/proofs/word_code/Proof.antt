@@ -1,4 +1,4 @@
--- `scanner::word_code` meets its contract: a word is a reserved one, by its number, or a name, by its length.
+-- `tokens::word_code` meets its contract: a word is a reserved one, by its number, or a name, by its length.
 use borrow.Author.Needs.{needs}
 use Prim.Native.Nat.{ℕ, _-_}
 use mathlib.Core.Path.{_≡_, sym, _∙_}
@@ -7,10 +7,10 @@ use native.Mathlib.Omega.{arith}
 use denote.Ref.{now}
 use lib.ListN.{length, take, drop, length-take, length-drop}
 use Rattle.syntax.specs.Token.{keywords}
 use Rattle.scanner.proofs.Scanning.{word-or}
-use Rattle.scanner.proofs.Coding.{key-at-most, name-code, key-code}
-use Rattle.scanner.proofs.word_code.Statement.{statement}
-use Rattle.scanner.proofs.word_code.Tie as tie
+use Rattle.tokens.proofs.Coding.{key-at-most, name-code, key-code}
+use Rattle.tokens.proofs.word_code.Statement.{statement}
+use Rattle.tokens.proofs.word_code.Tie as tie
 
 sub-keyword-of : tie.Need-sub-keyword-of
 sub-keyword-of c = search needs

@@ -1,19 +1,33 @@
--- How tokens are held as numbers: of each token its kind, a value and its place.
-use Prim.Native.Nat.{ℕ, _+_, _-_, _≤_}
+-- How tokens are held as numbers: of each token its kind, a value and its place; and the number of a reserved word.
+use Prim.Native.Nat.{ℕ, suc, _+_, _-_, _≤_}
 use mathlib.Core.Path.{_≡_}
 use mathlib.Core.Bool.{true, false}
-use mathlib.Core.List.{List, map}
+use mathlib.Core.List.{List, [], _∷_, map}
 use lib.ListN.{length, take, drop}
 use lib.Dec.{ltb}
-use Rattle.syntax.specs.Held.Kind.{kindOf, valueOf}
+use Rattle.syntax.specs.Bytes.{sameBytes}
+use Rattle.syntax.specs.Decide.Lexeme.{keywordNumber}
+use Rattle.syntax.specs.Held.Kind.{kindOf, valueOf, keywordCount}
 use Rattle.syntax.specs.Limits.{mostBytes, mostWordBytes}
-use Rattle.syntax.specs.Token.{Lexeme, number, Token, keywords}
+use Rattle.syntax.specs.Token.{Lexeme, name, key, number, mark, Token, keywords}
 use Rattle.syntax.specs.Decide.Scan.{Tokens, tokens, none-at, tokenize, wordOf}
 use Rattle.scanner.specs.declared.Token as token
 use Rattle.scanner.specs.declared.Token.the-variants.{Word, Number, Mark, None}
-use Rattle.scanner.specs.declared.Code.{Code}
-use Rattle.scanner.specs.declared.Scanned.{Scanned}
-use Rattle.scanner.specs.declared.Scanned.the-variants as scanned
+use Rattle.tokens.specs.declared.Code.{Code}
+use Rattle.tokens.specs.declared.Scanned.{Scanned}
+use Rattle.tokens.specs.declared.Scanned.the-variants as scanned
+
+-- the number of the first of some words that a text is, and their count where it is none of them
+unfoldable pub place : List (List ℕ) → List ℕ → ℕ
+place [] w = 0
+place (k ∷ ks) w = elim (sameBytes k w) [ true ↦ 0 | false ↦ suc (place ks w) ]
+
+-- the number of a keyword, and their count where there is none
+unfoldable pub keyCode : Lexeme → ℕ
+keyCode (name x) = keywordCount
+keyCode (key k) = keywordNumber k
+keyCode (number n) = keywordCount
+keyCode (mark m) = keywordCount
 
 abbrev pub lexemeCode : Lexeme → Code
 lexemeCode l = record { kind = kindOf l; value = valueOf l }

@@ -1,4 +1,4 @@
--- `scanner::is_word` meets its contract. The loop's invariant: what is left of both is the same exactly where the whole
+-- `tokens::is_word` meets its contract. The loop's invariant: what is left of both is the same exactly where the whole
 -- is.
 use Prim.Native.Nat.{_-_}
 use mathlib.Core.Path.{_≡_, refl, sym, _∙_}
@@ -7,9 +7,9 @@ use borrow.Author.Tests.{eq-eqb, ne-eqb}
 use denote.Ref.{now}
 use lib.ListN.{length, drop}
 use Rattle.syntax.specs.Bytes.{sameBytes}
 use Rattle.scanner.proofs.FirstElement.{same-lengths, same-at, same-end}
-use Rattle.scanner.proofs.is_word.Statement.{statement}
-use Rattle.scanner.proofs.is_word.Tie as tie
+use Rattle.tokens.proofs.is_word.Statement.{statement}
+use Rattle.tokens.proofs.is_word.Tie as tie
 
 abbrev Inv-loop : tie.InvT-loop
 Inv-loop part word i₀ i = sameBytes (drop i word) (drop i part) ≡ sameBytes word part

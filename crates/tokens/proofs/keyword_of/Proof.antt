@@ -1,12 +1,12 @@
--- `scanner::keyword_of` meets its contract: the place among the first five reserved words, or among the next five
+-- `tokens::keyword_of` meets its contract: the place among the first five reserved words, or among the next five
 -- behind them, or behind these ten.
 use native.Mathlib.Omega.{arith}
 use borrow.Author.Needs.{needs}
 use Rattle.syntax.specs.Bytes.{bytes}
 use Rattle.syntax.specs.Token.{keywords}
-use Rattle.scanner.proofs.Scanning.{texts, hit, miss, no-place, key-front, key-middle, key-last}
-use Rattle.scanner.proofs.keyword_of.Statement.{statement}
-use Rattle.scanner.proofs.keyword_of.Tie as tie
+use Rattle.tokens.proofs.Words.{texts, hit, miss, no-place, key-front, key-middle, key-last}
+use Rattle.tokens.proofs.keyword_of.Statement.{statement}
+use Rattle.tokens.proofs.keyword_of.Tie as tie
 
 returns : tie.Need-returns
 unfolding keywords bytes texts

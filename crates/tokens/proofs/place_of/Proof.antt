@@ -1,9 +1,9 @@
--- `scanner::place_of` meets its contract: each test that fails passes one word of the list, and the one that holds
+-- `tokens::place_of` meets its contract: each test that fails passes one word of the list, and the one that holds
 -- names it.
 use borrow.Author.Needs.{needs}
-use Rattle.scanner.proofs.Scanning.{hit, miss, no-place}
-use Rattle.scanner.proofs.place_of.Statement.{statement}
-use Rattle.scanner.proofs.place_of.Tie as tie
+use Rattle.tokens.proofs.Words.{hit, miss, no-place}
+use Rattle.tokens.proofs.place_of.Statement.{statement}
+use Rattle.tokens.proofs.place_of.Tie as tie
 
 returns : tie.Need-returns
 returns c = hit _ _ _ (c .before .is-word .ensures) (c .if1 .taken)

@@ -13,15 +13,16 @@ use Rattle.syntax.specs.Bytes.{letter, digit, wordByte, decimal}
 use Rattle.syntax.specs.Decide.Leading.{leading}
 use Rattle.syntax.specs.Token.{Lexeme, number, mark, keywords}
 use Rattle.syntax.specs.Decide.Scan.{Scan, nothing, found, scan, wordOf}
-use Rattle.scanner.specs.Step.{keyCode, tokenOf, wordAt, numberAt}
-use Rattle.scanner.specs.Coded.{lexemeCode, codeOf, Within}
+use Rattle.tokens.specs.Coded.{keyCode}
+use Rattle.scanner.specs.Step.{tokenOf, wordAt, numberAt}
+use Rattle.tokens.specs.Coded.{lexemeCode, codeOf, Within}
 use Rattle.syntax.specs.Held.Kind.{kindOf, valueOf, nameKind, firstKeyword, keywordCount}
 use Rattle.syntax.proofs.ByKind.{keyword-few}
 use Rattle.scanner.specs.declared.Token.the-variants.{Word}
 use Rattle.scanner.proofs.FirstElement.{by-cases, leading-le, leading-more-at}
 use Rattle.scanner.proofs.Marks.{MarkOr, none, one, marks-or}
 use Rattle.scanner.proofs.Scanning.{WordOr, a-name, a-key, word-or, over, within, scan-end, scan-word}
 use Rattle.scanner.proofs.Scanning.{scan-number, scan-mark}
 
 pub key-at-most : {w : List ℕ} {l : Lexeme} → WordOr w l → keyCode l ≤ keywordCount
 unfolding keyCode

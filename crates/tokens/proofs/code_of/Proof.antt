@@ -1,11 +1,11 @@
--- `scanner::code_of` meets its contract: each arm is given the token's constructor, at which `codeOf` computes.
+-- `tokens::code_of` meets its contract: each arm is given the token's constructor, at which `codeOf` computes.
 use borrow.Author.Needs.{needs}
 use mathlib.Core.Path.{sym, ap, _∙_}
 use denote.Ref.{now}
-use Rattle.scanner.specs.Coded.{codeOf, Within}
+use Rattle.tokens.specs.Coded.{codeOf, Within}
 use Rattle.syntax.specs.Held.Kind.{kindOf, valueOf}
-use Rattle.scanner.proofs.code_of.Statement.{statement}
-use Rattle.scanner.proofs.code_of.Tie as tie
+use Rattle.tokens.proofs.code_of.Statement.{statement}
+use Rattle.tokens.proofs.code_of.Tie as tie
 
 enum-known-token : tie.Need-enum-known-token
 enum-known-token c = search needs

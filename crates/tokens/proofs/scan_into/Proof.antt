@@ -1,4 +1,4 @@
--- `scanner::scan_into` meets its contract. The loop's invariant, `Held`: the numbers of the tokens so far are in the
+-- `tokens::scan_into` meets its contract. The loop's invariant, `Held`: the numbers of the tokens so far are in the
 -- slices, behind them these are as they were lent, and those tokens in front of the tokens of what is left are the
 -- file's. Each token has a byte of its own, so that 8,192 of them end the file.
 use Prim.Native.Nat.{ℕ, _-_, _<_}
@@ -8,11 +8,11 @@ use native.Mathlib.Omega.{arith}
 use borrow.Author.Needs.{needs}
 use denote.Ref.{now}
 use lib.ListN.{length, length-set}
 use Rattle.scanner.specs.Step.{stepAt}
-use Rattle.scanner.proofs.Tokens.{Held, Taken, held-none, held-one, taken, ended-bad, ended-all, ended-behind}
-use Rattle.scanner.proofs.Tokens.{tokens-end, scans-all, scans-bad, scans-long}
-use Rattle.scanner.proofs.scan_into.Statement.{statement}
-use Rattle.scanner.proofs.scan_into.Tie as tie
+use Rattle.tokens.proofs.Tokens.{Held, Taken, held-none, held-one, taken, ended-bad, ended-all, ended-behind}
+use Rattle.tokens.proofs.Tokens.{tokens-end, scans-all, scans-bad, scans-long}
+use Rattle.tokens.proofs.scan_into.Statement.{statement}
+use Rattle.tokens.proofs.scan_into.Tie as tie
 
 abbrev Inv-loop : tie.InvT-loop
 Inv-loop file kinds₀ values₀ places₀ cursor₀ n₀ kinds values places cursor n =
