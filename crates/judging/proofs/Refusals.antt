@@ -22,7 +22,7 @@ use Rattle.logic.proofs.Bools.{different}
 use Rattle.meaning.proofs.Stages.{check-3, check-4, check-5, check-6, check-7, check-8, check-9, check-0}
 use Rattle.grammar.specs.Reads.{Reads}
 use Rattle.grammar.specs.declared.Pos.the-variants.{Next, Stuck}
-use Rattle.passes.specs.Tokens.{foundOf}
+use Rattle.passes.specs.Pass.{foundOf}
 use Rattle.passes.specs.declared.Found.the-variants.{At, Nothing}
 use Rattle.variables.specs.Bounded.{RangedBy}
 use Rattle.variables.specs.Places.{firstVar}

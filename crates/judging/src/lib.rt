@@ -61,7 +61,7 @@ pub fn judge(file: &[u8], kinds: &[u8], values: &[u16], places: &[u16]) -> Judge
     if let Found::At(k) = passes::find_past_limit(kinds, places) {
         return not_judged(5, wide(k));
     }
-    if let Found::At(k) = passes::find_misnamed(file, kinds, values, places) {
+    if let Found::At(k) = names::find_misnamed(file, kinds, values, places) {
         return not_judged(6, wide(k));
     }
     let declared = variables::read(kinds, values, variables::FIRST);

@@ -21,7 +21,7 @@ use Rattle.meaning.specs.Model.{vars, regions}
 use Rattle.meaning.proofs.Sizes.{Sizes}
 use Rattle.meaning.proofs.Verdicts.{accepted-iff, past-7-late, past-7-one}
 use Rattle.variables.specs.Bounded.{Bounded}
-use Rattle.passes.specs.Tokens.{Resolved}
+use Rattle.names.specs.Slots.{Resolved}
 use Rattle.layout.specs.Laid.{IsKeep, Laid, TriesLaid, Linked}
 use Rattle.syntax.specs.Held.Kind.{Kinds}
 use Rattle.layout.specs.declared.Layout.{Layout}

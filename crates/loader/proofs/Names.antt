@@ -21,7 +21,7 @@ use Rattle.logic.proofs.Bools.{split}
 use Rattle.logic.proofs.Bools.{different}
 use Rattle.meaning.proofs.KeywordPlaces.{times, times-append}
 use Rattle.meaning.specs.Held.{behindKeep}
-use Rattle.passes.specs.Tokens.{titlesFrom, titlesOf, slotIn, slotOrValue, Resolved}
+use Rattle.names.specs.Slots.{titlesFrom, titlesOf, slotIn, slotOrValue, Resolved}
 use Rattle.evaluator.specs.Coding.{slotOf, Codes}
 use Rattle.syntax.specs.Held.Kind.{Kinds}
 use Rattle.judging.proofs.TokenSlices.{lexemes-map, at-lexeme}

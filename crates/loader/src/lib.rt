@@ -64,7 +64,7 @@ fn load_judged(
     let bounds = judged.bounds;
     let tries = layout::tries_of(kinds, keep);
     let layout = layout::lay_out(file, kinds, values, places, keep, tries.next);
-    passes::resolve(file, kinds, values, places, operands);
+    names::resolve(file, kinds, values, places, operands);
     layout::link_braces(kinds, operands);
     let last = filling::fill(
         kinds,

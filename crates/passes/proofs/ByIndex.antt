@@ -21,7 +21,7 @@ use Rattle.syntax.proofs.ByKind.{kind-mark}
 use Rattle.meaning.specs.Accepted.{opens, closes}
 use Rattle.meaning.specs.Decide.Check.{tally, crowded, pastLimit}
 use Rattle.logic.proofs.Bools.{is-false, no-some, clash}
-use Rattle.passes.specs.Tokens.{foundOf}
+use Rattle.passes.specs.Pass.{foundOf}
 use Rattle.passes.specs.declared.Found.the-variants.{At, Nothing}
 
 -- what is left from an index on is what stands there and what is left behind it

@@ -1,4 +1,1 @@
 pub mod ByIndex
-pub mod Naming
-pub mod Listing
-pub mod Misnaming

@@ -1,1 +1,1 @@
-pub mod Tokens
+pub mod Pass

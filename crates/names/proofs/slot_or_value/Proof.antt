@@ -1,11 +1,11 @@
--- `passes::slot_or_value` answers `slotOrValue`, by the kind.
+-- `names::slot_or_value` answers `slotOrValue`, by the kind.
 use mathlib.Core.Path.{sym, _∙_}
 use borrow.Author.Needs.{needs}
 use Rattle.syntax.proofs.ByKind.{is-name}
-use Rattle.passes.specs.Tokens.{slotOrValue}
-use Rattle.passes.proofs.Naming.{value-other}
-use Rattle.passes.proofs.slot_or_value.Statement.{statement}
-use Rattle.passes.proofs.slot_or_value.Tie as tie
+use Rattle.names.specs.Slots.{slotOrValue}
+use Rattle.names.proofs.Naming.{value-other}
+use Rattle.names.proofs.slot_or_value.Statement.{statement}
+use Rattle.names.proofs.slot_or_value.Tie as tie
 
 returns : tie.Need-returns
 unfolding slotOrValue

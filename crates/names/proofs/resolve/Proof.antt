@@ -1,4 +1,4 @@
--- `passes::resolve` fills the operands: at each turn they are those of the tokens passed, and behind them as they came.
+-- `names::resolve` fills the operands: at each turn they are those of the tokens passed, and behind them as they came.
 use Prim.Native.Nat.{_≤_, _-_}
 use native.Mathlib.Omega.{arith}
 use mathlib.Core.Path.{_≡_, refl, sym, _∙_}
@@ -8,12 +8,12 @@ use lib.ListN.{length, take, drop, length-set}
 use borrow.Author.Needs.{needs}
 use Rattle.syntax.specs.Token.{Token}
 use Rattle.meaning.specs.Decide.Check.{pastLimit}
-use Rattle.passes.specs.Tokens.{titlesOf, slotOrValue}
+use Rattle.names.specs.Slots.{titlesOf, slotOrValue}
 use Rattle.syntax.specs.Held.Kind.{Words}
 use Rattle.passes.proofs.ByIndex.{kinds-long, values-long, places-long}
-use Rattle.passes.proofs.Listing.{resolved-next, resolved-last}
-use Rattle.passes.proofs.resolve.Statement.{statement}
-use Rattle.passes.proofs.resolve.Tie as tie
+use Rattle.names.proofs.Listing.{resolved-next, resolved-last}
+use Rattle.names.proofs.resolve.Statement.{statement}
+use Rattle.names.proofs.resolve.Tie as tie
 
 abbrev Inv-loop : tie.InvT-loop
 Inv-loop file kinds values places operands₀ vars i₀ operands i =

@@ -19,10 +19,10 @@ use Rattle.logic.proofs.Bools.{split, is-false, clash}
 use Rattle.syntax.proofs.Lexemes.{decides-same}
 use Rattle.logic.proofs.Bools.{different}
 use Rattle.meaning.specs.Decide.Check.{member}
-use Rattle.passes.specs.declared.Names.{Names}
-use Rattle.passes.specs.Tokens.{slotIn, slotOrValue, NameAt, Titles, wrongBy, wrongly}
+use Rattle.names.specs.declared.Names.{Names}
+use Rattle.names.specs.Slots.{slotIn, slotOrValue, NameAt, Titles, wrongBy, wrongly}
 use Rattle.syntax.proofs.ByKind.{kind-key}
 use Rattle.passes.proofs.ByIndex.{rest-at, tokenAt, token-member, value-at, place-at, room}
 
 -- Equal bytes
 

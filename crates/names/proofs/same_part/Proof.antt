@@ -1,11 +1,11 @@
--- `passes::same_part` compares names that stand in the file: what `check::same` says of the two parts is said of the
+-- `names::same_part` compares names that stand in the file: what `check::same` says of the two parts is said of the
 -- names.
 use native.Mathlib.Omega.{arith}
 use mathlib.Core.Path.{sym, _∙_}
 use borrow.Author.Needs.{needs}
-use Rattle.passes.proofs.Naming.{same-test, stood}
-use Rattle.passes.proofs.same_part.Statement.{statement}
-use Rattle.passes.proofs.same_part.Tie as tie
+use Rattle.names.proofs.Naming.{same-test, stood}
+use Rattle.names.proofs.same_part.Statement.{statement}
+use Rattle.names.proofs.same_part.Tie as tie
 
 returns : tie.Need-returns
 returns c x y s t = absurd (omega (arith, s .inside))

@@ -1,8 +1,8 @@
--- `passes::declares` is the join of its two tests.
+-- `names::declares` is the join of its two tests.
 use borrow.Author.Tests.{eq-eqb, ne-eqb}
 use Rattle.syntax.specs.Held.Kind.{nameKind}
-use Rattle.passes.proofs.declares.Statement.{statement}
-use Rattle.passes.proofs.declares.Tie as tie
+use Rattle.names.proofs.declares.Statement.{statement}
+use Rattle.names.proofs.declares.Tie as tie
 
 returns : tie.Need-returns
 returns c = rw (eq-eqb _ nameKind (c .if1 .taken))

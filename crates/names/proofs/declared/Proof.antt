@@ -1,11 +1,11 @@
--- `passes::declared` adds a name at the end, or none.
+-- `names::declared` adds a name at the end, or none.
 use native.Mathlib.Omega.{arith}
 use borrow.Author.Tests.{not-true, not-false}
 use Rattle.logic.proofs.Bools.{clash}
 use borrow.Author.Needs.{needs}
-use Rattle.passes.proofs.Naming.{one-more}
-use Rattle.passes.proofs.declared.Statement.{statement}
-use Rattle.passes.proofs.declared.Tie as tie
+use Rattle.names.proofs.Naming.{one-more}
+use Rattle.names.proofs.declared.Statement.{statement}
+use Rattle.names.proofs.declared.Tie as tie
 
 returns : tie.Need-returns
 returns c file titles t = ((λ e. t), λ x e room s. clash e (not-true _ (c .if1 .taken)))

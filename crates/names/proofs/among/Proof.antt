@@ -1,8 +1,8 @@
--- `passes::among` answers `member`: a name is there exactly when its slot is below the count.
+-- `names::among` answers `member`: a name is there exactly when its slot is below the count.
 use borrow.Author.Needs.{needs}
-use Rattle.passes.proofs.Naming.{slot-member}
-use Rattle.passes.proofs.among.Statement.{statement}
-use Rattle.passes.proofs.among.Tie as tie
+use Rattle.names.proofs.Naming.{slot-member}
+use Rattle.names.proofs.among.Statement.{statement}
+use Rattle.names.proofs.among.Tie as tie
 
 returns : tie.Need-returns
 returns c titles x t s = rw (c .before .slot-of .ensures .1 titles x t s, t .counted) (slot-member titles x)

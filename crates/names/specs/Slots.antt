@@ -1,9 +1,8 @@
--- A file's tokens as the passes have them, and the slots of names.
+-- The names that a file declares, where they stand, their slots, and which names are wrong.
 use Prim.Native.Nat.{ℕ, suc, _+_, _≤_, _<_}
 use mathlib.Core.Path.{_≡_}
 use mathlib.Core.Bool.{Bool, true, false, not, _||_}
 use mathlib.Core.List.{List, [], _∷_, _++_, map}
-use mathlib.Core.Option.{Option, none, some}
 use lib.ListN.{length, take, drop, getD}
 use Rattle.syntax.specs.Bytes.{sameBytes}
 use Rattle.syntax.specs.Limits.{mostMethods}
@@ -11,13 +10,7 @@ use Rattle.syntax.specs.Token.{Lexeme, name, key, number, mark, k-monitor, k-va
 use Rattle.syntax.specs.Decide.Lexeme.{isKey}
 use Rattle.syntax.specs.Held.Kind.{kindOf}
 use Rattle.meaning.specs.Decide.Check.{member}
-use Rattle.passes.specs.declared.Names.{Names}
-use Rattle.passes.specs.declared.Found.{Found}
-use Rattle.passes.specs.declared.Found.the-variants.{At, Nothing}
-
-unfoldable pub foundOf : Option ℕ → Found
-foundOf none = Nothing
-foundOf (some k) = At k
+use Rattle.names.specs.declared.Names.{Names}
 
 -- the names that stand behind `var`, in order; the lexeme before comes first
 unfoldable pub titlesFrom : Lexeme → List Token → List (List ℕ)

@@ -1,7 +1,7 @@
--- `passes::no_names` holds no names.
+-- `names::no_names` holds no names.
 use native.Mathlib.Omega.{arith}
-use Rattle.passes.proofs.no_names.Statement.{statement}
-use Rattle.passes.proofs.no_names.Tie as tie
+use Rattle.names.proofs.no_names.Statement.{statement}
+use Rattle.names.proofs.no_names.Tie as tie
 
 returns : tie.Need-returns
 returns c file = record { counted = omega arith; room = omega arith; held = λ k l. absurd (omega arith) }

@@ -1,4 +1,4 @@
--- `passes::find_misnamed` answers `misnamed`: at each turn `misnamed` of the whole file is `misnamed` of the tokens
+-- `names::find_misnamed` answers `misnamed`: at each turn `misnamed` of the whole file is `misnamed` of the tokens
 -- that are left, behind the lexeme before and with the names held.
 use Prim.Native.Nat.{_≤_, _-_}
 use native.Mathlib.Omega.{arith}
@@ -11,10 +11,10 @@ use Rattle.syntax.specs.Token.{Token}
 use Rattle.syntax.specs.Decide.Lexeme.{keywordNumber}
 use Rattle.meaning.specs.Decide.Check.{pastLimit}
 use Rattle.syntax.specs.Held.Kind.{kindOf, Words}
 use Rattle.passes.proofs.ByIndex.{values-long, places-long}
-use Rattle.passes.proofs.Misnaming.{Naming, naming-first, naming-offends, naming-next, naming-ends}
-use Rattle.passes.proofs.find_misnamed.Statement.{statement}
-use Rattle.passes.proofs.find_misnamed.Tie as tie
+use Rattle.names.proofs.Misnaming.{Naming, naming-first, naming-offends, naming-next, naming-ends}
+use Rattle.names.proofs.find_misnamed.Statement.{statement}
+use Rattle.names.proofs.find_misnamed.Tie as tie
 
 abbrev Inv-loop : tie.InvT-loop
 Inv-loop file kinds values places vars₀ methods₀ before₀ i₀ vars methods before i =

@@ -1,4 +1,4 @@
--- `passes::variables` lists the variables: at each turn the titles of the file are those held and those of the tokens
+-- `names::variables` lists the variables: at each turn the titles of the file are those held and those of the tokens
 -- that are left.
 use Prim.Native.Nat.{ℕ, _≤_, _-_}
 use native.Mathlib.Omega.{arith}
@@ -11,10 +11,10 @@ use Rattle.syntax.specs.Token.{Token}
 use Rattle.syntax.specs.Decide.Lexeme.{keywordNumber}
 use Rattle.meaning.specs.Decide.Check.{pastLimit}
 use Rattle.syntax.specs.Held.Kind.{kindOf, Words}
 use Rattle.passes.proofs.ByIndex.{values-long, places-long}
-use Rattle.passes.proofs.Listing.{Listing, listing-first, listing-next, listing-last}
-use Rattle.passes.proofs.variables.Statement.{statement}
-use Rattle.passes.proofs.variables.Tie as tie
+use Rattle.names.proofs.Listing.{Listing, listing-first, listing-next, listing-last}
+use Rattle.names.proofs.variables.Statement.{statement}
+use Rattle.names.proofs.variables.Tie as tie
 
 abbrev Inv-loop : tie.InvT-loop
 Inv-loop kinds values places vars₀ before₀ i₀ vars before i =

@@ -15,12 +15,12 @@ use Rattle.syntax.specs.Decide.Lexeme.{isKey, isName}
 use Rattle.syntax.specs.Held.Kind.{kindOf, valueOf, nameKind, numberKind, Words}
 use Rattle.logic.proofs.Bools.{split}
 use Rattle.meaning.specs.Decide.Check.{tally, pastLimit}
-use Rattle.passes.specs.declared.Names.{Names}
-use Rattle.passes.specs.Tokens.{titlesOf, titlesFrom, slotOrValue, NameAt, Titles, Resolved, Grows}
+use Rattle.names.specs.declared.Names.{Names}
+use Rattle.names.specs.Slots.{titlesOf, titlesFrom, slotOrValue, NameAt, Titles, Resolved, Grows}
 use Rattle.syntax.proofs.ByKind.{kind-name, kind-key}
 use Rattle.passes.proofs.ByIndex.{rest-at, tokenAt, kinds-long, value-at, kind-at, here, front-more, at-end}
 use Rattle.passes.proofs.ByIndex.{tally-least, Few, few-first, few-next, room}
-use Rattle.passes.proofs.Naming.{name-stands}
+use Rattle.names.proofs.Naming.{name-stands}
 
 -- Names behind a keyword
 

@@ -1,4 +1,4 @@
--- `passes::slot_of` answers `slotIn`: at each turn the slot among all names is the number passed and the slot among
+-- `names::slot_of` answers `slotIn`: at each turn the slot among all names is the number passed and the slot among
 -- those that are left.
 use Prim.Native.Nat.{ℕ, _+_, _-_, _≤_, _<_}
 use native.Mathlib.Omega.{arith}
@@ -8,10 +8,10 @@ use lib.ListN.{length, drop, getD}
 use borrow.Author.Needs.{needs}
 use borrow.Author.Tests.{ltb-true, ltb-false}
 use Rattle.syntax.specs.Limits.{mostMethods}
-use Rattle.passes.specs.Tokens.{slotIn, NameAt, Titles}
-use Rattle.passes.proofs.Naming.{slot-hit, slot-miss, slot-end}
-use Rattle.passes.proofs.slot_of.Statement.{statement}
-use Rattle.passes.proofs.slot_of.Tie as tie
+use Rattle.names.specs.Slots.{slotIn, NameAt, Titles}
+use Rattle.names.proofs.Naming.{slot-hit, slot-miss, slot-end}
+use Rattle.names.proofs.slot_of.Statement.{statement}
+use Rattle.names.proofs.slot_of.Tie as tie
 
 abbrev Inv-loop : tie.InvT-loop
 Inv-loop file start len names i₀ i =

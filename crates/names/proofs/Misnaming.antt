@@ -16,12 +16,13 @@ use Rattle.syntax.specs.Held.Kind.{kindOf, nameKind, numberKind, Words}
 use Rattle.syntax.proofs.Lexemes.{decides-key}
 use Rattle.logic.proofs.Bools.{different}
 use Rattle.meaning.specs.Decide.Check.{pastLimit, member, misnamed}
-use Rattle.passes.specs.declared.Names.{Names}
+use Rattle.names.specs.declared.Names.{Names}
 use Rattle.passes.specs.declared.Found.the-variants.{At, Nothing}
-use Rattle.passes.specs.Tokens.{foundOf, Titles, Grows, Judges, wrongBy, wrongly}
+use Rattle.passes.specs.Pass.{foundOf}
+use Rattle.names.specs.Slots.{Titles, Grows, Judges, wrongBy, wrongly}
 use Rattle.passes.proofs.ByIndex.{tokenAt, kind-at, Few, few-first, few-next, room, Pass, offends, goes-on, ends}
-use Rattle.passes.proofs.Naming.{name-stands}
-use Rattle.passes.proofs.Listing.{added, added-few, grown-at}
+use Rattle.names.proofs.Naming.{name-stands}
+use Rattle.names.proofs.Listing.{added, added-few, grown-at}
 
 -- 6 as a pass: the lexeme before, and the variables and methods declared, the last first
 

@@ -1,4 +1,4 @@
--- `passes::wrong` answers `wrongly`: the kind tells a name, and the kind before it which names it is looked for among.
+-- `names::wrong` answers `wrongly`: the kind tells a name, and the kind before it which names it is looked for among.
 use mathlib.Core.Path.{sym, ap, _∙_}
 use mathlib.Core.Bool.{not}
 use borrow.Author.Needs.{needs}
@@ -7,10 +7,10 @@ use Rattle.syntax.specs.Token.{key, k-var, k-method, k-monitor}
 use Rattle.syntax.specs.Decide.Lexeme.{keywordNumber}
 use Rattle.syntax.specs.Held.Kind.{kindOf}
 use Rattle.syntax.proofs.ByKind.{is-name}
-use Rattle.passes.specs.Tokens.{wrongBy}
-use Rattle.passes.proofs.Naming.{wrong-other, wrong-name}
-use Rattle.passes.proofs.wrong.Statement.{statement}
-use Rattle.passes.proofs.wrong.Tie as tie
+use Rattle.names.specs.Slots.{wrongBy}
+use Rattle.names.proofs.Naming.{wrong-other, wrong-name}
+use Rattle.names.proofs.wrong.Statement.{statement}
+use Rattle.names.proofs.wrong.Tie as tie
 
 returns : tie.Need-returns
 returns c vs ms l last t u k b s = sym (wrong-other last l vs ms (λ e. c .if1 .taken (k ∙ e)))
