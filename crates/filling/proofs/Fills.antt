@@ -22,12 +22,12 @@ use Rattle.variables.specs.declared.Bounds.{Bounds}
 use Rattle.layout.specs.declared.Layout.{Layout}
 use Rattle.layout.specs.declared.Tries.{Tries}
 use Rattle.states.specs.Rows.{TruthRow, TruthSets, ConditionsAt, BodiesAt, GuardNumbers, KeptAll, HoldsAll, Outcomes}
-use Rattle.states.specs.Rows.{BrokenAs}
+use Rattle.breaking.specs.Broken.{BrokenAs}
 use Rattle.states.proofs.Holding.{guards-few, kept-of-row}
-use Rattle.states.proofs.Breaking.{after-all}
+use Rattle.breaking.proofs.Breaking.{after-all}
 use Rattle.states.specs.Promises.{Condition, Conditions}
-use Rattle.states.specs.declared.Broken.{Broken}
-use Rattle.states.specs.declared.Broken.the-variants.{Never, At}
+use Rattle.breaking.specs.declared.Broken.{Broken}
+use Rattle.breaking.specs.declared.Broken.the-variants.{Never, At}
 use Rattle.choice.specs.Slots.{lacks}
 use Rattle.choice.specs.Chosen.{Chooses}
 use Rattle.choice.proofs.Passing.{all-there, chosen-set}

@@ -1,10 +1,10 @@
 // Refusals 8 and 9, and the choice among the tries before 9: the truths and the outcomes of the bodies of a file whose
 // names and braces are resolved, into lent slices.
 use answers::Answer;
+use breaking::Broken;
 use choice::Choice;
 use layout::Layout;
 use layout::Tries;
-use states::Broken;
 use variables::Bounds;
 ghost use mathlib.Core.Path.{_≡_};
 ghost use mathlib.Core.List.{List};
@@ -111,7 +111,7 @@ fn fill_states(
         tried,
     );
     choice::strengthen(kept, tried, choice.chosen, bounds.states);
-    match states::first_broken(bounds, numbers, regions, kept, holds, after) {
+    match breaking::first_broken(bounds, numbers, regions, kept, holds, after) {
         Broken::At(r, s) => with_choice(answers::say(9, r, s), choice),
         Broken::Never => with_choice(answers::say(0, 0, 0), choice),
     }

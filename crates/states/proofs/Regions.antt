@@ -1,24 +1,29 @@
 -- Laws of all regions: what a row of the slices is given.
 use Prim.Native.Nat.{ℕ, _+_, _*_, _≤_, _<_}
 use native.Mathlib.Omega.{arith}
-use mathlib.Core.Path.{_≡_, ap, _∙_}
-use mathlib.Core.Bool.{Bool}
+use mathlib.Core.Path.{_≡_, sym, ap, _∙_}
+use mathlib.Core.Bool.{Bool, true}
 use mathlib.Core.List.{List, _++_}
 use lib.ListN.{length, getD, take, drop, length-append, length-drop, List·getD-append}
-use lib.Seq.{getD-take, getD-append-add, length-take-le}
+use lib.Seq.{getD-take, getD-drop, getD-append-add, length-take-le}
+use lib.Dec.{eqb}
 use lib.IntN.{ℤ}
+use borrow.Author.Tests.{eqb-true, eq-eqb}
 use Rattle.sets.specs.Set.{member}
 use Rattle.syntax.specs.Token.{Lexeme}
-use Rattle.syntax.specs.Tree.{Monitor}
+use Rattle.syntax.specs.Tree.{Var, Region, Monitor}
 use Rattle.syntax.proofs.Grammar.{one-cond}
-use Rattle.meaning.specs.State.{count}
+use Rattle.logic.proofs.Bools.{both, and}
+use Rattle.meaning.specs.Value.{truth}
+use Rattle.meaning.specs.State.{count, stateAt}
 use Rattle.meaning.specs.Model.{vars, regions, region, guardOf}
 use Rattle.meaning.proofs.ModelLaws.{guard-below, holds-guard}
 use Rattle.evaluator.specs.Coding.{Codes}
 use Rattle.variables.specs.Bounded.{Bounded}
 use Rattle.variables.specs.declared.Bounds.{Bounds}
 use Rattle.states.specs.Rows.{TruthRow, BodiesAt, GuardNumbers, HoldsAll, Row}
-use Rattle.states.specs.Promises.{Looked, Body}
+use Rattle.states.specs.Promises.{Looked, Body, runsBy}
+use Rattle.states.proofs.Lanes.{bit-true, bit-one}
 
 -- A row that is lent, and has come back into its slice
 
@@ -123,3 +128,25 @@ module _ {m : Monitor} {keep : List ℤ → Bool} {kinds values : List ℕ} {bou
 -- a region's row is done
 abbrev pub Done : Monitor → (List ℤ → Bool) → List ℕ → ℕ → Type 0
 Done m keep rows j = Row (vars m) keep (region m j) (count (vars m)) (λ s. getD rows (j * 4096 + s) 0)
+
+-- where a test and the guard hold, the slices say so, and the other way
+module _ {vs : List Var} {keep : List ℤ → Bool} {q : Region} {guard : ℕ} {kept′ holds′ : List ℕ}
+    (l : Looked vs keep q guard kept′ holds′) where
+  pub runs-true : (s : ℕ) → s < count vs → keep (stateAt vs s) ≡ true → truth (q .guard) vs (stateAt vs s) ≡ true
+      → runsBy kept′ holds′ guard s ≡ true
+  unfolding runsBy TruthRow
+  runs-true s low k g = and (eq-eqb (getD kept′ s 0) 1 (l .by-kept s low ∙ bit-true k)) (l .by-guard s low ∙ g)
+
+  pub runs-parts : (s : ℕ) → s < count vs → runsBy kept′ holds′ guard s ≡ true
+      → (keep (stateAt vs s) ≡ true) × (truth (q .guard) vs (stateAt vs s) ≡ true)
+  unfolding runsBy TruthRow
+  runs-parts s low h =
+      let t = both (eqb (getD kept′ s 0) 1) (member (getD holds′ s 0) guard) h in (
+        bit-one (keep (stateAt vs s)) (sym (l .by-kept s low) ∙ eqb-true (getD kept′ s 0) 1 (t .0)),
+        sym (l .by-guard s low) ∙ t .1,
+      )
+
+-- region g's row, lent
+pub part-at : (xs : List ℕ) (g n s : ℕ) → n ≡ 4096 → s < 4096
+    → getD (take n (drop (g * 4096) xs)) s 0 ≡ getD xs (g * 4096 + s) 0
+part-at xs g n s w low = getD-take n (drop (g * 4096) xs) s 0 (omega arith) ∙ getD-drop (g * 4096) xs s 0

@@ -84,21 +84,6 @@ pub record Body (vs : List Var) (keep : List ℤ → Bool) (q : Region) (kinds v
 abbrev pub Moves : List Var → (List ℤ → Bool) → Region → List ℕ → ℕ → ℕ → Type 0
 Moves vs keep q moves j s = Moved vs keep q s (getD moves j 0)
 
--- What the slices say of refusal 9
-
 -- kept condition and guard hold at a state
 unfoldable pub runsBy : List ℕ → List ℕ → ℕ → ℕ → Bool
 runsBy kept holds guard s = eqb (getD kept s 0) 1 && member (getD holds s 0) guard
-
--- an outcome is a fault, or a state at which the kept condition is false
-unfoldable pub failsBy : List ℕ → ℕ → Bool
-failsBy kept to = eqb to faultMark || not (eqb (getD kept to 0) 1)
-
-unfoldable pub breaksBy : List ℕ → List ℕ → ℕ → ℕ → ℕ → Bool
-breaksBy kept holds guard s to = failsBy kept to && runsBy kept holds guard s
-
--- the lowest number below n that passes a test, or n where none does
-pub record Lowest (p : ℕ → Bool) (n r : ℕ) : Type 0 where
-  pub within : r ≤ n
-  pub passes : r < n → p r ≡ true
-  pub lower : (k : ℕ) → k < r → p k ≡ false

@@ -17,8 +17,6 @@ use Rattle.meaning.specs.Decide.Bodies.{outcome}
 use Rattle.meaning.specs.State.{count, stateAt, numberOf}
 use Rattle.meaning.specs.Model.{vars, regions, guards, region, guardOf, noGuard, kept, holds, after, model}
 use Rattle.evaluator.specs.Coding.{EndsCond}
-use Rattle.states.specs.declared.Broken.{Broken}
-use Rattle.states.specs.declared.Broken.the-variants.{Never, At}
 
 -- the truth at every state of a test of its values
 unfoldable pub TruthRow : List Var → (List ℤ → Bool) → List ℕ → Type 0
@@ -79,8 +77,3 @@ unfoldable pub Outcomes : Monitor → (List ℤ → Bool) → List ℕ → Type 
 Outcomes m keep rows =
     (r : ℕ) → r < length (regions m)
     → Row (vars m) keep (region m r) (count (vars m)) (λ s. getD rows (r * 4096 + s) 0)
-
--- the answer for refusal 9
-unfoldable pub BrokenAs : Broken → Option (ℕ × ℕ) → Type 0
-BrokenAs b none = b ≡ Never
-BrokenAs b (some rn) = b ≡ At (rn .0) (rn .1)

@@ -1,5 +1,5 @@
 // Goes through the states of a file, sixteen at a time, into lent slices: the truth of a condition, the guards and the
-// tries that hold at every state, and the outcome of each region's body; then refusal 9, by looking those up.
+// tries that hold at every state, and the outcome of each region's body.
 use variables::Bounds;
 ghost use mathlib.Core.Path.{_≡_};
 ghost use mathlib.Core.Bool.{Bool};
@@ -17,28 +17,20 @@ ghost use Rattle.meaning.specs.State.{count, stateAt};
 ghost use Rattle.meaning.specs.Model.{vars, regions, guards};
 ghost use Rattle.meaning.specs.Value.{truth};
 ghost use Rattle.meaning.specs.Decide.Bodies.{outcome};
-ghost use Rattle.meaning.specs.Kept.{keptAt};
 ghost use Rattle.meaning.specs.Held.{Biased};
-ghost use Rattle.meaning.specs.Decide.Check.{broken};
 ghost use Rattle.evaluator.specs.Coding.{Codes, EndsCond, RunAs, lane};
 ghost use Rattle.variables.specs.Bounded.{Bounded};
-ghost use Rattle.states.specs.Rows.{TruthRow, TruthSets, BodiesAt, HoldsAll, KeptAll, GuardNumbers};
-ghost use Rattle.states.specs.Rows.{outcomeNumber, Moved, Row, Outcomes, BrokenAs};
+ghost use Rattle.states.specs.Rows.{TruthRow, TruthSets, BodiesAt, HoldsAll, GuardNumbers};
+ghost use Rattle.states.specs.Rows.{outcomeNumber, Moved, Row, Outcomes};
 ghost use Rattle.variables.specs.declared.Bounds.{Bounds};
 ghost use Rattle.states.specs.Promises.{Put, Condition, Conditions, Sixteen, Values, Truths, Body, Moves};
-ghost use Rattle.states.specs.Promises.{runsBy, failsBy, breaksBy, Lowest};
+ghost use Rattle.states.specs.Promises.{runsBy};
 
 // The outcome of a body that leaves a range: no state's number.
-const FAULT: u16 = machine::STATE_END;
-
-// Every region keeps, or the lowest region and then the lowest state from which one does not (9).
-pub enum Broken {
-    Never,
-    At(usize, usize),
-}
+pub const FAULT: u16 = machine::STATE_END;
 
 // The place of a token, as wide as an index.
-fn wide(at: u16) -> usize
+pub fn wide(at: u16) -> usize
     ensures { λ r. ⌜ r ≡ at ⌝ }
 {
     at as usize
@@ -242,7 +234,7 @@ pub fn number_at(xs: &[u16], at: usize) -> u16
 }
 
 // Do kept condition and guard hold at a state?
-fn may_run(kept: &[u8], holds: &[u16], guard: u8, s: usize) -> bool
+pub fn may_run(kept: &[u8], holds: &[u16], guard: u8, s: usize) -> bool
     ensures { λ r. ⌜ r ≡ runsBy (now (kept .entry)) (now (holds .entry)) guard s ⌝ }
 {
     if byte_at(kept, s) != 1 {
@@ -404,74 +396,4 @@ pub fn fill_after(
         );
         r += 1;
     }
-}
-
-// Is an outcome a fault, or a state at which the kept condition is false?
-fn fails(kept: &[u8], to: u16) -> bool
-    ensures { λ r. ⌜ r ≡ failsBy (now (kept .entry)) to ⌝ }
-{
-    if to == FAULT {
-        return true;
-    }
-    byte_at(kept, wide(to)) != 1
-}
-
-// Does a region break at a state, from which its body has an outcome?
-fn breaks_at(kept: &[u8], holds: &[u16], guard: u8, s: usize, to: u16) -> bool
-    ensures { λ r. ⌜ r ≡ breaksBy (now (kept .entry)) (now (holds .entry)) guard s to ⌝ }
-{
-    if !fails(kept, to) {
-        return false;
-    }
-    may_run(kept, holds, guard, s)
-}
-
-// The lowest state at which a region breaks, by the outcomes of its body; the count of states where it never does.
-fn first_in_row(row: &[u16], states: usize, guard: u8, kept: &[u8], holds: &[u16]) -> usize
-    ensures { λ r. ⌜ Lowest
-        (λ s. breaksBy (now (kept .entry)) (now (holds .entry)) guard s (getD (now (row .entry)) s 0)) states r ⌝ }
-{
-    let mut s: usize = 0;
-    while s < states {
-        if breaks_at(kept, holds, guard, s, number_at(row, s)) {
-            return s;
-        }
-        s += 1;
-    }
-    states
-}
-
-// Every region keeps, or the lowest region and then the lowest state from which the outcome is a fault or not kept (9).
-pub fn first_broken(
-    bounds: Bounds,
-    guard_of: [u8; machine::REGIONS],
-    count: usize,
-    kept: &[u8],
-    holds: &[u16],
-    after: &[u16],
-) -> Broken
-    ensures { λ r. ⌜ ((m : Monitor) → Bounded (vars m) bounds → count ≡ length (regions m) → count ≤ mostRegions
-        → GuardNumbers m «guard_of» → mostAfter ≤ length (now (after .entry))
-        → KeptAll m (now (kept .entry)) → HoldsAll m (now (holds .entry)) → Outcomes m (keptAt m) (now (after .entry))
-        → BrokenAs r (broken m)) ⌝ }
-{
-    if after.len() < machine::AFTER {
-        return Broken::Never;
-    }
-    if machine::REGIONS < count {
-        return Broken::Never;
-    }
-    let states = bounds.states;
-    let mut r: usize = 0;
-    while r < count {
-        let from = r * machine::STATES;
-        let to = from + machine::STATES;
-        let guard = guard_of[r];
-        let s = first_in_row(&after[from..to], states, guard, kept, holds);
-        if s < states {
-            return Broken::At(r, s);
-        }
-        r += 1;
-    }
-    Broken::Never
 }

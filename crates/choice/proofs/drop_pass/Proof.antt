@@ -3,7 +3,7 @@ use Prim.Native.Nat.{ℕ, _+_, _-_, _*_, _≤_, _<_}
 use native.Mathlib.Omega.{arith}
 use mathlib.Core.Path.{_≡_, refl, sym, _∙_}
 use denote.Ref.{now}
-use Rattle.states.proofs.Breaking.{part-at}
+use Rattle.states.proofs.Regions.{part-at}
 use Rattle.choice.specs.Slots.{breaksBy, slotOf, rowsSlot}
 use Rattle.choice.proofs.Binding.{rows-none, rows-next, rows-same, row-of}
 use Rattle.choice.proofs.drop_pass.Statement.{statement}

@@ -15,7 +15,8 @@ use Rattle.meaning.specs.State.{starts}
 use Rattle.meaning.specs.Decide.Check.{broken}
 use Rattle.meaning.specs.Model.{vars, guards}
 use Rattle.meaning.proofs.StateLaws.{starts-state}
-use Rattle.states.specs.Rows.{TruthRow, TruthSets, KeptAll, HoldsAll, Outcomes, BrokenAs}
+use Rattle.states.specs.Rows.{TruthRow, TruthSets, KeptAll, HoldsAll, Outcomes}
+use Rattle.breaking.specs.Broken.{BrokenAs}
 use Rattle.choice.specs.Chosen.{Chooses}
 use Rattle.filling.specs.Filling.{Filling, Rows, AsLong}
 use Rattle.filling.proofs.Fills.{keeping, guarding, trying, bodies-of, numbers-of, holds-of, outcomes-kept}

@@ -2,7 +2,7 @@
 use mathlib.Core.Path.{sym, _∙_}
 use borrow.Author.Needs.{needs}
 use Rattle.logic.proofs.Bools.{clash, not-true}
-use Rattle.states.proofs.Breaking.{runs-true}
+use Rattle.states.proofs.Regions.{runs-true}
 use Rattle.states.proofs.moved.Statement.{statement}
 use Rattle.states.proofs.moved.Tie as tie
 

@@ -5,12 +5,10 @@ use mathlib.Core.Path.{_≡_, refl, sym, ap, subst, _∙_}
 use mathlib.Core.Bool.{Bool, true, false, not, _&&_, false≢true}
 use mathlib.Core.List.{List, [], _∷_}
 use mathlib.Core.Option.{Option, none, some, Option·some-injective}
-use lib.ListN.{length, getD, getElem?, take, drop}
-use lib.Seq.{getD-take, getD-drop}
+use lib.ListN.{length, getD, getElem?}
 use lib.Dec.{eqb}
 use lib.IntN.{ℤ}
-use borrow.Author.Tests.{eqb-true, eq-eqb, ne-eqb}
-use Rattle.sets.specs.Set.{member}
+use borrow.Author.Tests.{ne-eqb}
 use Rattle.syntax.specs.Tree.{Var, Region, Monitor}
 use Rattle.syntax.proofs.Grammar.{one-cond}
 use Rattle.logic.specs.Tests.{bit}
@@ -27,13 +25,14 @@ use Rattle.meaning.specs.Model.{numberAfter, vars, regions, region, guardOf, ke
 use Rattle.meaning.proofs.ModelLaws.{region-numbered, holds-guard}
 use Rattle.meaning.proofs.Searching.{where-none-iff, where-some-iff}
 use Rattle.meaning.proofs.StateLaws.{number-below, state-at-number}
-use Rattle.states.specs.declared.Broken.the-variants.{Never, At}
+use Rattle.breaking.specs.declared.Broken.the-variants.{Never, At}
 use Rattle.states.specs.Rows.{TruthRow, GuardNumbers, KeptAll, HoldsAll, AfterAll}
-use Rattle.states.specs.Rows.{outcomeNumber, Moved, Outcomes, BrokenAs}
-use Rattle.states.specs.Promises.{Looked, runsBy, failsBy, breaksBy}
+use Rattle.states.specs.Rows.{outcomeNumber, Moved, Outcomes}
+use Rattle.states.specs.Promises.{Looked, runsBy}
+use Rattle.breaking.specs.Broken.{BrokenAs, failsBy, breaksBy}
 use Rattle.states.proofs.Holding.{row-of-kept, kept-truth}
-use Rattle.states.proofs.Lanes.{bit-true, bit-one, outcome-state}
-use Rattle.states.proofs.Regions.{looked}
+use Rattle.states.proofs.Lanes.{outcome-state}
+use Rattle.states.proofs.Regions.{looked, runs-true, runs-parts}
 
 pub bit-is : (b : Bool) → not (eqb (bit b) 1) ≡ not b
 unfolding bit
@@ -44,20 +43,6 @@ bit-is false = refl
 
 module _ {vs : List Var} {keep : List ℤ → Bool} {q : Region} {guard : ℕ} {kept′ holds′ : List ℕ}
     (l : Looked vs keep q guard kept′ holds′) where
-  pub runs-true : (s : ℕ) → s < count vs → keep (stateAt vs s) ≡ true → truth (q .guard) vs (stateAt vs s) ≡ true
-      → runsBy kept′ holds′ guard s ≡ true
-  unfolding runsBy TruthRow
-  runs-true s low k g = and (eq-eqb (getD kept′ s 0) 1 (l .by-kept s low ∙ bit-true k)) (l .by-guard s low ∙ g)
-
-  pub runs-parts : (s : ℕ) → s < count vs → runsBy kept′ holds′ guard s ≡ true
-      → (keep (stateAt vs s) ≡ true) × (truth (q .guard) vs (stateAt vs s) ≡ true)
-  unfolding runsBy TruthRow
-  runs-parts s low h =
-      let t = both (eqb (getD kept′ s 0) 1) (member (getD holds′ s 0) guard) h in (
-        bit-one (keep (stateAt vs s)) (sym (l .by-kept s low) ∙ eqb-true (getD kept′ s 0) 1 (t .0)),
-        sym (l .by-guard s low) ∙ t .1,
-      )
-
   module _ (good : GoodRanges vs) (few : count vs ≤ 4096) where
     fails-is : (o : Option (List ℤ)) → ((bs : List ℤ) → o ≡ some bs → State vs bs)
         → failsBy kept′ (outcomeNumber vs o) ≡ not (keptAfter keep o)
@@ -81,17 +66,12 @@ module _ {vs : List Var} {keep : List ℤ → Bool} {q : Region} {guard : ℕ} {
         tests-equal (breaks vs keep q (stateAt vs s)) (breaksBy kept′ holds′ guard s to)
         (λ h. let u = both (keep (stateAt vs s) && truth (q .guard) vs (stateAt vs s)) (not (keptAfter keep o)) h in
         let (k, g) = both (keep (stateAt vs s)) (truth (q .guard) vs (stateAt vs s)) (u .0) in
-        and (ap (failsBy kept′) (t .number k g) ∙ fails ∙ u .1) (runs-true s low k g))
+        and (ap (failsBy kept′) (t .number k g) ∙ fails ∙ u .1) (runs-true l s low k g))
         (λ h. let u = both (failsBy kept′ to) (runsBy kept′ holds′ guard s) h in
-        let (k, g) = runs-parts s low (u .1) in
+        let (k, g) = runs-parts l s low (u .1) in
         and (and k g) (sym fails ∙ sym (ap (failsBy kept′) (t .number k g)) ∙ u .0))
 
 -- All regions
-
--- region g's row, lent
-pub part-at : (xs : List ℕ) (g n s : ℕ) → n ≡ 4096 → s < 4096
-    → getD (take n (drop (g * 4096) xs)) s 0 ≡ getD xs (g * 4096 + s) 0
-part-at xs g n s w low = getD-take n (drop (g * 4096) xs) s 0 (omega arith) ∙ getD-drop (g * 4096) xs s 0
 
 numbered-below : {A : Type 0} (xs : List A) (i : ℕ) (a : A) → getElem? xs i ≡ some a → i < length xs
 numbered-below [] i a e = no-some e

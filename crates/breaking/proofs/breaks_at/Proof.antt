@@ -1,11 +1,11 @@
--- `states::breaks_at` meets its contract: an outcome that is kept breaks nothing.
+-- `breaking::breaks_at` meets its contract: an outcome that is kept breaks nothing.
 use mathlib.Core.Path.{sym, _∙_}
 use borrow.Author.Needs.{needs}
 use borrow.Author.Tests.{not-false}
 use Rattle.logic.proofs.Bools.{not-true}
-use Rattle.states.specs.Promises.{breaksBy}
-use Rattle.states.proofs.breaks_at.Statement.{statement}
-use Rattle.states.proofs.breaks_at.Tie as tie
+use Rattle.breaking.specs.Broken.{breaksBy}
+use Rattle.breaking.proofs.breaks_at.Statement.{statement}
+use Rattle.breaking.proofs.breaks_at.Tie as tie
 
 returns : tie.Need-returns
 unfolding breaksBy

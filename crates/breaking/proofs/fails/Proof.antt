@@ -1,4 +1,4 @@
--- `states::fails` meets its contract: the mark of a fault, or what is held of the kept condition there.
+-- `breaking::fails` meets its contract: the mark of a fault, or what is held of the kept condition there.
 use Prim.Native.Nat.{ℕ}
 use mathlib.Core.Path.{ap, _∙_}
 use mathlib.Core.Bool.{not}
@@ -7,9 +7,9 @@ use lib.Dec.{eqb}
 use denote.Ref.{now}
 use borrow.Author.Needs.{needs}
 use borrow.Author.Tests.{eq-eqb, ne-eqb}
-use Rattle.states.specs.Promises.{failsBy}
-use Rattle.states.proofs.fails.Statement.{statement}
-use Rattle.states.proofs.fails.Tie as tie
+use Rattle.breaking.specs.Broken.{failsBy}
+use Rattle.breaking.proofs.fails.Statement.{statement}
+use Rattle.breaking.proofs.fails.Tie as tie
 
 returns : tie.Need-returns
 unfolding failsBy

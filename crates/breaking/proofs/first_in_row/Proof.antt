@@ -1,14 +1,14 @@
--- `states::first_in_row` meets its contract. The loop's invariant: the region breaks at no state below s.
+-- `breaking::first_in_row` meets its contract. The loop's invariant: the region breaks at no state below s.
 use Prim.Native.Nat.{ℕ, _-_, _≤_, _<_}
 use native.Mathlib.Omega.{arith}
 use mathlib.Core.Path.{_≡_, sym, ap, _∙_}
 use mathlib.Core.Bool.{false}
 use lib.ListN.{getD}
 use borrow.Author.Needs.{needs}
-use Rattle.states.specs.Promises.{breaksBy}
+use Rattle.breaking.specs.Broken.{breaksBy}
 use Rattle.states.proofs.Lanes.{passed}
-use Rattle.states.proofs.first_in_row.Statement.{statement}
-use Rattle.states.proofs.first_in_row.Tie as tie
+use Rattle.breaking.proofs.first_in_row.Statement.{statement}
+use Rattle.breaking.proofs.first_in_row.Tie as tie
 
 abbrev Inv-loop : tie.InvT-loop
 Inv-loop row states guard kept holds s₀ s =

@@ -1,4 +1,4 @@
--- `states::first_broken` meets its contract. The loop's invariant: no region below r breaks, by the slices.
+-- `breaking::first_broken` meets its contract. The loop's invariant: no region below r breaks, by the slices.
 use Prim.Native.Nat.{ℕ, _+_, _-_, _*_, _≤_, _<_}
 use native.Mathlib.Omega.{arith}
 use mathlib.Core.Path.{_≡_, sym, ap, _∙_}
@@ -8,11 +8,12 @@ use lib.ListN.{getD, take, drop}
 use denote.Ref.{now}
 use Rattle.meaning.specs.State.{count}
 use Rattle.meaning.specs.Model.{vars}
-use Rattle.states.specs.Promises.{breaksBy}
+use Rattle.breaking.specs.Broken.{breaksBy}
 use Rattle.states.proofs.Lanes.{passed}
-use Rattle.states.proofs.Breaking.{part-at, never, stops}
-use Rattle.states.proofs.first_broken.Statement.{statement}
-use Rattle.states.proofs.first_broken.Tie as tie
+use Rattle.states.proofs.Regions.{part-at}
+use Rattle.breaking.proofs.Breaking.{never, stops}
+use Rattle.breaking.proofs.first_broken.Statement.{statement}
+use Rattle.breaking.proofs.first_broken.Tie as tie
 
 -- region j breaks at no state
 abbrev Quiet : List ℕ → List ℕ → List ℕ → List ℕ → ℕ → ℕ → Type 0

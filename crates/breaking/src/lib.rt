@@ -1,0 +1,90 @@
+// Refusal 9 by look-up: the lowest region, then the lowest state from which the outcome of its body is a fault or not
+// kept.
+use variables::Bounds;
+ghost use mathlib.Core.Path.{_≡_};
+ghost use Prim.Native.Nat.{_≤_};
+ghost use lib.ListN.{length, getD};
+ghost use Rattle.machine.specs.Limits.{mostRegions, mostAfter};
+ghost use Rattle.syntax.specs.Tree.{Monitor};
+ghost use Rattle.meaning.specs.Model.{vars, regions};
+ghost use Rattle.meaning.specs.Kept.{keptAt};
+ghost use Rattle.meaning.specs.Decide.Check.{broken};
+ghost use Rattle.variables.specs.Bounded.{Bounded};
+ghost use Rattle.states.specs.Rows.{HoldsAll, KeptAll, GuardNumbers, Outcomes};
+ghost use Rattle.breaking.specs.Broken.{BrokenAs, failsBy, breaksBy, Lowest};
+
+// Every region keeps, or the lowest region and then the lowest state from which one does not (9).
+pub enum Broken {
+    Never,
+    At(usize, usize),
+}
+
+// Is an outcome a fault, or a state at which the kept condition is false?
+fn fails(kept: &[u8], to: u16) -> bool
+    ensures { λ r. ⌜ r ≡ failsBy (now (kept .entry)) to ⌝ }
+{
+    if to == states::FAULT {
+        return true;
+    }
+    states::byte_at(kept, states::wide(to)) != 1
+}
+
+// Does a region break at a state, from which its body has an outcome?
+fn breaks_at(kept: &[u8], holds: &[u16], guard: u8, s: usize, to: u16) -> bool
+    ensures { λ r. ⌜ r ≡ breaksBy (now (kept .entry)) (now (holds .entry)) guard s to ⌝ }
+{
+    if !fails(kept, to) {
+        return false;
+    }
+    states::may_run(kept, holds, guard, s)
+}
+
+// The lowest state at which a region breaks, by the outcomes of its body; the count of states where it never does.
+fn first_in_row(row: &[u16], states: usize, guard: u8, kept: &[u8], holds: &[u16]) -> usize
+    ensures { λ r. ⌜ Lowest
+        (λ s. breaksBy (now (kept .entry)) (now (holds .entry)) guard s (getD (now (row .entry)) s 0)) states r ⌝ }
+{
+    let mut s: usize = 0;
+    while s < states {
+        if breaks_at(kept, holds, guard, s, states::number_at(row, s)) {
+            return s;
+        }
+        s += 1;
+    }
+    states
+}
+
+// Every region keeps, or the lowest region and then the lowest state from which the outcome is a fault or not kept (9).
+pub fn first_broken(
+    bounds: Bounds,
+    guard_of: [u8; machine::REGIONS],
+    count: usize,
+    kept: &[u8],
+    holds: &[u16],
+    after: &[u16],
+) -> Broken
+    ensures { λ r. ⌜ ((m : Monitor) → Bounded (vars m) bounds → count ≡ length (regions m) → count ≤ mostRegions
+        → GuardNumbers m «guard_of» → mostAfter ≤ length (now (after .entry))
+        → KeptAll m (now (kept .entry)) → HoldsAll m (now (holds .entry)) → Outcomes m (keptAt m) (now (after .entry))
+        → BrokenAs r (broken m)) ⌝ }
+{
+    if after.len() < machine::AFTER {
+        return Broken::Never;
+    }
+    if machine::REGIONS < count {
+        return Broken::Never;
+    }
+    let states = bounds.states;
+    let mut r: usize = 0;
+    while r < count {
+        let from = r * machine::STATES;
+        let to = from + machine::STATES;
+        let guard = guard_of[r];
+        let s = first_in_row(&after[from..to], states, guard, kept, holds);
+        if s < states {
+            return Broken::At(r, s);
+        }
+        r += 1;
+    }
+    Broken::Never
+}
