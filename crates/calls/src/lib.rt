@@ -44,7 +44,7 @@ fn entries_of(
     let layout = loaded.layout;
     let guard_of = layout.guard_of;
     let mut entries = [0u8; machine::ENTRIES];
-    table::fill_entries(
+    entries::fill_entries(
         kept,
         holds,
         after,

@@ -3,7 +3,7 @@
 use mathlib.Core.Path.{sym}
 use borrow.Author.Needs.{needs}
 use Rattle.meaning.specs.Model.{model}
-use Rattle.table.proofs.Monitors.{entries-held}
+use Rattle.entries.proofs.Monitors.{entries-held}
 use Rattle.calls.specs.Results.{EntriesOf}
 use Rattle.calls.proofs.entries_of.Statement.{statement}
 use Rattle.calls.proofs.entries_of.Tie as tie

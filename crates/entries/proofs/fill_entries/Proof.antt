@@ -1,9 +1,9 @@
--- `table::fill_entries` meets its contract: a count that is too large is refused, and else `fill_regions` fills.
+-- `entries::fill_entries` meets its contract: a count that is too large is refused, and else `fill_regions` fills.
 use native.Mathlib.Omega.{arith}
 use borrow.Author.Needs.{needs}
-use Rattle.table.proofs.Monitors.{not-filled}
-use Rattle.table.proofs.fill_entries.Statement.{statement}
-use Rattle.table.proofs.fill_entries.Tie as tie
+use Rattle.entries.proofs.Monitors.{not-filled}
+use Rattle.entries.proofs.fill_entries.Statement.{statement}
+use Rattle.entries.proofs.fill_entries.Tie as tie
 
 returns : tie.Need-returns
 returns c = not-filled (λ n. omega (arith, n .few-states, c .if1 .taken))

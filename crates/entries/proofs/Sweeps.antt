@@ -8,8 +8,8 @@ use lib.Bits.{bitAnd, bitOr, bitXor}
 use Rattle.sets.specs.Set.{member}
 use Rattle.sets.proofs.SetLaws.{member-and, member-or, member-xor, member-none, member-one, member-full, bit-of}
 use Rattle.logic.specs.Tests.{any}
-use Rattle.table.specs.Slices.{runsAt, someAt, rises, neither, holdsThen, Swept, wideAt, sweptCode, codeAt}
-use Rattle.table.specs.declared.Sweep.{Sweep}
+use Rattle.entries.specs.Slices.{runsAt, someAt, rises, neither, holdsThen, Swept, wideAt, sweptCode, codeAt}
+use Rattle.entries.specs.declared.Sweep.{Sweep}
 use Rattle.logic.proofs.Any.{any-next}
 
 -- a guard that holds after and not before; one that is covered, as it was so far

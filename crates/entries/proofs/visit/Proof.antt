@@ -1,13 +1,13 @@
--- `table::visit` meets its contract: a state from which the body may not run adds nothing.
+-- `entries::visit` meets its contract: a state from which the body may not run adds nothing.
 use Prim.Native.Nat.{ℕ}
 use mathlib.Core.Path.{_≡_, sym, ap, _∙_}
 use lib.ListN.{getD}
 use borrow.Author.Tests.{eq-eqb, ne-eqb, not-true, not-false}
-use Rattle.table.specs.Slices.{runsAt}
-use Rattle.table.proofs.Sweeps.{swept-skip, swept-more}
+use Rattle.entries.specs.Slices.{runsAt}
+use Rattle.entries.proofs.Sweeps.{swept-skip, swept-more}
 use borrow.Author.Needs.{needs}
-use Rattle.table.proofs.visit.Statement.{statement}
-use Rattle.table.proofs.visit.Tie as tie
+use Rattle.entries.proofs.visit.Statement.{statement}
+use Rattle.entries.proofs.visit.Tie as tie
 
 -- what is asked of the state
 run-is :

@@ -1,4 +1,4 @@
--- `table::fill_regions` meets its contract. The first loop's invariant: the sweeps of the regions passed, and the
+-- `entries::fill_regions` meets its contract. The first loop's invariant: the sweeps of the regions passed, and the
 -- guards that these leave true; the second's: the entries of the regions passed are in place,
 -- and all others are as they were.
 use Prim.Native.Nat.{ℕ, _+_, _*_, _%_, _≤_, _<_, _-_}
@@ -10,11 +10,11 @@ use lib.Seq.{getD-set-same, getD-set-other}
 use Rattle.sets.specs.Set.{member}
 use Rattle.sets.proofs.SetLaws.{member-none}
 use Rattle.logic.specs.Tests.{any}
-use Rattle.table.specs.Slices.{Swept, wideAt, codeAt}
-use Rattle.table.specs.declared.Sweep.{Sweep}
-use Rattle.table.proofs.Sweeps.{wide-more, swept-code}
-use Rattle.table.proofs.fill_regions.Statement.{statement}
-use Rattle.table.proofs.fill_regions.Tie as tie
+use Rattle.entries.specs.Slices.{Swept, wideAt, codeAt}
+use Rattle.entries.specs.declared.Sweep.{Sweep}
+use Rattle.entries.proofs.Sweeps.{wide-more, swept-code}
+use Rattle.entries.proofs.fill_regions.Statement.{statement}
+use Rattle.entries.proofs.fill_regions.Tie as tie
 
 -- an element that is not looked at
 abbrev nothing : Sweep

@@ -1,9 +1,9 @@
--- `table::code` meets its contract: each arm is a case of `made`.
+-- `entries::code` meets its contract: each arm is a case of `made`.
 use Rattle.logic.specs.Tests.{bit}
 use Rattle.machine.specs.Held.{codeOf}
-use Rattle.table.specs.Slices.{made}
-use Rattle.table.proofs.code.Statement.{statement}
-use Rattle.table.proofs.code.Tie as tie
+use Rattle.entries.specs.Slices.{made}
+use Rattle.entries.proofs.code.Statement.{statement}
+use Rattle.entries.proofs.code.Tie as tie
 
 returns : tie.Need-returns
 unfolding codeOf made bit

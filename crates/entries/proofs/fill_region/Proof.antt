@@ -1,4 +1,4 @@
--- `table::fill_region` meets its contract. The loop's invariant: the entries of the guards passed are in place, and
+-- `entries::fill_region` meets its contract. The loop's invariant: the entries of the guards passed are in place, and
 -- all others are as they were.
 use Prim.Native.Nat.{ℕ, _+_, _*_, _≤_, _<_, _-_}
 use mathlib.Core.Path.{_≡_, refl, _∙_}
@@ -6,9 +6,9 @@ use native.Mathlib.Omega.{arith}
 use borrow.Author.Count.{below-more}
 use lib.ListN.{length, getD, length-set}
 use lib.Seq.{getD-set-same, getD-set-other}
-use Rattle.table.specs.Slices.{sweptCode}
-use Rattle.table.proofs.fill_region.Statement.{statement}
-use Rattle.table.proofs.fill_region.Tie as tie
+use Rattle.entries.specs.Slices.{sweptCode}
+use Rattle.entries.proofs.fill_region.Statement.{statement}
+use Rattle.entries.proofs.fill_region.Tie as tie
 
 abbrev Inv-loop : tie.InvT-loop
 Inv-loop w wide guards r entries₀ g₀ entries g =

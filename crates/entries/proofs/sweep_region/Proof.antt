@@ -1,11 +1,11 @@
--- `table::sweep_region` meets its contract. The loop's invariant: the sweep of the states passed.
+-- `entries::sweep_region` meets its contract. The loop's invariant: the sweep of the states passed.
 use Prim.Native.Nat.{_≤_, _-_}
 use mathlib.Core.Path.{_≡_}
 use native.Mathlib.Omega.{arith}
-use Rattle.table.specs.Slices.{Swept}
-use Rattle.table.proofs.Sweeps.{swept-none}
-use Rattle.table.proofs.sweep_region.Statement.{statement}
-use Rattle.table.proofs.sweep_region.Tie as tie
+use Rattle.entries.specs.Slices.{Swept}
+use Rattle.entries.proofs.Sweeps.{swept-none}
+use Rattle.entries.proofs.sweep_region.Statement.{statement}
+use Rattle.entries.proofs.sweep_region.Tie as tie
 
 abbrev Inv-loop : tie.InvT-loop
 Inv-loop kept holds after states guard r w₀ s₀ w s = (s ≤ states) × Swept kept holds after s guard r w
