@@ -165,7 +165,7 @@ pub fn points_loaded(
     if verdict.number != 0 {
         return no_points(verdict);
     }
-    if out.len() / points::POINT <= bytes.len() / trace::FRAME {
+    if out.len() / point::POINT <= bytes.len() / trace::FRAME {
         return no_points(answers::say(10, 0, 0));
     }
     let bounds = loaded.bounds;

@@ -15,7 +15,7 @@ use Rattle.demands.proofs.Demand1.{running-iff}
 use Rattle.demands.proofs.Widths.{ran-fits}
 use Rattle.stepper.specs.Shown.{placeOf, placesOf, idleThread}
 use Rattle.stepper.specs.declared.Thread.{Thread}
-use Rattle.points.specs.Held.{heldByte}
+use Rattle.point.specs.Held.{heldByte}
 use Rattle.points.proofs.Shown.{byte-is}
 use Rattle.run.specs.Results as results
 use Rattle.run.specs.declared.Running as code

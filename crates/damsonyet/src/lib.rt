@@ -79,7 +79,7 @@ fn flat(running: Running) -> Ran
         answer: answer,
         vars: record.vars,
         values: values,
-        places: points::place_bytes(threads),
+        places: point::place_bytes(threads),
         notified: record.notified,
         how_many: record.how_many,
         of_file: running.of_file,

@@ -37,8 +37,8 @@ use Rattle.run.specs.Way.{runOf, At, TableAt, goes-on, has-stopped}
 use Rattle.run.specs.declared.frames.Going.{Going}
 use Rattle.run.proofs.Records.{set-shown, list-run}
 use Rattle.variables.specs.declared.Bounds.{Bounds}
-use Rattle.points.specs.Held.{regionPart, duePart, idlePart, heldByte, heldSet, heldValue, heldPlace}
-use Rattle.points.specs.Held.{heldShared, heldNotices, heldTable, heldPoint}
+use Rattle.point.specs.Held.{regionPart, duePart, idlePart, heldByte, heldSet, heldValue, heldPlace}
+use Rattle.point.specs.Held.{heldShared, heldNotices, heldTable, heldPoint}
 use Rattle.points.specs.Written.{PointStands}
 
 -- ---- each part

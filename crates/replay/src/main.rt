@@ -82,9 +82,9 @@ fn show_case(file: &[u8], trace: &[u8]) {
     if output::TRACE_BYTES < trace.len() {
         return;
     }
-    let room = (trace.len() / trace::FRAME + 1) * points::POINT;
+    let room = (trace.len() / trace::FRAME + 1) * point::POINT;
     let mut buffer = [UNWRITTEN; BUFFER];
-    show_points(file, trace, &mut buffer, room + points::POINT, true);
+    show_points(file, trace, &mut buffer, room + point::POINT, true);
     let mut short = [UNWRITTEN; BUFFER];
     show_points(file, trace, &mut short, room - 1, false);
     show_tries(file);

@@ -5,7 +5,7 @@ use lib.ListN.{length}
 use borrow.Author.Needs.{needs}
 use Rattle.meaning.specs.Model.{vars, model}
 use Rattle.digits.proofs.Writing.{written-same}
-use Rattle.points.proofs.Lengths.{point-length}
+use Rattle.point.proofs.Lengths.{point-length}
 use Rattle.points.proofs.Shown.{state-below, point-absent, point-there}
 use Rattle.points.proofs.write_point.Statement.{statement}
 use Rattle.points.proofs.write_point.Tie as tie

@@ -1,11 +1,11 @@
--- `points::idle_part` meets its contract, at each variant.
+-- `point::idle_part` meets its contract, at each variant.
 use borrow.Author.Needs.{needs}
 use mathlib.Core.Path.{sym, ap}
 use Rattle.stepper.specs.Shown.{placeOf}
 use Rattle.stepper.specs.declared.Place.{Place}
-use Rattle.points.specs.Held.{idlePart}
-use Rattle.points.proofs.idle_part.Statement.{statement}
-use Rattle.points.proofs.idle_part.Tie as tie
+use Rattle.point.specs.Held.{idlePart}
+use Rattle.point.proofs.idle_part.Statement.{statement}
+use Rattle.point.proofs.idle_part.Tie as tie
 
 returns : tie.Need-returns
 unfolding idlePart placeOf

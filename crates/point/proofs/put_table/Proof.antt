@@ -1,11 +1,11 @@
--- `points::put_table` meets its contract: a byte, and the notices behind it.
+-- `point::put_table` meets its contract: a byte, and the notices behind it.
 use borrow.Author.Needs.{needs}
 use native.Mathlib.Omega.{arith}
 use mathlib.Core.Path.{_∙_}
 use Rattle.digits.proofs.Writing.{written-more, written-length}
-use Rattle.points.specs.Held.{heldSet, heldNotices, heldTable}
-use Rattle.points.proofs.put_table.Statement.{statement}
-use Rattle.points.proofs.put_table.Tie as tie
+use Rattle.point.specs.Held.{heldSet, heldNotices, heldTable}
+use Rattle.point.proofs.put_table.Statement.{statement}
+use Rattle.point.proofs.put_table.Tie as tie
 
 room : tie.Need-put-notices-requires
 unfolding heldSet heldNotices heldTable

@@ -1,15 +1,15 @@
--- `points::put_values` meets its contract. The invariant: the bytes passed are written.
+-- `point::put_values` meets its contract. The invariant: the bytes passed are written.
 use Prim.Native.Nat.{ℕ, _+_, _-_, _≤_}
 use lib.ListN.{length}
 use native.Mathlib.Omega.{arith}
 use mathlib.Core.Path.{_≡_, refl}
 use Rattle.meaning.specs.Decide.Table.{forEach}
 use Rattle.digits.specs.Written.{Writes}
-use Rattle.points.specs.Held.{heldValue}
+use Rattle.point.specs.Held.{heldValue}
 use Rattle.digits.proofs.ForEach.{forEach-length}
 use Rattle.digits.proofs.Writing.{written-none, turn-length, turn-room, turn}
-use Rattle.points.proofs.put_values.Statement.{statement}
-use Rattle.points.proofs.put_values.Tie as tie
+use Rattle.point.proofs.put_values.Statement.{statement}
+use Rattle.point.proofs.put_values.Tie as tie
 
 abbrev Inv-loop : tie.InvT-loop
 Inv-loop out₀ at values to₀ k₀ out to k = Writes (forEach k 0 (heldValue values)) out₀ at to out × (k ≤ 6)

@@ -1,8 +1,8 @@
--- `points::put_byte` meets its contract.
+-- `point::put_byte` meets its contract.
 use borrow.Author.Needs.{needs}
 use Rattle.digits.proofs.Writing.{one-store}
-use Rattle.points.proofs.put_byte.Statement.{statement}
-use Rattle.points.proofs.put_byte.Tie as tie
+use Rattle.point.proofs.put_byte.Statement.{statement}
+use Rattle.point.proofs.put_byte.Tie as tie
 
 returns : tie.Need-returns
 returns c = one-store _ _ _ (search needs)

@@ -1,11 +1,11 @@
--- `points::put_notices` meets its contract: two sets, one behind the other.
+-- `point::put_notices` meets its contract: two sets, one behind the other.
 use borrow.Author.Needs.{needs}
 use native.Mathlib.Omega.{arith}
 use mathlib.Core.Path.{_∙_}
 use Rattle.digits.proofs.Writing.{written-more, written-length}
-use Rattle.points.specs.Held.{heldSet, heldNotices}
-use Rattle.points.proofs.put_notices.Statement.{statement}
-use Rattle.points.proofs.put_notices.Tie as tie
+use Rattle.point.specs.Held.{heldSet, heldNotices}
+use Rattle.point.proofs.put_notices.Statement.{statement}
+use Rattle.point.proofs.put_notices.Tie as tie
 
 room : tie.Need-put-set-requires-2
 unfolding heldSet heldNotices

@@ -1,11 +1,11 @@
--- `points::put_set` meets its contract: two bytes, one behind the other.
+-- `point::put_set` meets its contract: two bytes, one behind the other.
 use borrow.Author.Needs.{needs}
 use native.Mathlib.Omega.{arith}
 use mathlib.Core.Path.{_∙_}
 use Rattle.digits.proofs.Writing.{written-more, written-length}
-use Rattle.points.specs.Held.{heldSet}
-use Rattle.points.proofs.put_set.Statement.{statement}
-use Rattle.points.proofs.put_set.Tie as tie
+use Rattle.point.specs.Held.{heldSet}
+use Rattle.point.proofs.put_set.Statement.{statement}
+use Rattle.point.proofs.put_set.Tie as tie
 
 room : tie.Need-put-byte-requires-2
 unfolding heldSet

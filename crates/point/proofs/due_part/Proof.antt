@@ -1,11 +1,11 @@
--- `points::due_part` meets its contract, at each variant.
+-- `point::due_part` meets its contract, at each variant.
 use borrow.Author.Needs.{needs}
 use mathlib.Core.Path.{sym, ap}
 use Rattle.stepper.specs.Shown.{placeOf}
 use Rattle.stepper.specs.declared.Place.{Place}
-use Rattle.points.specs.Held.{duePart}
-use Rattle.points.proofs.due_part.Statement.{statement}
-use Rattle.points.proofs.due_part.Tie as tie
+use Rattle.point.specs.Held.{duePart}
+use Rattle.point.proofs.due_part.Statement.{statement}
+use Rattle.point.proofs.due_part.Tie as tie
 
 returns : tie.Need-returns
 unfolding duePart placeOf

@@ -7,7 +7,7 @@ use lib.ListN.{length, length-append}
 use Rattle.syntax.specs.Limits.{mostVars}
 use Rattle.meaning.specs.Decide.Table.{forEach}
 use Rattle.digits.proofs.ForEach.{forEach-length}
-use Rattle.points.specs.Held.{heldSet, heldValue, heldPlace, heldShared, heldNotices, heldTable, heldPoint}
+use Rattle.point.specs.Held.{heldSet, heldValue, heldPlace, heldShared, heldNotices, heldTable, heldPoint}
 
 pub values-length : (values : List ℕ) → length (forEach mostVars 0 (heldValue values)) ≡ 6
 unfolding heldValue

@@ -1,13 +1,13 @@
--- `points::put_point` meets its contract: where there is room the point's three parts, one behind the other.
+-- `point::put_point` meets its contract: where there is room the point's three parts, one behind the other.
 use borrow.Author.Needs.{needs}
 use native.Mathlib.Omega.{arith}
 use lib.ListN.{length, length-append}
 use Rattle.digits.proofs.Writing.{written-more, written-length}
 use Rattle.lines.proofs.Writing.{put, not-put}
-use Rattle.points.specs.Held.{heldSet, heldShared, heldNotices, heldTable, heldPoint}
-use Rattle.points.proofs.Lengths.{shared-length}
-use Rattle.points.proofs.put_point.Statement.{statement}
-use Rattle.points.proofs.put_point.Tie as tie
+use Rattle.point.specs.Held.{heldSet, heldShared, heldNotices, heldTable, heldPoint}
+use Rattle.point.proofs.Lengths.{shared-length}
+use Rattle.point.proofs.put_point.Statement.{statement}
+use Rattle.point.proofs.put_point.Tie as tie
 
 returns : tie.Need-returns
 returns c = not-put (λ room. omega (arith, room))

@@ -1,11 +1,11 @@
--- `points::place_byte` meets its contract.
+-- `point::place_byte` meets its contract.
 use borrow.Author.Needs.{needs}
 use Prim.Native.Nat.{ℕ}
 use mathlib.Core.Path.{ap, ap₂, _∙_}
 use lib.Bits.{bitOr}
-use Rattle.points.specs.Held.{regionPart, duePart, idlePart, heldByte}
-use Rattle.points.proofs.place_byte.Statement.{statement}
-use Rattle.points.proofs.place_byte.Tie as tie
+use Rattle.point.specs.Held.{regionPart, duePart, idlePart, heldByte}
+use Rattle.point.proofs.place_byte.Statement.{statement}
+use Rattle.point.proofs.place_byte.Tie as tie
 
 returns : tie.Need-returns
 unfolding heldByte

@@ -1,11 +1,11 @@
--- `points::region_part` meets its contract, at each variant.
+-- `point::region_part` meets its contract, at each variant.
 use borrow.Author.Needs.{needs}
 use mathlib.Core.Path.{sym, ap}
 use Rattle.stepper.specs.Shown.{placeOf}
 use Rattle.stepper.specs.declared.Place.{Place}
-use Rattle.points.specs.Held.{regionPart}
-use Rattle.points.proofs.region_part.Statement.{statement}
-use Rattle.points.proofs.region_part.Tie as tie
+use Rattle.point.specs.Held.{regionPart}
+use Rattle.point.proofs.region_part.Statement.{statement}
+use Rattle.point.proofs.region_part.Tie as tie
 
 returns : tie.Need-returns
 unfolding regionPart placeOf

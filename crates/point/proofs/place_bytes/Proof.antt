@@ -1,4 +1,4 @@
--- `points::place_bytes` meets its contract. The invariant: the bytes of the threads passed are there.
+-- `point::place_bytes` meets its contract. The invariant: the bytes of the threads passed are there.
 use Prim.Native.Nat.{ℕ, _-_, _≤_, _<_}
 use native.Mathlib.Omega.{arith}
 use mathlib.Core.Path.{_≡_, refl, _∙_}
@@ -6,9 +6,9 @@ use lib.ListN.{length, getD, set, length-set}
 use lib.Seq.{getD-set-same, getD-set-other}
 use borrow.Author.Count.{below-more}
 use Rattle.stepper.specs.Shown.{placesOf, idleThread}
-use Rattle.points.specs.Held.{heldByte}
-use Rattle.points.proofs.place_bytes.Statement.{statement}
-use Rattle.points.proofs.place_bytes.Tie as tie
+use Rattle.point.specs.Held.{heldByte}
+use Rattle.point.proofs.place_bytes.Statement.{statement}
+use Rattle.point.proofs.place_bytes.Tie as tie
 
 abbrev Inv-loop : tie.InvT-loop
 Inv-loop threads bytes₀ t₀ bytes t =

@@ -1,11 +1,11 @@
--- `points::put_shared` meets its contract: the values, the places and the guards, one behind the other.
+-- `point::put_shared` meets its contract: the values, the places and the guards, one behind the other.
 use borrow.Author.Needs.{needs}
 use native.Mathlib.Omega.{arith}
 use Rattle.digits.proofs.Writing.{written-more, written-length}
-use Rattle.points.specs.Held.{heldSet, heldShared}
-use Rattle.points.proofs.Lengths.{values-length, places-length}
-use Rattle.points.proofs.put_shared.Statement.{statement}
-use Rattle.points.proofs.put_shared.Tie as tie
+use Rattle.point.specs.Held.{heldSet, heldShared}
+use Rattle.point.proofs.Lengths.{values-length, places-length}
+use Rattle.point.proofs.put_shared.Statement.{statement}
+use Rattle.point.proofs.put_shared.Tie as tie
 
 put-places-requires : tie.Need-put-places-requires
 put-places-requires c κs =
