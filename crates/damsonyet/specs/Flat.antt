@@ -1,5 +1,5 @@
 -- The results of a run with each place as a byte, against the meanings: every part of each, for every input. As
--- `run/specs/Results` and `monitor/specs/Results` say it of the code's own.
+-- `run/specs/Results` and `calls/specs/Results` say it of the code's own.
 use Prim.Native.Nat.{ℕ, _<_, _≤_}
 use mathlib.Core.Path.{_≡_}
 use mathlib.Core.Bool.{true, false}
