@@ -32,13 +32,14 @@ use Rattle.demands.specs.Demand1.{bad-line, frame-refused, all-allowed, 
 use Rattle.demands.proofs.Demand2.{follows-rules}
 use Rattle.meaning.proofs.Written.{written-short, written-fits}
 use Rattle.meaning.specs.Decide.Choice.{chosenBits}
+use Rattle.meaning.specs.Decide.Touch.{pairsOf}
 
 module _ (file buffer : List ℕ) where
   places : {p : Placing} → PlacesAs file buffer p → place file buffer ≡ p
   unfolding place
   places (file-refused {a} r) = cc (refused-iff file a .1 r)
-  places (too-short {m} a h) = cc (accepted-iff file m .1 a, written-short (tableOf (model m)) (chosenBits m) buffer h)
-  places (placed {m} a h) = cc (accepted-iff file m .1 a, written-fits (tableOf (model m)) (chosenBits m) buffer h)
+  places (too-short {m} a h) = cc (accepted-iff file m .1 a, written-short (tableOf (model m)) (chosenBits m) (pairsOf m) buffer h)
+  places (placed {m} a h) = cc (accepted-iff file m .1 a, written-fits (tableOf (model m)) (chosenBits m) (pairsOf m) buffer h)
 
   placing : (p : Placing) × PlacesAs file buffer p
   placing = go (check file) refl

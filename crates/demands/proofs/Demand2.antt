@@ -4,7 +4,7 @@
 use Rattle.machine.specs.Monitor as machine
 use Prim.Native.Nat.{ℕ, _≤_, _<_}
 use native.Mathlib.Omega.{arith}
-use mathlib.Core.Path.{_≡_, refl, sym, subst, _∙_}
+use mathlib.Core.Path.{_≡_, refl, sym, ap₂, subst, _∙_}
 use mathlib.Core.Bool.{Bool, true, false}
 use mathlib.Core.Logic.{_↔_, Iff·rfl, Iff·trans}
 use mathlib.Core.Option.{Option·some-injective}
@@ -19,7 +19,7 @@ use Rattle.machine.specs.Rules.{Notices, Stops, PlainNoticesBy, TableNoticesBy}
 use Rattle.machine.specs.Limits.{mostLines}
 use Rattle.machine.proofs.RulesDecided.{refuses-number, Decides, plain-decides, table-decides}
 use Rattle.machine.proofs.Entries.{entry-stands, entry-unconditional, entry-signal}
-use Rattle.logic.proofs.Bools.{tests-equal}
+use Rattle.logic.proofs.Bools.{tests-equal, is-false, different}
 use Rattle.machine.specs.Agreement.{Checked}
 use Rattle.machine.proofs.Reached.{Reached, start-reached, rules-reached}
 use Rattle.machine.proofs.Views.{Views, rules-viewed, stops-viewed}
@@ -42,11 +42,14 @@ use Rattle.meaning.specs.Decide.Choice.{inSet, chosenTries}
 use Rattle.meaning.proofs.Choosing.{chosen-largest, one-largest, fates, chosen-members, chosen-small, kept-iff}
 use Rattle.meaning.proofs.Choosing.{no-tries, none-chosen}
 use Rattle.meaning.proofs.Sizes.{sizes}
+use Rattle.meaning.specs.Touch.{Touched}
+use Rattle.meaning.specs.Decide.Touch.{touched}
+use Rattle.meaning.proofs.Touching.{touched-iff, leaves-guard, no-entry, pairs}
 use lib.IntN.{ℤ}
 use Rattle.meaning.proofs.BodyLaws.{outcome-of-runs, block-runs-state}
 use Rattle.demands.specs.Demand2.{IsEntry, IsTable, FollowsRules, Demand2, Moves, truthOf, Makes, ByValues}
 use Rattle.demands.specs.Demand2.{valued, noticesByValues, FollowsByValues, StatesNumbered}
-use Rattle.demands.specs.Demand2.{GuardsNumbered}
+use Rattle.demands.specs.Demand2.{GuardsNumbered, Untouched}
 
 states-numbered : {vs : List Var} → GoodRanges vs → StatesNumbered vs
 states-numbered {vs} g =
@@ -275,6 +278,18 @@ module _ (m : Monitor) where
           },
         )
 
+  -- what the file's text rules out
+  untouched-pair : GoodRanges (vars m) → (r g : ℕ) → (Touched m r g → ⊥) → Untouched m r g
+  unfolding truthOf model
+  untouched-pair good r g h =
+      let free : touched m r g ≡ false = is-false (λ t. h (touched-iff m r g .0 t)) in
+      record {
+        as-it-was = leaves-guard m r g free;
+        no-entry = λ w p q e.
+            let t = entry-stands (model m) (kept-below m) (w .region) (w .guard) .1 (e .stands) in
+            different (cc (t .2, ap₂ (entryOf (model m)) p q, no-entry m good r g free));
+      }
+
 -- The machines by values
 
 module _ (file : List ℕ) (m : Monitor) (e : check file ≡ accepted m) where
@@ -357,6 +372,8 @@ demand-2 = record {
   guard-numbers = guards-numbered;
   table = λ file m e. (rowsOf (model m), is-table file m e);
   entries = λ file m e. by-values m (accepted-iff file m .0 e .sound);
+  untouched = untouched-pair;
+  pairs = pairs;
   machines = follows-rules;
   machines-by-values = follows-by-values;
 }

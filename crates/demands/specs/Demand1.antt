@@ -13,6 +13,7 @@ use Rattle.meaning.specs.State.{startNumber}
 use Rattle.meaning.specs.Answer.{Answer, answer, Verdict, accepted}
 use Rattle.meaning.specs.Decide.Check.{check}
 use Rattle.meaning.specs.Decide.Choice.{chosenBits}
+use Rattle.meaning.specs.Decide.Touch.{pairsOf}
 use Rattle.meaning.specs.Model.{vars, model}
 use Rattle.meaning.specs.Decide.Table.{tableOf}
 use Rattle.meaning.specs.Calls.{Startable, noticesOf, Placing, notPlaced, Machine, recordOf}
@@ -31,7 +32,8 @@ pub data PlacesAs (file buffer : List ℕ) : Placing → Type 0 where
   -- 10: "table buffer shorter than the table" (R 7.15)
   too-short : {m : Monitor} → Accepted file m → length buffer < length (tableOf (model m))
       → PlacesAs file buffer (notPlaced (answer 10 0 0) buffer)
-  -- "success writes the table from byte 0 and keeps the bytes behind it"; the chosen tries are reported (R 7.16, 5.14)
+  -- "success writes the table from byte 0 and keeps the bytes behind it"; the chosen tries and the touched
+  -- pairs are reported (R 7.16, 5.14, 7.22)
   placed :
       {m : Monitor} → Accepted file m → length (tableOf (model m)) ≤ length buffer
       → PlacesAs file buffer
@@ -39,6 +41,7 @@ pub data PlacesAs (file buffer : List ℕ) : Placing → Type 0 where
         answer = answer 0 0 0;
         length = length (tableOf (model m));
         chosen = chosenBits m;
+        pairs = pairsOf m;
         buffer = tableOf (model m) ++ drop (length (tableOf (model m))) buffer;
       })
 

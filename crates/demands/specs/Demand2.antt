@@ -1,7 +1,7 @@
 -- Demand 2: a file is accepted exactly when it is within the grammar and limits, its kept condition holds at the start,
 -- and every region keeps it and every range; the table has the entries of Algorithm 1, no more, no fewer; each machine
--- accepts exactly the traces that its step rules allow. Beside these stands what the numbers of states and guards are.
--- The claim is `Demand2`.
+-- accepts exactly the traces that its step rules allow. Beside these stand what the numbers of states and guards are, and
+-- which entries the text rules out. The claim is `Demand2`.
 use Rattle.machine.specs.Monitor as machine
 use Prim.Native.Nat.{ℕ, _^_, _≤_, _<_}
 use mathlib.Core.Path.{_≡_}
@@ -29,6 +29,8 @@ use Rattle.meaning.specs.Calls.{noticesOf, Machine, plain-machine, table-machin
 use Rattle.meaning.specs.Decide.Calls.{runList}
 use Rattle.meaning.specs.Accepted.{Accepted, GoodRanges, Meets}
 use Rattle.meaning.specs.Runs.{BlockRuns, State}
+use Rattle.meaning.specs.Touch.{Touched, Pairs}
+use Rattle.meaning.specs.Decide.Touch.{pairsOf}
 use Rattle.meaning.specs.Table.{Row, rowLines, Increasing, Small}
 use Rattle.meaning.specs.Refusal.{Refusal}
 use lib.IntN.{ℤ}
@@ -145,6 +147,12 @@ module _ (m : Monitor) where
         (w .broadcast ≡ false) ↔ ((r : ℕ) → r < length (regions m) → guardOf m r ≡ w .guard
         → Makes r (w .guard) true false)
 
+-- a region and a guard that are not touched (R 7.21): from every state, kept or not, the body leaves the guard as it
+-- was, and there is no entry
+pub record Untouched (m : Monitor) (r g : ℕ) : Type 0 where
+  pub as-it-was : (as′ bs : List ℤ) → BlockRuns (vars m) (region m r .body) as′ bs → truthOf m g bs ≡ truthOf m g as′
+  pub no-entry : (w : Row) → w .region ≡ r → w .guard ≡ g → IsEntry (model m) w → ⊥
+
 -- The machines in the file's own words: the rules over each variable's values and over runs of bodies
 
 module _ (m : Monitor) where
@@ -187,6 +195,10 @@ pub record Demand2 : Type 0 where
   pub table : (file : List ℕ) (m : Monitor) → check file ≡ accepted m → (rows : List Row) × IsTable (model m) rows
   -- the same over values (R 7.3, 7.4, 7.5)
   pub entries : (file : List ℕ) (m : Monitor) → check file ≡ accepted m → (w : Row) → IsEntry (model m) w ↔ ByValues m w
+  -- for every tree with good ranges, so for every file that 1 to 7 pass (R 12.17)
+  pub untouched : (m : Monitor) → GoodRanges (vars m) → (r g : ℕ) → (Touched m r g → ⊥) → Untouched m r g
+  -- for every tree (R 12.17)
+  pub pairs : (m : Monitor) → Pairs m (pairsOf m)
   -- for every tree, also one that is not accepted (R 12.6, 12.7)
   pub machines : (m : Monitor) (w : Machine) → FollowsRules m w
   -- the same over values, from every state that counts (R 8.12, 9.35, 9.36)

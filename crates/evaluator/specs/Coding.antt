@@ -2,11 +2,12 @@
 use Prim.Native.Nat.{ℕ, suc, _+_}
 use mathlib.Core.Path.{_≡_}
 use mathlib.Core.Bool.{Bool, true, false}
-use mathlib.Core.List.{List, [], _∷_, _++_, map}
+use mathlib.Core.List.{List, [], _∷_, _++_, List·Memᴰ}
 use mathlib.Core.Logic.{_⊎_}
 use mathlib.Core.Option.{Option, none, some}
 use lib.ListN.{length, getD, drop, getElem?}
 use lib.IntN.{ℤ}
+use Rattle.sets.specs.Set.{member}
 use Rattle.syntax.specs.Bytes.{sameBytes}
 use Rattle.syntax.specs.Token.{Lexeme, name, number, mark, lbrace, rbrace, rparen, semicolon}
 use Rattle.syntax.specs.Held.Kind.{kindOf}
@@ -18,6 +19,10 @@ use Rattle.syntax.specs.Held.Kind.{Kinds}
 unfoldable pub slotOf : List Var → List ℕ → ℕ
 slotOf [] x = 0
 slotOf (v ∷ vs) x = elim (sameBytes (v .title) x) [ true ↦ 0 | false ↦ suc (slotOf vs x) ]
+
+-- a set has the slot of every name of a text
+unfoldable pub Covers : List Var → List Lexeme → ℕ → Type 0
+Covers vs ls set = (x : List ℕ) → List·Memᴰ (name x) ls → member set (slotOf vs x) ≡ true
 
 -- kinds, and the operands of a loaded file, which the evaluator has as `values`: at its place each number's value, each
 -- name's slot, and for each brace that opens a block the place of the one that closes it

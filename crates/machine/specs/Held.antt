@@ -1,7 +1,7 @@
 -- How a monitor freed from its syntax is held in slices of numbers: what the code looks up instead of evaluating.
 use Prim.Native.Nat.{ℕ, zero, suc, _+_, _*_, _<_, _≤_}
 use mathlib.Core.Path.{_≡_}
-use mathlib.Core.Bool.{true}
+use mathlib.Core.Bool.{true, false}
 use mathlib.Core.List.{List}
 use lib.ListN.{getD}
 use Rattle.logic.specs.Tests.{bit}
@@ -34,6 +34,12 @@ pub record Held (m : Monitor) (kept holds after guardOf : List ℕ) : Type 0 whe
 pub record HeldPlaces (m : Monitor) (begins goesOn : List ℕ) : Type 0 where
   pub by-begins : (r : ℕ) → r < m .regions → getD begins r 0 ≡ bit (m .begins r)
   pub by-follows : (r : ℕ) → r < m .regions → m .follows r ≡ followsBy r (getD goesOn r 0)
+
+-- for each region a set of guards such that its body leaves every guard outside the set as it was
+unfoldable pub HeldTouched : Monitor → List ℕ → Type 0
+HeldTouched m sets =
+    (r g s : ℕ) → r < m .regions → g < m .guards → member (getD sets r 0) g ≡ false → runs m r s ≡ true
+    → m .holds g (m .after r s) ≡ m .holds g s
 
 -- an entry as a number: 0 for none, else 1, and 2 more where it is unconditional, and 4 more where it is a broadcast
 unfoldable pub codeOf : Entry → ℕ

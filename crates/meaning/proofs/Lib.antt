@@ -10,6 +10,7 @@ pub mod Integers
 pub mod RangeLaws
 pub mod StateLaws
 pub mod BodyLaws
+pub mod Alike
 pub mod Faults
 pub mod SameGuards
 pub mod Judged
@@ -19,6 +20,7 @@ pub mod Soundness
 pub mod MethodLaws
 pub mod ModelLaws
 pub mod Choosing
+pub mod Touching
 pub mod Verdicts
 pub mod Stages
 pub mod Sizes

@@ -52,18 +52,20 @@ use Rattle.syntax.specs.Tree.{spellCond, spellConj, spellSimple, spellBlock, sp
 use Rattle.syntax.specs.Tree.{spellVar, spellTry, spell, InGrammar, Viable}
 use Rattle.meaning.specs.Points.{valueBytes, placeBytes, setBytes, sharedBytes, noticeBytes, noticesAt, plainPart}
 use Rattle.meaning.specs.Points.{tablePart, pointAt, stopAnswer, pointCount, listPoints, framePoints, pointsFrom}
+use Rattle.meaning.specs.Decide.Touch.{atomNames, termsName, exprNames, condNames, conjNames, simpleNames}
+use Rattle.meaning.specs.Decide.Touch.{blockAssigns, stmtAssigns, anyVar, sumOf, touched, pairsOf}
 use Rattle.meaning.specs.Points.{pointRoom, pointsOf}
 use lib.ListN.{length, replicate}
 use mathlib.Core.List.{List, _∷_, _++_}
 
 -- What is run: `placer` on a file, `runner` on a file and a trace, one behind the other, the points of a trace from a
--- state in a buffer of so many bytes, or the choice among a file's tries
+-- state in a buffer of so many bytes, the choice among a file's tries, or how many of its pairs are touched
 pub data Case : Type 0 where
   placing : List ℕ → Case
   running-of : List ℕ → List ℕ → Case
   whole : List ℕ → List ℕ → Case
   points-of : List ℕ → List ℕ → ℕ → ℕ → Case
-  tries-of : List ℕ → Case
+  tries-of pairs-of : List ℕ → Case
 
 -- what becomes of a try, and of all tries of an accepted file behind the chosen bits and their count, in lines of ten digits
 unfoldable pub fateLine : Fate → List ℕ
@@ -79,8 +81,12 @@ triesLines file =
       | refused a ↦ refusalLine a
     ]
 
+-- the touched pairs and the table's length in a line of ten digits; both are 0 of a refused file
+unfoldable pub pairsLine : List ℕ → List ℕ
+pairsLine file = let p = place file (replicate 512 0) in refusalLine (answer 0 (p .pairs) (p .length))
+
 unfoldable pub printing : Case → List ℕ
-unfolding any threads put without isDue isWaiting ahead beginWait leave allIdle onGuard waitsOn next firstNotified own plainTold mayBeAt may ran waited rechecked allowed act judged step run runs someMove everyMove stands unconditional broadcast entryOf acts entryTold tableTold written place toldBy eachFrom bits ones recordOf runningOf runList runFrames runFrom running opens closes tally crowded placeOf leftOf pastLimit member misnamed placesOf inByte goodRange illRanged regionsOf keptAfter breaks firstFrom firstWhere broken noTry endsFalse isNone inSet tryAt eachTry allHold binds breaksTry firstBreak pass passes trueAtStart chosenTries chosenBits fateFrom fateOf fateLine triesLines checkMeaning checkTokens check hex4 refusalLine placeByte valueDigits placeDigits recordLine runLine machineLine placer runner valueBytes placeBytes setBytes sharedBytes noticeBytes noticesAt plainPart tablePart pointAt stopAnswer pointCount listPoints framePoints pointsFrom pointRoom pointsOf sameLexeme sameLexemes sameGuard placeIn guardsOf beginsIn goesOnIn noGuard noRegion numberAfter regions guards region guardOf holds kept after follows model hexDigit hex2 hexBool entryLine forEach tableOf size count stateAt numberOf starts linesFrom isHex hexValue allHex pairAt isFrame frameOf prepend framesFrom framesOf intOf negative less compares valueOf inRange assigned atomValue joined termsValue exprValue truth conjTruth simpleTruth andThen runBlock runStmt outcome keptAt bytes between blank letter digit wordByte leading decimal sameBytes startsWith onwards _>>=_ give begins rest choose expect readName readNumber readMany readSome readInt readAtom readSign readTerm isSign readExpr readComparison readCond readConj readSimple readBlock readStmt readRegion readMethod readVar readTry atEnd readMonitor read keywords marks wordOf atMost markOf scan token-prepend tokensFrom tokenize lexemes markNumber keywordNumber isMark isKey isName spellInt spellAtom signMark spellTerm each spellExpr comparisonMark spellConstant spellCond spellConj spellSimple spellBlock spellStmt spellRegion spellMethod spellVar spellTry spell InGrammar Viable
+unfolding any threads put without isDue isWaiting ahead beginWait leave allIdle onGuard waitsOn next firstNotified own plainTold mayBeAt may ran waited rechecked allowed act judged step run runs someMove everyMove stands unconditional broadcast entryOf acts entryTold tableTold written place toldBy eachFrom bits ones recordOf runningOf runList runFrames runFrom running opens closes tally crowded placeOf leftOf pastLimit member misnamed placesOf inByte goodRange illRanged regionsOf keptAfter breaks firstFrom firstWhere broken noTry endsFalse isNone inSet tryAt eachTry allHold binds breaksTry firstBreak pass passes trueAtStart chosenTries chosenBits fateFrom fateOf fateLine triesLines atomNames termsName exprNames condNames conjNames simpleNames blockAssigns stmtAssigns anyVar sumOf touched pairsOf pairsLine checkMeaning checkTokens check hex4 refusalLine placeByte valueDigits placeDigits recordLine runLine machineLine placer runner valueBytes placeBytes setBytes sharedBytes noticeBytes noticesAt plainPart tablePart pointAt stopAnswer pointCount listPoints framePoints pointsFrom pointRoom pointsOf sameLexeme sameLexemes sameGuard placeIn guardsOf beginsIn goesOnIn noGuard noRegion numberAfter regions guards region guardOf holds kept after follows model hexDigit hex2 hexBool entryLine forEach tableOf size count stateAt numberOf starts linesFrom isHex hexValue allHex pairAt isFrame frameOf prepend framesFrom framesOf intOf negative less compares valueOf inRange assigned atomValue joined termsValue exprValue truth conjTruth simpleTruth andThen runBlock runStmt outcome keptAt bytes between blank letter digit wordByte leading decimal sameBytes startsWith onwards _>>=_ give begins rest choose expect readName readNumber readMany readSome readInt readAtom readSign readTerm isSign readExpr readComparison readCond readConj readSimple readBlock readStmt readRegion readMethod readVar readTry atEnd readMonitor read keywords marks wordOf atMost markOf scan token-prepend tokensFrom tokenize lexemes markNumber keywordNumber isMark isKey isName spellInt spellAtom signMark spellTerm each spellExpr comparisonMark spellConstant spellCond spellConj spellSimple spellBlock spellStmt spellRegion spellMethod spellVar spellTry spell InGrammar Viable
 printing (placing file) = placer file
 printing (running-of file trace) = runner file trace
 printing (whole file trace) = placer file ++ runner file trace
@@ -88,3 +94,4 @@ printing (points-of file trace s room) =
     let p = pointsOf file trace s (replicate room 165) in
     refusalLine (p .plain) ++ (refusalLine (p .table) ++ (p .count ∷ p .buffer))
 printing (tries-of file) = triesLines file
+printing (pairs-of file) = pairsLine file

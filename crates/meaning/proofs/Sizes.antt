@@ -78,7 +78,7 @@ in-methods k m =
     omega arith
 
 -- guards are at most as many as regions
-guards-few : (found : List Cond) (rs : List Region) → length (guardsOf found rs) ≤ length found + length rs
+pub guards-few : (found : List Cond) (rs : List Region) → length (guardsOf found rs) ≤ length found + length rs
 unfolding guardsOf
 guards-few found [] = omega arith
 guards-few found (r ∷ rs) = split (ltb (placeIn (r .guard) found) (length found))

@@ -8,18 +8,19 @@ use Rattle.meaning.specs.Answer.{answer}
 use Rattle.meaning.specs.Calls.{notPlaced}
 use Rattle.meaning.specs.Decide.Calls.{written}
 
-pub written-short : (table : List ℕ) (tries : ℕ) (buffer : List ℕ) → length buffer < length table
-    → written table tries buffer ≡ notPlaced (answer 10 0 0) buffer
+pub written-short : (table : List ℕ) (tries pairs : ℕ) (buffer : List ℕ) → length buffer < length table
+    → written table tries pairs buffer ≡ notPlaced (answer 10 0 0) buffer
 unfolding written
-written-short table tries buffer h = rw (lt-ltb (length buffer) (length table) h, written)
+written-short table tries pairs buffer h = rw (lt-ltb (length buffer) (length table) h, written)
 
-pub written-fits : (table : List ℕ) (tries : ℕ) (buffer : List ℕ) → length table ≤ length buffer
-    → written table tries buffer
+pub written-fits : (table : List ℕ) (tries pairs : ℕ) (buffer : List ℕ) → length table ≤ length buffer
+    → written table tries pairs buffer
     ≡ record {
       answer = answer 0 0 0;
       length = length table;
       chosen = tries;
+      pairs = pairs;
       buffer = table ++ drop (length table) buffer;
     }
 unfolding written
-written-fits table tries buffer h = rw (le-ltb (length buffer) (length table) h, written)
+written-fits table tries pairs buffer h = rw (le-ltb (length buffer) (length table) h, written)

@@ -1,6 +1,5 @@
 -- Answers, and the verdict of a file ("The refusals").
 use Prim.Native.Nat.{ℕ}
-use mathlib.Core.Bool.{_||_}
 use Rattle.syntax.specs.Token.{number}
 use Rattle.syntax.specs.Tree.{Monitor}
 

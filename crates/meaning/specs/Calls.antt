@@ -16,18 +16,20 @@ use Rattle.meaning.specs.Answer.{Answer, answer}
 use Rattle.meaning.specs.Bits.{eachFrom, bits, ones}
 use Rattle.meaning.specs.Model.{vars, model}
 
--- Placing: the answer, the table's length, the chosen tries as sixteen bits, and every byte of the buffer afterwards
+-- Placing: the answer, the table's length, the chosen tries as sixteen bits, how many pairs of region and guard are
+-- touched, and every byte of the buffer afterwards
 
 -- (R 7.13)
 pub record Placing : Type 0 where
   pub answer : Answer
   pub length : ℕ
   pub chosen : ℕ
+  pub pairs : ℕ
   pub buffer : List ℕ
 
 -- "A refusal writes to no buffer" (R 7.14, 7.15)
 abbrev pub notPlaced : Answer → List ℕ → Placing
-notPlaced a buffer = record { answer = a; length = 0; chosen = 0; buffer = buffer }
+notPlaced a buffer = record { answer = a; length = 0; chosen = 0; pairs = 0; buffer = buffer }
 
 -- Running
 

@@ -4,5 +4,6 @@ pub mod First
 pub mod Choice
 pub mod Check
 pub mod Table
+pub mod Touch
 pub mod Frames
 pub mod Calls

@@ -8,6 +8,7 @@ pub mod Answer
 pub mod Accepted
 pub mod Refusal
 pub mod Model
+pub mod Touch
 pub mod Hex
 pub mod Table
 pub mod Trace

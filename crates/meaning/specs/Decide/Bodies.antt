@@ -1,7 +1,7 @@
 -- Bodies, computed: the values after one, or none where it faults. `proofs/BodyLaws` shows that this is what
 -- `BlockRuns` says in words.
 use Prim.Native.Nat.{ℕ}
-use mathlib.Core.Bool.{true, false, _||_}
+use mathlib.Core.Bool.{true, false}
 use mathlib.Core.List.{List, [], _∷_}
 use mathlib.Core.Option.{Option, none, some}
 use lib.IntN.{ℤ}

@@ -1,6 +1,5 @@
 -- The table's bytes, computed. `proofs/TableLines` shows that they are the lines of the entries that stand, in order.
 use Prim.Native.Nat.{ℕ, zero, suc, _+_}
-use mathlib.Core.Bool.{_||_}
 use mathlib.Core.List.{List, [], _∷_, _++_}
 use mathlib.Core.Option.{none}
 use Rattle.syntax.specs.Tree.{Monitor}

@@ -1,7 +1,6 @@
 -- `sets::minus` meets its contract: a member of the one that is no member of both.
 use mathlib.Core.Path.{_≡_, refl, ap, _∙_}
 use mathlib.Core.Bool.{Bool, true, false, not, _&&_, xor}
-use Prim.Native.Nat.{ℕ}
 use lib.Bits.{bitAnd}
 use Rattle.sets.specs.Set.{member}
 use Rattle.sets.proofs.SetLaws.{member-and, member-xor}
