@@ -63,7 +63,8 @@ const TO_BODY: usize = 2;
 
 const PAST: usize = 1;
 
-fn kind_at(kinds: &[u8], at: usize) -> u8
+// The kind of a token, and none past the last.
+pub fn kind_at(kinds: &[u8], at: usize) -> u8
     ensures { λ r. ⌜ r ≡ getD (now (kinds .entry)) at noKind ⌝ }
 {
     if at < kinds.len() {

@@ -1,43 +1,31 @@
 -- The slices hold the monitor of an accepted file: what they hold is what `Held` asks.
-use Prim.Native.Nat.{ℕ, _+_, _≤_, _<_}
+use Prim.Native.Nat.{ℕ, _≤_, _<_}
 use native.Mathlib.Omega.{arith}
 use mathlib.Core.Path.{_≡_, sym, ap, _∙_}
 use mathlib.Core.Bool.{true}
-use mathlib.Core.List.{List, [], _∷_, _++_}
-use lib.ListN.{length, length-append}
+use mathlib.Core.List.{List, []}
+use lib.ListN.{length}
 use lib.Dec.{ltb}
 use borrow.Author.Tests.{ltb-true, lt-ltb}
-use Rattle.syntax.specs.Tree.{Cond, Region, Monitor}
+use Rattle.syntax.specs.Tree.{Monitor}
 use Rattle.syntax.proofs.Grammar.{one-cond}
 use Rattle.logic.specs.Tests.{bit}
 use Rattle.machine.specs.Held.{Held}
 use Rattle.machine.specs.Decide.Table.{runs}
 use Rattle.meaning.specs.State.{count, stateAt}
 use Rattle.meaning.specs.Kept.{keptAt}
-use Rattle.meaning.specs.Model.{vars, regions, guards, guardsOf, placeIn, guardOf, kept, holds, after, model}
+use Rattle.meaning.specs.Model.{vars, regions, guards, guardOf, kept, holds, after, model}
 use Rattle.meaning.proofs.ModelLaws.{guard-below, kept-below, keeps}
+use Rattle.meaning.proofs.Sizes as sizes
 use Rattle.meaning.specs.Accepted.{Sound}
-use Rattle.logic.proofs.Bools.{both, split}
+use Rattle.logic.proofs.Bools.{both}
 use Rattle.states.specs.Rows.{TruthRow, GuardNumbers, KeptAll, HoldsAll, AfterAll}
 
--- a file has at most as many guards as regions
-guards-of-few : (found : List Cond) (rs : List Region) → length (guardsOf found rs) ≤ length found + length rs
-unfolding guardsOf
-guards-of-few found [] = omega arith
-guards-of-few found (r ∷ rs) =
-    split (ltb (placeIn (r .guard) found) (length found))
-    (λ h. let e : guardsOf found (r ∷ rs) ≡ guardsOf found rs = cc in
-    let few = guards-of-few found rs in
-    rw e (omega arith))
-    (λ h. let e : guardsOf found (r ∷ rs) ≡ guardsOf (found ++ (r .guard ∷ [])) rs = cc in
-    let few = guards-of-few (found ++ (r .guard ∷ [])) rs in
-    let l = length-append found (r .guard ∷ []) in
-    rw e (omega arith))
-
 module _ (m : Monitor) where
+  -- a file has at most as many guards as regions
   pub guards-few : length (guards m) ≤ length (regions m)
   unfolding guards
-  guards-few = omega (arith, guards-of-few [] (regions m))
+  guards-few = omega (arith, sizes.guards-few [] (regions m))
 
   pub kept-truth : (s : ℕ) → kept m s ≡ true → (s < count (vars m)) × (keptAt m (stateAt (vars m) s) ≡ true)
   unfolding kept

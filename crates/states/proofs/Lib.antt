@@ -1,3 +1,3 @@
 pub mod Holding
-pub mod Lanes
+pub mod Held
 pub mod Regions

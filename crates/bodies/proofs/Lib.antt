@@ -1,0 +1,4 @@
+pub mod Filled
+pub mod Shifting
+pub mod Stretches
+pub mod Summing
