@@ -31,7 +31,7 @@ use Rattle.states.specs.Rows.{outcomeNumber, Moved, Outcomes}
 use Rattle.states.specs.Promises.{Looked, runsBy}
 use Rattle.breaking.specs.Broken.{BrokenAs, failsBy, breaksBy}
 use Rattle.states.proofs.Holding.{row-of-kept, kept-truth}
-use Rattle.states.proofs.Lanes.{outcome-state}
+use Rattle.states.proofs.Held.{outcome-state}
 use Rattle.states.proofs.Regions.{looked, runs-true, runs-parts}
 
 pub bit-is : (b : Bool) → not (eqb (bit b) 1) ≡ not b

@@ -2,14 +2,17 @@
 // kept.
 use variables::Bounds;
 ghost use mathlib.Core.Path.{_≡_};
+ghost use mathlib.Core.Bool.{_&&_};
 ghost use Prim.Native.Nat.{_≤_};
 ghost use lib.ListN.{length, getD};
-ghost use Rattle.machine.specs.Limits.{mostRegions, mostAfter};
+ghost use lib.Dec.{eqb};
+ghost use Rattle.machine.specs.Limits.{mostRegions, mostStates, mostAfter};
 ghost use Rattle.syntax.specs.Tree.{Monitor};
 ghost use Rattle.meaning.specs.Model.{vars, regions};
 ghost use Rattle.meaning.specs.Kept.{keptAt};
 ghost use Rattle.meaning.specs.Decide.Check.{broken};
 ghost use Rattle.variables.specs.Bounded.{Bounded};
+ghost use Rattle.sets.specs.Set.{member};
 ghost use Rattle.states.specs.Rows.{HoldsAll, KeptAll, GuardNumbers, Outcomes};
 ghost use Rattle.breaking.specs.Broken.{BrokenAs, failsBy, breaksBy, Lowest};
 
@@ -29,24 +32,28 @@ fn fails(kept: &[u8], to: u16) -> bool
     states::byte_at(kept, states::wide(to)) != 1
 }
 
-// Does a region break at a state, from which its body has an outcome?
-fn breaks_at(kept: &[u8], holds: &[u16], guard: u8, s: usize, to: u16) -> bool
-    ensures { λ r. ⌜ r ≡ breaksBy (now (kept .entry)) (now (holds .entry)) guard s to ⌝ }
+// Does a region break at a state, by what is held of that state (`here`, `held`) and the outcome of its body?
+fn breaks_at(kept: &[u8], here: u8, held: u16, guard: u8, to: u16) -> bool
+    ensures { λ r. ⌜ r ≡ (failsBy (now (kept .entry)) to && (eqb here 1 && member held guard)) ⌝ }
 {
-    if !fails(kept, to) {
+    if here != 1 {
         return false;
     }
-    states::may_run(kept, holds, guard, s)
+    if !sets::has(held, guard as u32) {
+        return false;
+    }
+    fails(kept, to)
 }
 
 // The lowest state at which a region breaks, by the outcomes of its body; the count of states where it never does.
 fn first_in_row(row: &[u16], states: usize, guard: u8, kept: &[u8], holds: &[u16]) -> usize
+    requires { ⌜ (states ≤ length (now row)) × (states ≤ length (now kept)) × (states ≤ length (now holds)) ⌝ }
     ensures { λ r. ⌜ Lowest
         (λ s. breaksBy (now (kept .entry)) (now (holds .entry)) guard s (getD (now (row .entry)) s 0)) states r ⌝ }
 {
     let mut s: usize = 0;
     while s < states {
-        if breaks_at(kept, holds, guard, s, states::number_at(row, s)) {
+        if breaks_at(kept, kept[s], holds[s], guard, row[s]) {
             return s;
         }
         s += 1;
@@ -64,10 +71,16 @@ pub fn first_broken(
     after: &[u16],
 ) -> Broken
     ensures { λ r. ⌜ ((m : Monitor) → Bounded (vars m) bounds → count ≡ length (regions m) → count ≤ mostRegions
-        → GuardNumbers m «guard_of» → mostAfter ≤ length (now (after .entry))
-        → KeptAll m (now (kept .entry)) → HoldsAll m (now (holds .entry)) → Outcomes m (keptAt m) (now (after .entry))
-        → BrokenAs r (broken m)) ⌝ }
+        → GuardNumbers m «guard_of» → mostStates ≤ length (now (kept .entry)) → mostStates ≤ length (now (holds .entry))
+        → mostAfter ≤ length (now (after .entry)) → KeptAll m (now (kept .entry)) → HoldsAll m (now (holds .entry))
+        → Outcomes m (keptAt m) (now (after .entry)) → BrokenAs r (broken m)) ⌝ }
 {
+    if kept.len() < machine::STATES {
+        return Broken::Never;
+    }
+    if holds.len() < machine::STATES {
+        return Broken::Never;
+    }
     if after.len() < machine::AFTER {
         return Broken::Never;
     }
@@ -75,6 +88,9 @@ pub fn first_broken(
         return Broken::Never;
     }
     let states = bounds.states;
+    if machine::STATES < states {
+        return Broken::Never;
+    }
     let mut r: usize = 0;
     while r < count {
         let from = r * machine::STATES;

@@ -11,6 +11,7 @@ use Rattle.meaning.specs.Answer.{answer, accepted}
 use Rattle.meaning.specs.Decide.Check.{check}
 use Rattle.meaning.specs.Decide.Calls.{written, place}
 use Rattle.meaning.specs.Decide.Choice.{chosenBits}
+use Rattle.meaning.specs.Decide.Touch.{pairsOf}
 use Rattle.meaning.specs.Model.{model}
 use Rattle.meaning.specs.Decide.Table.{tableOf}
 use Rattle.logic.proofs.Bools.{different}
@@ -32,11 +33,11 @@ module _ {file : List ℕ} {l : Loaded} {kept holds after : List ℕ} (loads : L
 
   -- a refused file: nothing is written
   pub not-placed : (buffer : List ℕ) → (l .answer .number ≡ 0 → ⊥)
-      → Places (place file buffer) (record { answer = l .answer; length = 0; chosen = 0 }) buffer
+      → Places (place file buffer) (record { answer = l .answer; length = 0; chosen = 0; pairs = 0 }) buffer
   unfolding place Is answerOf
   not-placed buffer other =
       let (a, e) = refusal-of file (l .answer) (loads .verdict) other in
-      rw (e, place) (record { answer = rw e at (loads .verdict); length = refl; chosen = refl; bytes = refl })
+      rw (e, place) (record { answer = rw e at (loads .verdict); length = refl; chosen = refl; pairs = refl; bytes = refl })
 
   -- an accepted file: its entries are filled, and its table is written
   module _ (z : l .answer .number ≡ 0) (entries : List ℕ) {buffer behind : List ℕ} {r : Placed}
@@ -65,13 +66,14 @@ module _ {file : List ℕ} {l : Loaded} {kept holds after : List ℕ} (loads : L
       answer = l .answer;
       length = n;
       chosen = l .choice .chosen;
+      pairs = l .pairs;
     }) behind
     unfolding place written placedOf bufferOf
     placed n at-length = rw (e, place) (go (ltb (length buffer) (length table)) refl)
       where
         go : (b : Bool) → ltb (length buffer) (length table) ≡ b
-            → Places (written table (chosenBits m) buffer)
-            (record { answer = l .answer; length = n; chosen = l .choice .chosen }) behind
+            → Places (written table (chosenBits m) (pairsOf m) buffer)
+            (record { answer = l .answer; length = n; chosen = l .choice .chosen; pairs = l .pairs }) behind
         go true t = let s : r ≡ Short = rw (t, placedOf) at (w .answer) in different (cc)
         go false t =
             let s : r ≡ Length (length table) = rw (t, placedOf) at (w .answer) in
@@ -80,21 +82,23 @@ module _ {file : List ℕ} {l : Loaded} {kept holds after : List ℕ} (loads : L
               answer = says-accepted m e;
               length = cc;
               chosen = loads .monitored m e .chosen .choice .bits;
+              pairs = loads .monitored m e .pairs;
               bytes = rw (t, bufferOf) at (w .buffer);
             })
 
     pub too-short : (a : code.Answer) → (a .number ≡ 10) × (a .first ≡ 0) × (a .second ≡ 0) → r ≡ Short
-        → Places (place file buffer) (record { answer = a; length = 0; chosen = 0 }) behind
+        → Places (place file buffer) (record { answer = a; length = 0; chosen = 0; pairs = 0 }) behind
     unfolding place written placedOf bufferOf
     too-short a (x, y, z) at-short = rw (e, place) (go (ltb (length buffer) (length table)) refl)
       where
         go : (b : Bool) → ltb (length buffer) (length table) ≡ b
-            → Places (written table (chosenBits m) buffer) (record { answer = a; length = 0; chosen = 0 }) behind
+            → Places (written table (chosenBits m) (pairsOf m) buffer) (record { answer = a; length = 0; chosen = 0; pairs = 0 }) behind
         go true t =
             rw (t, written) (record {
               answer = record { number = x; first = y; second = z };
               length = refl;
               chosen = refl;
+              pairs = refl;
               bytes =
                   rw (t, bufferOf) at (w .buffer);
             })

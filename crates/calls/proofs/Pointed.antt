@@ -1,7 +1,7 @@
 -- The points of a run, by what the code has found: the file's refusal, 10, 11 or 12 with nothing written, or the points.
 use Prim.Native.Nat.{ℕ, _*_, _/_, _+_, _<_, _≤_}
 use native.Mathlib.Omega.{arith}
-use mathlib.Core.Path.{_≡_, refl, sym, ap, _∙_, subst}
+use mathlib.Core.Path.{_≡_, refl, sym, _∙_, subst}
 use mathlib.Core.Bool.{Bool, true, false}
 use mathlib.Core.List.{List}
 use lib.ListN.{length}
@@ -9,13 +9,11 @@ use lib.Dec.{ltb}
 use borrow.Author.Tests.{lt-ltb, le-ltb}
 use Rattle.syntax.specs.Tree.{Monitor}
 use Rattle.machine.specs.Monitor.{Frame}
-use Rattle.meaning.specs.Answer.{Answer, answer, accepted, refused}
+use Rattle.meaning.specs.Answer.{Answer, answer, accepted}
 use Rattle.meaning.specs.Decide.Check.{check}
 use Rattle.meaning.specs.Decide.Frames.{framesOf, frames}
 use Rattle.meaning.specs.Model.{kept, model}
-use Rattle.meaning.specs.Calls.{plain-machine, table-machine}
 use Rattle.meaning.specs.Points.{Pointing, noPoints, pointRoom, pointsOf, pointsFrom, framePoints, listPoints, pointCount}
-use Rattle.meaning.specs.Points.{stopAnswer}
 use Rattle.meaning.proofs.ModelLaws.{startable-iff}
 use Rattle.meaning.proofs.Frames.{frames-read}
 use Rattle.demands.proofs.Points.{every-point}

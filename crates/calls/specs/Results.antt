@@ -27,11 +27,12 @@ use Rattle.demands.specs.Points.{EveryPoint}
 use Rattle.calls.specs.declared.Placing.{Placing}
 use Rattle.calls.specs.declared.Pointing.{Pointing}
 
--- placing: the answer, the length, the chosen tries and every byte of the buffer afterwards
+-- placing: the answer, the length, the chosen tries, the touched pairs and every byte of the buffer afterwards
 pub record Places (p : calls.Placing) (r : Placing) (buffer : List ℕ) : Type 0 where
   pub answer : Says (r .answer) (p .answer)
   pub length : r .length ≡ p .length
   pub chosen : r .chosen ≡ p .chosen
+  pub pairs : r .pairs ≡ p .pairs
   pub bytes : buffer ≡ p .buffer
 
 -- the points of a run: both answers, how many there are, and every byte of the buffer afterwards (R 15.2)

@@ -14,12 +14,14 @@ ghost use Rattle.meaning.specs.Points.{pointsOf};
 ghost use Rattle.loader.specs.Loading.{Loads};
 ghost use Rattle.calls.specs.Results.{Places, Points, Agrees, EntriesOf, startOf};
 
-// What placing answers, and where it is placed the table's length and the chosen tries, the first the lowest bit.
+// What placing answers, and where it is placed the table's length, the chosen tries, the first the lowest bit, and how
+// many pairs of region and guard are touched.
 #[repr(C)]
 pub struct Placing {
     pub answer: Answer,
     pub length: usize,
     pub chosen: u16,
+    pub pairs: u16,
 }
 
 // Both machines' answers to a trace, and how many points are written.
@@ -43,12 +45,14 @@ fn entries_of(
     let bounds = loaded.bounds;
     let layout = loaded.layout;
     let guard_of = layout.guard_of;
+    let touched = loaded.touched;
     let mut entries = [0u8; machine::ENTRIES];
     entries::fill_entries(
         kept,
         holds,
         after,
         &guard_of,
+        &touched,
         bounds.states,
         layout.regions,
         layout.guards,
@@ -74,6 +78,7 @@ pub fn place_loaded(
             answer: verdict,
             length: 0,
             chosen: 0,
+            pairs: 0,
         };
     }
     let layout = loaded.layout;
@@ -84,11 +89,13 @@ pub fn place_loaded(
             answer: answers::say(10, 0, 0),
             length: 0,
             chosen: 0,
+            pairs: 0,
         },
         Placed::Length(n) => Placing {
             answer: verdict,
             length: n,
             chosen: choice.chosen,
+            pairs: loaded.pairs,
         },
     }
 }

@@ -28,7 +28,7 @@ use Rattle.meaning.proofs.StateLaws.{number-below, state-at-number}
 use Rattle.meaning.proofs.Searching.{where-none-iff, where-some-iff}
 use Rattle.meaning.proofs.Choosing.{chosen-members, chosen-below}
 use Rattle.states.specs.Rows.{TruthSets, TruthRow, Outcomes, outcomeNumber}
-use Rattle.states.proofs.Lanes.{bit-true, bit-one, outcome-state}
+use Rattle.states.proofs.Held.{bit-true, bit-one, outcome-state}
 use Rattle.states.proofs.Regions.{looked}
 use Rattle.choice.specs.Slots.{lacks, bindsBy, breaksBy, Slot, markSlot, rowsSlot}
 use Rattle.choice.specs.Chosen.{Tried}

@@ -4,7 +4,7 @@ use native.Mathlib.Omega.{arith}
 use mathlib.Core.Path.{_≡_, refl, sym, ap, subst, _∙_}
 use mathlib.Core.Logic.{inl, inr, ⊎-elim}
 use mathlib.Core.List.{List, map}
-use lib.ListN.{getD, replicate, getD-replicate, List·getD-map}
+use lib.ListN.{getD, getD-replicate, List·getD-map}
 use lib.IntN.{pos}
 use Rattle.machine.specs.Monitor.{Place, idle, due}
 use Rattle.meaning.specs.Held.{Offset}

@@ -42,6 +42,20 @@ pub record Swept (kept holds after : List ℕ) (n guard r : ℕ) (w : Sweep) : T
       ≡ not (someAt kept holds after n guard r (neither g))
   pub by-left : (g : ℕ) → member (w .left) g ≡ someAt kept holds after n guard r (holdsThen g)
 
+-- what is found of a region that touches the guards of a set: what its body does to these
+pub record Found (kept holds after : List ℕ) (states guard r touched : ℕ) (w : Sweep) : Type 0 where
+  pub by-raised : (g : ℕ) → member (w .raised) g
+      ≡ member touched g && someAt kept holds after states guard r (rises g)
+  pub by-covered : (g : ℕ) → g < mostRegions → member touched g ≡ true → member (w .covered) g
+      ≡ not (someAt kept holds after states guard r (neither g))
+  pub by-left : (g : ℕ) → member touched g ≡ true → member (w .left) g
+      ≡ someAt kept holds after states guard r (holdsThen g)
+
+-- a region does not touch its guard, or leaves it true from some state
+unfoldable pub leavesAt : (kept holds after : List ℕ) (states guard r touched : ℕ) → Bool
+leavesAt kept holds after states guard r touched =
+    not (member touched guard) || someAt kept holds after states guard r (holdsThen guard)
+
 -- an entry by whether it stands, is unconditional and is a broadcast
 unfoldable pub made : Bool → Bool → Bool → Entry
 made false a b = none
@@ -51,18 +65,18 @@ made true a b = entry a b
 unfoldable pub sweptCode : (w : Sweep) (wide g : ℕ) → ℕ
 sweptCode w wide g = codeOf (made (member (w .raised) g) (member (w .covered) g) (member wide g))
 
-module _ (kept holds after guardOf : List ℕ) (states : ℕ) where
-  -- one of the first n regions has guard g and leaves it true
+module _ (kept holds after guardOf touched : List ℕ) (states : ℕ) where
+  -- one of the first n regions has guard g, and does not touch it or leaves it true
   unfoldable pub wideAt : (n g : ℕ) → Bool
   wideAt n g =
-      any n (λ w. eqb g (getD guardOf w 0 % mostRegions) && someAt kept holds after states
-      (getD guardOf w 0 % mostRegions) w (holdsThen g))
+      any n (λ w. eqb g (getD guardOf w 0 % mostRegions) && leavesAt kept holds after states
+      (getD guardOf w 0 % mostRegions) w (getD touched w 0))
 
-  -- the entry of a region and a guard, of so many regions, as a number
+  -- the entry of a region and a guard, of so many regions, as a number: none where the region does not touch the guard
   unfoldable pub codeAt : (regions r g : ℕ) → ℕ
   codeAt regions r g =
       let some = someAt kept holds after states (getD guardOf r 0 % mostRegions) r in
-      codeOf (made (some (rises g)) (not (some (neither g))) (wideAt regions g))
+      codeOf (made (member (getD touched r 0) g && some (rises g)) (not (some (neither g))) (wideAt regions g))
 
 -- counts for which the slices have room
 pub record Counts (states regions guards : ℕ) : Type 0 where
@@ -70,17 +84,16 @@ pub record Counts (states regions guards : ℕ) : Type 0 where
   pub few-regions : regions ≤ mostRegions
   pub few-guards : guards ≤ mostRegions
 
--- the entries of so many regions and guards stand in a slice at region * mostRegions + guard, and every other number is
--- as it was
-pub record Filled (kept holds after guardOf : List ℕ) (states regions guards : ℕ) (before entries : List ℕ) : Type 0
-  where
+module _ (kept holds after guardOf touched : List ℕ) (states regions guards : ℕ) (before entries : List ℕ) where
+  -- the entries of so many regions and guards stand in a slice at region * mostRegions + guard, and every other number
+  -- is as it was
+  pub record Filled : Type 0 where
     pub standing : (r g : ℕ) → r < regions → g < guards
-        → getD entries (r * mostRegions + g) 0 ≡ codeAt kept holds after guardOf states regions r g
+        → getD entries (r * mostRegions + g) 0 ≡ codeAt kept holds after guardOf touched states regions r g
     pub others : (r g : ℕ) → g < mostRegions → (r < regions → g < guards → ⊥)
         → getD entries (r * mostRegions + g) 0 ≡ getD before (r * mostRegions + g) 0
 
--- what filling does to a lent slice: where a count is too large, nothing
-pub record FillsEntries (kept holds after guardOf : List ℕ) (states regions guards : ℕ) (before entries : List ℕ)
-    : Type 0 where
-  pub filled : Counts states regions guards → Filled kept holds after guardOf states regions guards before entries
-  pub refused : (Counts states regions guards → ⊥) → entries ≡ before
+  -- what filling does to a lent slice: where a count is too large, nothing
+  pub record FillsEntries : Type 0 where
+    pub filled : Counts states regions guards → Filled
+    pub refused : (Counts states regions guards → ⊥) → entries ≡ before

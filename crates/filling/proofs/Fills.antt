@@ -1,111 +1,43 @@
--- What filling the slices says, by its answer; and where guards, tries and bodies stand, as the tables ask it.
-use Prim.Native.Nat.{ℕ, _%_, _≤_, _<_}
-use native.Mathlib.Omega.{arith}
+-- What filling the slices says, by its answer.
+use Prim.Native.Nat.{ℕ, _≤_, _<_}
 use mathlib.Core.Path.{_≡_, refl, sym, ap, subst, _∙_}
 use mathlib.Core.Bool.{Bool, true, false, not, _&&_}
-use mathlib.Core.List.{List, _∷_, _++_}
+use mathlib.Core.List.{List}
 use mathlib.Core.Option.{Option, none, some}
 use lib.ListN.{length, getD}
-use Rattle.syntax.specs.Token.{Lexeme, mark, semicolon}
-use Rattle.syntax.specs.Tree.{Cond, Monitor, spellCond}
+use Rattle.syntax.specs.Token.{Lexeme}
+use Rattle.syntax.specs.Tree.{Monitor}
 use Rattle.logic.specs.Tests.{bit}
 use Rattle.logic.proofs.Bools.{clash, different}
-use Rattle.logic.proofs.Lists.{getD-below}
 use Rattle.meaning.specs.Value.{truth}
 use Rattle.meaning.specs.State.{count, starts, stateAt}
 use Rattle.meaning.specs.Kept.{keptAt}
 use Rattle.meaning.specs.Decide.Check.{broken}
-use Rattle.meaning.specs.Decide.Choice.{noTry, tryAt, chosenTries, chosenBits}
-use Rattle.meaning.specs.Model.{vars, guards, noGuard, holds}
+use Rattle.meaning.specs.Decide.Choice.{chosenTries, chosenBits}
+use Rattle.meaning.specs.Model.{vars}
 use Rattle.meaning.proofs.Choosing.{kept-iff, start-kept}
 use Rattle.variables.specs.declared.Bounds.{Bounds}
 use Rattle.layout.specs.declared.Layout.{Layout}
 use Rattle.layout.specs.declared.Tries.{Tries}
-use Rattle.states.specs.Rows.{TruthRow, TruthSets, ConditionsAt, BodiesAt, GuardNumbers, KeptAll, HoldsAll, Outcomes}
+use Rattle.states.specs.Rows.{TruthRow, TruthSets, GuardNumbers, KeptAll, Outcomes}
 use Rattle.breaking.specs.Broken.{BrokenAs}
-use Rattle.states.proofs.Holding.{guards-few, kept-of-row}
+use Rattle.states.proofs.Holding.{kept-of-row}
 use Rattle.breaking.proofs.Breaking.{after-all}
-use Rattle.states.specs.Promises.{Condition, Conditions}
 use Rattle.breaking.specs.declared.Broken.{Broken}
 use Rattle.breaking.specs.declared.Broken.the-variants.{Never, At}
 use Rattle.choice.specs.Slots.{lacks}
 use Rattle.choice.specs.Chosen.{Chooses}
 use Rattle.choice.proofs.Passing.{all-there, chosen-set}
 use Rattle.answers.specs.declared.Answer.{Answer}
-use Rattle.filling.proofs.GuardsAt.{ends-kept, guards-stand}
-use Rattle.filling.specs.Filling.{Filling, Settles, Filled, Rows, Leaves}
+use Rattle.rows.specs.Filling.{Filling}
+use Rattle.filling.specs.Filling.{Settles, Filled, Rows, Leaves}
 use Rattle.filling.specs.declared.Settled.{Settled}
 
-module _ {m : Monitor} {ls : List Lexeme} {kinds values : List ℕ} {b : Bounds} {l : Layout} {t : Tries}
-    (f : Filling m ls kinds values b l t) where
-  pub keeping : Condition (vars m) (m .keep) kinds values b (l .keep)
-  keeping =
-      record {
-        ls = ls;
-        us = mark semicolon ∷ f .laid .behind-keep;
-        codes = f .codes;
-        bounded = f .bounded;
-        few = f .few;
-        spelled = f .laid .keep-stands;
-        ends = ends-kept (f .laid .behind-keep);
-      }
-
-  few-guards : length (guards m) ≤ 16
-  few-guards = omega (arith, guards-few m, f .few-regions)
-
-  guards-of : (ats : List ℕ) → ((g : ℕ) → g < 16 → getD ats g 0 ≡ getD (l .«guards_at») (getD (l .firsts) g 0 % 16) 0)
-      → ConditionsAt (guards m) ls ats
-  unfolding ConditionsAt
-  guards-of ats e =
-      guards-stand m ls ats (l .firsts) (l .«guards_at») (f .laid .first-below) (f .laid .first-has)
-      (λ r h. let q = f .laid .regions-stand r h in (q .behind-guard, q .guard-stands))
-      (λ g h. let low = f .laid .first-below g h in
-      let small : getD (l .firsts) g 0 % 16 ≡ getD (l .firsts) g 0 = omega (arith, f .few-regions) in
-      e g (omega (arith, few-guards)) ∙ ap (λ (k : ℕ). getD (l .«guards_at») k 0) small)
-
-  pub guarding : (ats : List ℕ)
-      → ((g : ℕ) → g < 16 → getD ats g 0 ≡ getD (l .«guards_at») (getD (l .firsts) g 0 % 16) 0)
-      → Conditions (vars m) (guards m) kinds values b ats (l .guards)
-  guarding ats e =
-      record {
-        ls = ls;
-        codes = f .codes;
-        bounded = f .bounded;
-        few = f .few;
-        counted = f .laid .guard-count;
-        few-conditions = omega (arith, few-guards, f .laid .guard-count);
-        places = guards-of ats e;
-      }
-
-  -- the tries begin where the layout says
-  tries-at : ConditionsAt (m .tries) ls (t .ats)
-  unfolding ConditionsAt tryAt
-  tries-at i h =
-      let (us, e) = f .tries-laid .stand i h in (
-        mark semicolon ∷ us,
-        e ∙ ap (λ (c : Cond). spellCond c ++ (mark semicolon ∷ us)) (getD-below (m .tries) i noTry noGuard h),
-        ends-kept us,
-      )
-
-  pub trying : Conditions (vars m) (m .tries) kinds values b (t .ats) (t .count)
-  trying =
-      record {
-        ls = ls;
-        codes = f .codes;
-        bounded = f .bounded;
-        few = f .few;
-        counted = f .tries-laid .count;
-        few-conditions = omega (arith, f .tries-laid .count, f .few-tries);
-        places = tries-at;
-      }
-
-  pub bodies-of : BodiesAt m ls (l .«bodies_at»)
-  unfolding BodiesAt
-  bodies-of r h = let q = f .laid .regions-stand r h in (q .behind-body, q .body-stands)
-
-  pub numbers-of : GuardNumbers m (l .«guard_of»)
-  unfolding GuardNumbers
-  numbers-of = f .laid .guard-numbers
+-- the numbers of the guards stand where the layout says
+pub numbers-of : {m : Monitor} {ls : List Lexeme} {kinds values : List ℕ} {b : Bounds} {l : Layout} {t : Tries}
+    → Filling m ls kinds values b l t → GuardNumbers m (l .«guard_of»)
+unfolding GuardNumbers
+numbers-of f = f .laid .guard-numbers
 
 -- an answer handed on
 pub said : {a b : Answer} {n k i : ℕ} → a ≡ b → (b .number ≡ n) × (b .first ≡ k) × (b .second ≡ i)
@@ -128,11 +60,6 @@ passed : (o : Option (ℕ × ℕ)) {x : Broken} → BrokenAs x o → x ≡ Never
 unfolding BrokenAs
 passed none a e = refl
 passed (some q) a e = different (cc)
-
--- the guards that hold, as a set of all of them
-pub holds-of : (m : Monitor) (rows : List ℕ) → TruthSets (vars m) (guards m) rows → HoldsAll m rows
-unfolding TruthSets HoldsAll holds
-holds-of m rows t = t
 
 -- an outcome where keep and the guard hold is one where the kept condition and the guard do
 pub outcomes-kept : (m : Monitor) (rows : List ℕ) → Outcomes m (truth (m .keep) (vars m)) rows → Outcomes m (keptAt m) rows

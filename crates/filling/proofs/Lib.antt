@@ -1,2 +1,1 @@
-pub mod GuardsAt
 pub mod Fills

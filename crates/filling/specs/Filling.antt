@@ -1,38 +1,20 @@
--- What is known of a file whose names and braces are resolved, and what filling the slices from it says: refusals 8 and
--- 9.
+-- What filling the slices from a file whose names and braces are resolved says: refusals 8 and 9.
 use Prim.Native.Nat.{ℕ, _≤_}
 use mathlib.Core.Path.{_≡_}
 use mathlib.Core.Bool.{true, false}
 use mathlib.Core.List.{List}
 use mathlib.Core.Option.{none, some}
 use lib.ListN.{length}
-use Rattle.syntax.specs.Token.{Lexeme}
 use Rattle.syntax.specs.Tree.{Monitor}
 use Rattle.meaning.specs.State.{starts}
 use Rattle.meaning.specs.Kept.{keptAt}
 use Rattle.meaning.specs.Answer.{answer}
 use Rattle.meaning.specs.Decide.Check.{broken}
-use Rattle.meaning.specs.Model.{vars, regions}
-use Rattle.evaluator.specs.Coding.{Codes}
-use Rattle.variables.specs.Bounded.{Bounded}
-use Rattle.variables.specs.declared.Bounds.{Bounds}
-use Rattle.layout.specs.Laid.{Laid, TriesLaid}
-use Rattle.layout.specs.declared.Layout.{Layout}
-use Rattle.layout.specs.declared.Tries.{Tries}
+use Rattle.meaning.specs.Model.{vars}
 use Rattle.states.specs.Rows.{KeptAll, HoldsAll, AfterAll, Outcomes}
 use Rattle.answers.specs.Says.{Says}
 use Rattle.choice.specs.Chosen.{Chooses}
 use Rattle.filling.specs.declared.Settled.{Settled}
-
-pub record Filling (m : Monitor) (ls : List Lexeme) (kinds values : List ℕ) (b : Bounds) (l : Layout) (t : Tries) : Type 0
-  where
-    pub codes : Codes (vars m) ls kinds values
-    pub bounded : Bounded (vars m) b
-    pub laid : Laid m ls l
-    pub tries-laid : TriesLaid m ls t
-    pub few : length ls ≤ 8192
-    pub few-regions : length (regions m) ≤ 16
-    pub few-tries : length (m .tries) ≤ 16
 
 -- the kept condition, the guards that hold and the outcomes of the bodies, at every state
 pub record Rows (m : Monitor) (kept holds after : List ℕ) : Type 0 where

@@ -5,36 +5,24 @@ use breaking::Broken;
 use choice::Choice;
 use layout::Layout;
 use layout::Tries;
+use mentions::Mentions;
 use variables::Bounds;
 ghost use mathlib.Core.Path.{_≡_};
 ghost use mathlib.Core.List.{List};
 ghost use mathlib.Core.Logic.{_⊎_};
-ghost use Prim.Native.Nat.{ℕ, _%_, _≤_, _<_};
-ghost use lib.ListN.{length, getD};
-ghost use Rattle.machine.specs.Limits.{mostRegions, mostStates, mostAfter};
+ghost use Prim.Native.Nat.{_≤_};
+ghost use lib.ListN.{length};
+ghost use Rattle.machine.specs.Limits.{mostStates, mostAfter};
 ghost use Rattle.syntax.specs.Token.{Lexeme};
 ghost use Rattle.syntax.specs.Tree.{Monitor};
-ghost use Rattle.filling.specs.Filling.{Filling, Settles, Filled, AsLong, Leaves};
+ghost use Rattle.mentions.specs.Mentioned.{Mentioned};
+ghost use Rattle.rows.specs.Filling.{Filling};
+ghost use Rattle.filling.specs.Filling.{Settles, Filled, AsLong, Leaves};
 
 // 8 and 9: the answer, and the choice among the tries.
 pub struct Settled {
     pub answer: Answer,
     pub choice: Choice,
-}
-
-// The tokens at which the guards begin, by guard.
-fn guards_at(layout: Layout) -> [u16; machine::REGIONS]
-    ensures { λ r.
-        ⌜ ((g : ℕ) → g < mostRegions → getD r g 0 ≡ getD (layout .«guards_at») (getD (layout .firsts) g 0 % mostRegions)
-        0) ⌝ }
-{
-    let mut ats = [0u16; machine::REGIONS];
-    let mut g = 0;
-    while g < machine::REGIONS {
-        ats[g] = layout.guards_at[(layout.firsts[g] % machine::REGION_END) as usize];
-        g += 1;
-    }
-    ats
 }
 
 // An answer beside a choice.
@@ -47,14 +35,15 @@ fn with_choice(answer: Answer, choice: Choice) -> Settled
     }
 }
 
-// 9, and the choice before it: the truths and the outcomes of the bodies, into lent slices. Where there are no tries,
-// `tried` is not written.
+// 9, and the choice before it, from the truths and the outcomes of the bodies, which go into lent slices. Where there
+// are no tries, `tried` is not written.
 fn fill_states(
     kinds: &[u8],
     values: &[u16],
     bounds: Bounds,
     layout: Layout,
     tries: Tries,
+    mentions: Mentions,
     kept: &mut [u8],
     holds: &mut [u16],
     after: &mut [u16],
@@ -62,41 +51,27 @@ fn fill_states(
 ) -> Settled
     ensures { λ r.
         ⌜ ((m : Monitor) (ls : List Lexeme) → Filling m ls (now (kinds .entry)) (now (values .entry)) bounds layout tries
-        → mostStates ≤ length (now (kept .entry)) → mostStates ≤ length (now (holds .entry))
+        → Mentioned m mentions → mostStates ≤ length (now (kept .entry)) → mostStates ≤ length (now (holds .entry))
         → mostAfter ≤ length (now (after .entry)) → (1 ≤ tries .count → mostStates ≤ length (now (tried .entry)))
         → Settles m r (now (kept .exit)) (now (holds .exit)) (now (after .exit))) ⌝ }
     ensures { λ r. ⌜ ((r .answer .number ≡ 9) ⊎ (r .answer .number ≡ 0))
         × AsLong (now (kept .entry)) (now (holds .entry)) (now (after .entry))
         (now (kept .exit)) (now (holds .exit)) (now (after .exit)) ⌝ }
 {
-    let keep = layout.keep;
-    states::fill_row(kinds, values, bounds, keep, kept);
-    let ats = tries.ats;
-    states::fill_holds(
+    rows::fill_rows(
         kinds,
         values,
         bounds,
-        guards_at(layout),
-        layout.guards,
-        ats,
-        tries.count,
-        holds,
-        tried,
-    );
-    let bodies = layout.bodies_at;
-    let numbers = layout.guard_of;
-    let regions = layout.regions;
-    states::fill_after(
-        kinds,
-        values,
-        bounds,
-        bodies,
-        numbers,
-        regions,
+        layout,
+        tries,
+        mentions,
         kept,
         holds,
+        tried,
         after,
     );
+    let numbers = layout.guard_of;
+    let regions = layout.regions;
     let starts = bounds.starts;
     let start = variables::number_of(bounds, starts);
     let choice = choice::choose(
@@ -124,6 +99,7 @@ pub fn fill(
     bounds: Bounds,
     layout: Layout,
     tries: Tries,
+    mentions: Mentions,
     place: usize,
     kept: &mut [u8],
     holds: &mut [u16],
@@ -131,7 +107,7 @@ pub fn fill(
 ) -> Settled
     ensures { λ r.
         ⌜ ((m : Monitor) (ls : List Lexeme) → Filling m ls (now (kinds .entry)) (now (values .entry)) bounds layout tries
-        → mostStates ≤ length (now (kept .entry)) → mostStates ≤ length (now (holds .entry))
+        → Mentioned m mentions → mostStates ≤ length (now (kept .entry)) → mostStates ≤ length (now (holds .entry))
         → mostAfter ≤ length (now (after .entry))
         → Filled m place r (now (kept .exit)) (now (holds .exit)) (now (after .exit))) ⌝ }
     ensures { λ r. ⌜ Leaves (r .answer .number) (now (kept .entry)) (now (holds .entry)) (now (after .entry))
@@ -139,7 +115,7 @@ pub fn fill(
 {
     let starts = bounds.starts;
     let keep = layout.keep;
-    if !states::holds_at(kinds, values, starts, keep) {
+    if !lanes::holds_at(kinds, values, starts, keep) {
         return with_choice(answers::say(8, place, 0), choice::undropped(0));
     }
     if tries.count == 0 {
@@ -150,6 +126,7 @@ pub fn fill(
             bounds,
             layout,
             tries,
+            mentions,
             kept,
             holds,
             after,
@@ -163,6 +140,7 @@ pub fn fill(
         bounds,
         layout,
         tries,
+        mentions,
         kept,
         holds,
         after,

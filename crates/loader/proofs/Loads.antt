@@ -36,7 +36,14 @@ use Rattle.loader.proofs.Names.{codes}
 use Rattle.loader.proofs.Flags.{held-places}
 use Rattle.judging.specs.Judging.{Past7, JudgedBy, Judges}
 use Rattle.loader.specs.Loading.{Chosen, Monitored, Loads}
-use Rattle.filling.specs.Filling.{Filling, Filled, Rows}
+use Rattle.sets.specs.Set.{size}
+use Rattle.meaning.specs.Decide.Touch.{sumOf, pairsOf}
+use Rattle.mentions.specs.Mentioned as mentions
+use Rattle.mentions.specs.declared.Mentions.{Mentions}
+use Rattle.mentions.proofs.Counted.{pairs-counted}
+use Rattle.mentions.proofs.GuardsAt.{few-guards}
+use Rattle.rows.specs.Filling.{Filling}
+use Rattle.filling.specs.Filling.{Filled, Rows}
 use Rattle.judging.specs.declared.Judged.{Judged}
 use Rattle.filling.specs.declared.Settled.{Settled}
 use Rattle.loader.specs.declared.Loaded.{Loaded}
@@ -143,11 +150,41 @@ module _ {file : List ℕ} {ts : List Token} {kinds values places : List ℕ} (w
         few-tries = sizes .tries;
       }
 
-  module _ (l : Layout) (t : Tries) (r : Settled) (kept holds after : List ℕ) {linked : List ℕ}
-      (f : Filling m (lexemes ts) kinds linked (j .bounds) l t) {place : ℕ} (at-keep : place ≡ getD places (j .keep) 0)
-      (filled : Filled m place r kept holds after) where
+  -- what is known of its names
+  pub resolved : {l : Layout} {t : Tries} {linked : List ℕ} → Filling m (lexemes ts) kinds linked (j .bounds) l t
+      → mentions.Resolved m (lexemes ts) kinds linked (j .bounds .count) l t
+  resolved f =
+      record {
+        codes = f .codes;
+        counted = f .bounded .counted;
+        laid = f .laid;
+        tries-laid = f .tries-laid;
+        few-vars = f .bounded .few-vars;
+        few-regions = f .few-regions;
+        few-tries = f .few-tries;
+      }
+
+  module _ (l : Layout) (t : Tries) (n : Mentions) (pairs : ℕ) (r : Settled) (kept holds after : List ℕ)
+      {linked : List ℕ} (f : Filling m (lexemes ts) kinds linked (j .bounds) l t) (named : mentions.Mentioned m n)
+      (counts : l .regions ≤ 16 → pairs ≡ sumOf (l .regions) (λ q. size (getD (n .touched) q 0) 16))
+      {place : ℕ} (at-keep : place ≡ getD places (j .keep) 0) (filled : Filled m place r kept holds after) where
     abbrev loaded : Loaded
-    loaded = record { answer = r .answer; bounds = j .bounds; layout = l; tries = t .count; choice = r .choice }
+    loaded =
+        record {
+          answer = r .answer;
+          bounds = j .bounds;
+          layout = l;
+          tries = t .count;
+          choice = r .choice;
+          touched = n .touched;
+          pairs = pairs;
+        }
+
+    all-pairs : pairs ≡ pairsOf m
+    all-pairs =
+        counts (omega (arith, f .laid .region-count, f .few-regions))
+        ∙ ap (λ (k : ℕ). sumOf k (λ q. size (getD (n .touched) q 0) 16)) (f .laid .region-count)
+        ∙ pairs-counted m (n .touched) (named .touched) (few-guards (f .laid) (f .few-regions))
 
     outlined : (us : List Token) (n : Monitor) → words.Past7 file us n
         → Bounded (vars n) (j .bounds) × Laid n (lexemes us) l
@@ -189,6 +226,8 @@ module _ {file : List ℕ} {ts : List Token} {kinds values places : List ℕ} (w
                 region-count = f .laid .region-count;
                 guard-count = f .laid .guard-count;
                 chosen = chosen on;
+                touched = named .touched;
+                pairs = all-pairs;
               });
         }
 

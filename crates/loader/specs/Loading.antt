@@ -12,11 +12,13 @@ use Rattle.meaning.specs.Answer.{accepted}
 use Rattle.meaning.specs.Decide.Check.{check}
 use Rattle.meaning.specs.Model.{vars, regions, guards, model}
 use Rattle.meaning.specs.State.{starts}
+use Rattle.meaning.specs.Decide.Touch.{pairsOf}
 use Rattle.meaning.specs.Kept.{keptAt}
 use Rattle.meaning.specs.Refusal as words
 use Rattle.variables.specs.Bounded.{Bounded}
 use Rattle.layout.specs.Laid.{Laid}
 use Rattle.choice.specs.Chosen.{Chooses}
+use Rattle.mentions.specs.Mentioned.{TouchedSets}
 use Rattle.filling.specs.Filling.{Rows}
 use Rattle.answers.specs.Says.{Is}
 use Rattle.loader.specs.declared.Loaded.{Loaded}
@@ -26,7 +28,7 @@ pub record Chosen (m : Monitor) (l : Loaded) : Type 0 where
   pub counted : l .tries ≡ length (m .tries)
   pub choice : Chooses m (l .choice)
 
--- of an accepted file: its variables, and the slices that hold its monitor freed from its syntax
+-- of an accepted file: its variables, the slices that hold its monitor freed from its syntax, and what its regions touch
 pub record Monitored (m : Monitor) (l : Loaded) (kept holds after : List ℕ) : Type 0 where
   pub bounded : Bounded (vars m) (l .bounds)
   pub held : Held (model m) kept holds after (l .layout .«guard_of»)
@@ -34,6 +36,8 @@ pub record Monitored (m : Monitor) (l : Loaded) (kept holds after : List ℕ) : 
   pub region-count : l .layout .regions ≡ length (regions m)
   pub guard-count : l .layout .guards ≡ length (guards m)
   pub chosen : Chosen m l
+  pub touched : TouchedSets m (l .touched)
+  pub pairs : l .pairs ≡ pairsOf m
 
 -- the verdict; of an accepted file its monitor; of every file that the checks 1 to 7 pass its variables and its layout, and
 -- where 8 passes too the rows of truths and outcomes, and the choice

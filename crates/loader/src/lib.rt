@@ -17,14 +17,16 @@ ghost use Rattle.judging.specs.Judging.{Past7};
 ghost use Rattle.filling.specs.Filling.{Leaves};
 ghost use Rattle.loader.specs.Loading.{Loads};
 
-// 1 to 9: the answer, and of an accepted file its variables, its layout, and how many tries it has with the choice among
-// them.
+// 1 to 9: the answer, and of an accepted file its variables, its layout, how many tries it has with the choice among
+// them, and for each region the guards that it touches, with the count of these pairs.
 pub struct Loaded {
     pub answer: Answer,
     pub bounds: Bounds,
     pub layout: Layout,
     pub tries: usize,
     pub choice: Choice,
+    pub touched: [u16; machine::REGIONS],
+    pub pairs: u16,
 }
 
 fn not_loaded(answer: Answer) -> Loaded
@@ -36,6 +38,8 @@ fn not_loaded(answer: Answer) -> Loaded
         layout: layout::empty(0),
         tries: 0,
         choice: choice::undropped(0),
+        touched: [0u16; machine::REGIONS],
+        pairs: 0,
     }
 }
 
@@ -66,12 +70,14 @@ fn load_judged(
     let layout = layout::lay_out(file, kinds, values, places, keep, tries.next);
     names::resolve(file, kinds, values, places, operands);
     layout::link_braces(kinds, operands);
+    let mentions = mentions::survey(kinds, operands, bounds.count, layout, tries);
     let last = filling::fill(
         kinds,
         operands,
         bounds,
         layout,
         tries,
+        mentions,
         judging::place_of(places, keep, 0),
         kept,
         holds,
@@ -79,12 +85,15 @@ fn load_judged(
     );
     let answer = last.answer;
     let choice = last.choice;
+    let touched = mentions.touched;
     Loaded {
         answer: answer,
         bounds: bounds,
         layout: layout,
         tries: tries.count,
         choice: choice,
+        touched: touched,
+        pairs: mentions::pairs_of(touched, layout.regions),
     }
 }
 

@@ -25,7 +25,7 @@ use Rattle.variables.specs.declared.Bounds.{Bounds}
 use Rattle.layout.specs.declared.Layout.{Layout}
 use Rattle.states.specs.Rows.{GuardNumbers, KeptAll, HoldsAll, Outcomes, outcomeNumber}
 use Rattle.states.proofs.Holding.{kept-truth, guards-few}
-use Rattle.states.proofs.Lanes.{outcome-state}
+use Rattle.states.proofs.Held.{outcome-state}
 use Rattle.lookup.specs.Slices.{moveBy, moveIn}
 use Rattle.lookup.specs.Looked.{Looked, faultsMark, neverMark, moveNumber}
 

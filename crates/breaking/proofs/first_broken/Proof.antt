@@ -9,7 +9,7 @@ use denote.Ref.{now}
 use Rattle.meaning.specs.State.{count}
 use Rattle.meaning.specs.Model.{vars}
 use Rattle.breaking.specs.Broken.{breaksBy}
-use Rattle.states.proofs.Lanes.{passed}
+use Rattle.logic.proofs.Lists.{passed}
 use Rattle.states.proofs.Regions.{part-at}
 use Rattle.breaking.proofs.Breaking.{never, stops}
 use Rattle.breaking.proofs.first_broken.Statement.{statement}
@@ -33,23 +33,23 @@ loop-holds c = (omega arith, λ j h. absurd (omega arith))
 -- region r at a state, by the slices and by the row that was lent
 at-row : (c : tie.After-first-in-row Inv-loop μ-loop) (s : ℕ) → s < 4096 →
     let r = c .before .before .before .loop .r in
-    let a = c .before .before .before .before .before .before .before .before .before .args in
+    let a = c .before .before .before .before .before .before .before .before .before .before .before .before .args in
     breaksBy (now (a .kept)) (now (a .holds)) (getD (a .t2) r 0) s (getD (now (a .after)) (r * 4096 + s) 0)
     ≡ breaksBy (now (a .kept)) (now (a .holds)) (getD (a .t2) r 0) s
     (getD (take (r * 4096 + 4096 - r * 4096) (drop (r * 4096) (now (a .after)))) s 0)
 at-row c s h =
     let r = c .before .before .before .loop .r in
-    let a = c .before .before .before .before .before .before .before .before .before .args in
+    let a = c .before .before .before .before .before .before .before .before .before .before .before .before .args in
     ap (breaksBy (now (a .kept)) (now (a .holds)) (getD (a .t2) r 0) s)
     (sym (part-at (now (a .after)) r (r * 4096 + 4096 - r * 4096) s (omega arith) h))
 
-returns-3 : tie.Need-returns-3 Inv-loop μ-loop
-returns-3 c m b counted small numbers l k h o =
+returns-6 : tie.Need-returns-6 Inv-loop μ-loop
+returns-6 c m b counted small numbers l₁ l₂ l₃ k h o =
     let f = c .before in
     let i = f .before .before .before .loop in
     let low : f .first-in-row .result < count (vars m) = omega (arith, b .states) in
     stops m _ o _ _ _ (b .good) (b .few-states) k h numbers (i .r) (f .first-in-row .result) (omega arith) low
-    (at-row f _ (omega (arith, b .few-states)) ∙ f .first-in-row .ensures .passes (c .if3 .taken))
+    (at-row f _ (omega (arith, b .few-states)) ∙ f .first-in-row .ensures .passes (c .if6 .taken))
     (λ s l. at-row f s (omega (arith, b .few-states)) ∙ f .first-in-row .ensures .lower s l)
     (λ j l s below. i .inv .1 j l s (omega (arith, b .states)) (omega (arith, b .few-states)))
 
@@ -57,14 +57,14 @@ loop-again : tie.Need-loop-again Inv-loop μ-loop
 loop-again c =
     let f = c .before in
     let i = f .before .before .before .loop in
-    let a = f .before .before .before .before .before .before .before .before .before .args in (
+    let a = f .before .before .before .before .before .before .before .before .before .before .before .before .args in (
       omega arith,
       passed (Quiet (a .kept .now) (a .holds .now) (a .after .now) (a .t2) (a .bounds .states)) (i .r) (i .inv .1)
           (λ s below h. at-row f s h ∙ f .first-in-row .ensures .lower s (omega arith)),
     )
 
-returns-4 : tie.Need-returns-4 Inv-loop μ-loop
-returns-4 c m b counted small numbers l k h o =
+returns-7 : tie.Need-returns-7 Inv-loop μ-loop
+returns-7 c m b counted small numbers l₁ l₂ l₃ k h o =
     never m _ o _ _ _ (b .good) (b .few-states) k h numbers
     (λ j low s below.
     c .before .loop .inv .1 j (omega arith) s (omega (arith, b .states)) (omega (arith, b .few-states)))
@@ -72,7 +72,10 @@ returns-4 c m b counted small numbers l k h o =
 pub first-broken-spec : {M : Type 1} → statement M
 first-broken-spec =
     tie.close
-    (tie.spec Inv-loop μ-loop (λ c m b counted small numbers l k h o. absurd (omega arith))
-    (λ c m b counted small numbers l k h o. absurd (omega arith)) loop-holds (λ c. omega arith) (λ c. omega arith)
-    (λ c. omega arith) (λ c. omega arith) (λ c. omega arith) (λ c. omega arith) (λ c. omega arith) (λ c κs. tt)
-    returns-3 (λ c. omega arith) (λ c. omega arith) loop-again returns-4)
+    (tie.spec Inv-loop μ-loop (λ c m b counted small numbers l₁ l₂ l₃ k h o. absurd (omega arith))
+    (λ c m b counted small numbers l₁ l₂ l₃ k h o. absurd (omega arith))
+    (λ c m b counted small numbers l₁ l₂ l₃ k h o. absurd (omega arith))
+    (λ c m b counted small numbers l₁ l₂ l₃ k h o. absurd (omega arith))
+    (λ c m b counted small numbers l₁ l₂ l₃ k h o. absurd (omega (arith, b .states, b .few-states))) loop-holds
+    (λ c. omega arith) (λ c. omega arith) (λ c. omega arith) (λ c. omega arith) (λ c. omega arith) (λ c. omega arith)
+    (λ c. omega arith) (λ c κs. omega arith) returns-6 (λ c. omega arith) (λ c. omega arith) loop-again returns-7)

@@ -1,4 +1,4 @@
--- `entries::fill_regions` meets its contract. The first loop's invariant: the sweeps of the regions passed, and the
+-- `entries::fill_regions` meets its contract. The first loop's invariant: what is found of the regions passed, and the
 -- guards that these leave true; the second's: the entries of the regions passed are in place,
 -- and all others are as they were.
 use Prim.Native.Nat.{ℕ, _+_, _*_, _%_, _≤_, _<_, _-_}
@@ -10,9 +10,9 @@ use lib.Seq.{getD-set-same, getD-set-other}
 use Rattle.sets.specs.Set.{member}
 use Rattle.sets.proofs.SetLaws.{member-none}
 use Rattle.logic.specs.Tests.{any}
-use Rattle.entries.specs.Slices.{Swept, wideAt, codeAt}
+use Rattle.entries.specs.Slices.{Found, wideAt, codeAt}
 use Rattle.entries.specs.declared.Sweep.{Sweep}
-use Rattle.entries.proofs.Sweeps.{wide-more, swept-code}
+use Rattle.entries.proofs.Sweeps.{wide-more, found-code}
 use Rattle.entries.proofs.fill_regions.Statement.{statement}
 use Rattle.entries.proofs.fill_regions.Tie as tie
 
@@ -21,23 +21,24 @@ abbrev nothing : Sweep
 nothing = record { raised = 0; covered = 0; left = 0 }
 
 abbrev Inv-loop : tie.InvT-loop
-Inv-loop kept holds after guard-of states regions guards entries sweeps₀ wide₀ r₀ sweeps wide r =
+Inv-loop kept holds after guard-of touched states regions guards entries sweeps₀ wide₀ r₀ sweeps wide r =
     (r ≤ regions) × (length sweeps ≡ 16)
-    × ((k : ℕ) → k < r → Swept kept holds after states (getD guard-of k 0 % 16) k (getD sweeps k nothing))
-    × ((g : ℕ) → member wide g ≡ wideAt kept holds after guard-of states r g)
+    × ((k : ℕ) → k < r
+    → Found kept holds after states (getD guard-of k 0 % 16) k (getD touched k 0) (getD sweeps k nothing))
+    × ((g : ℕ) → member wide g ≡ wideAt kept holds after guard-of touched states r g)
 
 abbrev μ-loop : tie.MeasureT-loop
-μ-loop kept holds after guard-of states regions guards entries sweeps₀ wide₀ r₀ sweeps wide r = regions - r
+μ-loop kept holds after guard-of touched states regions guards entries sweeps₀ wide₀ r₀ sweeps wide r = regions - r
 
 abbrev Inv-loop2 : tie.InvT-loop2
-Inv-loop2 kept holds after guard-of states regions guards entries₀ sweeps wide r₀ entries r =
+Inv-loop2 kept holds after guard-of touched states regions guards entries₀ sweeps wide r₀ entries r =
     (r ≤ regions) × (length entries ≡ 256)
     × ((k : ℕ) → k < r → (g : ℕ) → g < guards
-    → getD entries (k * 16 + g) 0 ≡ codeAt kept holds after guard-of states regions k g)
+    → getD entries (k * 16 + g) 0 ≡ codeAt kept holds after guard-of touched states regions k g)
     × ((k g : ℕ) → g < 16 → (k < regions → g < guards → ⊥) → getD entries (k * 16 + g) 0 ≡ getD entries₀ (k * 16 + g) 0)
 
 abbrev μ-loop2 : tie.MeasureT-loop2
-μ-loop2 kept holds after guard-of states regions guards entries₀ sweeps wide r₀ entries r = regions - r
+μ-loop2 kept holds after guard-of touched states regions guards entries₀ sweeps wide r₀ entries r = regions - r
 
 loop-holds : tie.Need-loop-holds Inv-loop μ-loop Inv-loop2 μ-loop2
 unfolding wideAt any
@@ -46,7 +47,7 @@ loop-holds c = (omega arith, refl, λ k h. absurd (omega arith), member-none)
 loop-again : tie.Need-loop-again Inv-loop μ-loop Inv-loop2 μ-loop2
 loop-again c =
     let swept = c .before in
-    let own = swept .before in
+    let own = swept .before .before in
     let q = own .before .before .before in
     let r = q .loop .r in
     let ws = q .loop .sweeps in
@@ -55,7 +56,8 @@ loop-again c =
       length-set ws r w ∙ q .loop .inv .1,
       below-more _ _ (λ k h. rw (getD-set-other ws r k w nothing (λ e. omega arith)) (q .loop .inv .2 k h))
           (rw (getD-set-same ws r w nothing (omega arith), ← own .guard .ensures) (swept .sweep-region .ensures)),
-      wide-more _ _ _ _ _ r _ _ w (own .guard .ensures) (omega arith) (swept .sweep-region .ensures) (q .loop .inv .3),
+      wide-more _ _ _ _ _ _ r _ _ w (own .guard .ensures) (omega arith) (swept .sweep-region .ensures)
+          (q .loop .inv .3),
     )
 
 loop2-holds : tie.Need-loop2-holds Inv-loop μ-loop Inv-loop2 μ-loop2
@@ -78,7 +80,7 @@ loop2-again c =
       below-more _ _ (λ k h g hg. e .fill-region .ensures .1 k g (omega arith) (λ p _. omega arith)
           ∙ q .loop2 .inv .2 k h g hg)
           (λ g hg. e .fill-region .ensures .0 g (omega arith)
-          ∙ swept-code _ _ _ _ _ _ r _ g _ (l .loop .inv .2 r (omega arith)) (rw all at (l .loop .inv .3 g))
+          ∙ found-code _ _ _ _ _ _ _ r _ g _ (l .loop .inv .2 r (omega arith)) (rw all at (l .loop .inv .3 g))
           (omega arith)),
       λ k g hg other. e .fill-region .ensures .1 k g hg (λ p small. other (omega arith) (omega arith))
           ∙ q .loop2 .inv .3 k g hg other,
@@ -93,7 +95,8 @@ returns c = record {
 pub fill-regions-spec : {M : Type 1} → statement M
 fill-regions-spec =
     tie.close
-    (tie.spec Inv-loop μ-loop Inv-loop2 μ-loop2 loop-holds (λ c. omega arith) (λ c κs. tt) (λ c κs. omega arith)
-    (λ c. omega arith) (λ c. omega arith) (λ c. omega arith) (λ c. omega arith) (λ c. omega arith) (λ c. omega arith)
-    loop-again loop2-holds (λ c. omega arith) (λ c. omega arith) (λ c κs. omega arith) (λ c. omega arith)
-    (λ c. omega arith) loop2-again (λ c. omega arith) returns)
+    (tie.spec Inv-loop μ-loop Inv-loop2 μ-loop2 loop-holds (λ c. omega arith) (λ c κs. tt) (λ c. omega arith)
+    (λ c. omega arith) (λ c κs. omega arith) (λ c. omega arith) (λ c. omega arith) (λ c. omega arith)
+    (λ c. omega arith) (λ c. omega arith) (λ c. omega arith) loop-again loop2-holds (λ c. omega arith)
+    (λ c. omega arith) (λ c κs. omega arith) (λ c. omega arith) (λ c. omega arith) loop2-again (λ c. omega arith)
+    returns)

@@ -1,33 +1,27 @@
--- `entries::sweep_region` meets its contract. The loop's invariant: the sweep of the states passed.
-use Prim.Native.Nat.{_≤_, _-_}
-use mathlib.Core.Path.{_≡_}
+-- `entries::sweep_region` meets its contract: no guard touched, or a sweep of which the touched ones are taken.
+use Prim.Native.Nat.{_≤_}
 use native.Mathlib.Omega.{arith}
-use Rattle.entries.specs.Slices.{Swept}
-use Rattle.entries.proofs.Sweeps.{swept-none}
+use mathlib.Core.Path.{_≡_}
+use Rattle.logic.proofs.Bools.{split-eq}
+use Rattle.entries.proofs.Sweeps.{found-still, found-swept}
 use Rattle.entries.proofs.sweep_region.Statement.{statement}
 use Rattle.entries.proofs.sweep_region.Tie as tie
 
-abbrev Inv-loop : tie.InvT-loop
-Inv-loop kept holds after states guard r w₀ s₀ w s = (s ≤ states) × Swept kept holds after s guard r w
+-- no more states than there are
+few : (c : tie.After-needed) → c .needed .result ≤ 4096
+few c =
+    let a = c .before .args in
+    split-eq (a .touched) 0 (λ (e : a .touched ≡ 0). omega (arith, c .needed .ensures .0 e))
+    (λ (h : a .touched ≡ 0 → ⊥). omega (arith, c .needed .ensures .1 (omega arith)))
 
-abbrev μ-loop : tie.MeasureT-loop
-μ-loop kept holds after states guard r w₀ s₀ w s = states - s
-
-loop-holds : tie.Need-loop-holds Inv-loop μ-loop
-loop-holds c = (omega arith, swept-none _ _ _ _ _)
-
-visit-requires : tie.Need-visit-requires Inv-loop μ-loop
-visit-requires c κs = (omega arith, omega arith, omega arith, c .before .loop .inv .1)
-
-loop-again : tie.Need-loop-again Inv-loop μ-loop
-loop-again c = (omega arith, c .visit .ensures)
-
-returns : tie.Need-returns Inv-loop μ-loop
+returns : tie.Need-returns
 returns c =
-    let e : c .before .loop .s ≡ c .before .before .args .states = omega arith in
-    rw e at (c .before .loop .inv .1)
+    let a = c .before .before .before .args in
+    let n = c .before .before .needed .ensures in
+    split-eq (a .touched) 0 (λ (e : a .touched ≡ 0). found-still _ _ _ _ _ _ _ _ e)
+    (λ (h : a .touched ≡ 0 → ⊥).
+    let all = n .1 (omega arith) in
+    found-swept _ _ _ _ _ _ _ _ (rw all at (c .before .sweep-states .ensures)))
 
 pub sweep-region-spec : {M : Type 1} → statement M
-sweep-region-spec =
-    tie.close
-    (tie.spec Inv-loop μ-loop loop-holds visit-requires (λ c. omega arith) (λ c. omega arith) loop-again returns)
+sweep-region-spec = tie.close (tie.spec (λ c κs. omega arith) (λ c κs. (few c, omega arith, omega arith)) returns)

@@ -12,8 +12,11 @@ use Rattle.logic.proofs.Bools.{not-true}
 use Rattle.meaning.specs.Value.{truth}
 use Rattle.meaning.specs.State.{starts}
 use Rattle.meaning.specs.Model.{vars}
-use Rattle.filling.specs.Filling.{Filling, AsLong, Leaves}
-use Rattle.filling.proofs.Fills.{keeping, said, failed, filled-8, filled-on, left-all}
+use Rattle.mentions.specs.Mentioned.{Mentioned}
+use Rattle.rows.specs.Filling.{Filling}
+use Rattle.rows.proofs.Texts.{keeping}
+use Rattle.filling.specs.Filling.{AsLong, Leaves}
+use Rattle.filling.proofs.Fills.{said, failed, filled-8, filled-on, left-all}
 use Rattle.filling.proofs.fill.Statement.{statement}
 use Rattle.filling.proofs.fill.Tie as tie
 
@@ -24,9 +27,9 @@ Given c m ls =
     Filling m ls (now (a .kinds)) (now (a .values)) (a .bounds) (a .layout) (a .tries)
 
 holds-at-start : (c : tie.After-holds-at) {m : Monitor} {ls : List Lexeme} → Given c m ls
-    → c .holds-at .result ≡ truth (m .keep) (vars m) (starts (vars m))
-holds-at-start c {m} {ls} f =
-    let k = keeping f in
+    → Mentioned m (c .before .before .before .before .before .before .before .args .mentions) → c .holds-at .result ≡ truth (m .keep) (vars m) (starts (vars m))
+holds-at-start c {m} {ls} f n =
+    let k = keeping f n in
     c .holds-at .ensures (vars m) (starts (vars m)) (k .ls) (k .us) _ (k .codes) (k .bounded .start-values) (k .spelled)
     (k .ends) (omega (arith, k .few))
 
@@ -34,8 +37,8 @@ holds-at-start c {m} {ls} f =
 returns : tie.Need-returns
 returns c =
     let t = c .before .before .before in (
-      λ m ls f l₁ l₂ l₃.
-          filled-8 m _ _ _ _ _ (holds-at-start (t .before) f) (not-true (t .if1 .taken))
+      λ m ls f n l₁ l₂ l₃.
+          filled-8 m _ _ _ _ _ (holds-at-start (t .before) f n) (not-true (t .if1 .taken))
           (said (c .with-choice .ensures .0) (c .before .before .say .ensures)),
       left-all _ _ _ _,
     )
@@ -55,9 +58,9 @@ returns-2 c =
     let g = c .before .before .before .before .before .before .before in
     let t = g .before .before .before .before .before in
     let h = t .before .before .before in (
-      λ m ls f l₁ l₂ l₃.
-          filled-on m _ _ _ _ _ (holds-at-start h f) (failed (t .before .before .if1 .left))
-          (g .fill-states .ensures .0 m ls f l₁ l₂ l₃ (λ some. absurd (omega (arith, t .if2 .taken)))),
+      λ m ls f n l₁ l₂ l₃.
+          filled-on m _ _ _ _ _ (holds-at-start h f n) (failed (t .before .before .if1 .left))
+          (g .fill-states .ensures .0 m ls f n l₁ l₂ l₃ (λ some. absurd (omega (arith, t .if2 .taken)))),
       left _ _ _ _ _ _ _ (g .fill-states .ensures .1 .0) (g .fill-states .ensures .1 .1),
     )
 
@@ -66,9 +69,9 @@ returns-3 c =
     let g = c .before .before .before .before .before .before .before in
     let t = g .before .before .before .before .before in
     let h = t .before .before .before in (
-      λ m ls f l₁ l₂ l₃.
-          filled-on m _ _ _ _ _ (holds-at-start h f) (failed (t .before .before .if1 .left))
-          (g .fill-states2 .ensures .0 m ls f l₁ l₂ l₃ (λ some. omega arith)),
+      λ m ls f n l₁ l₂ l₃.
+          filled-on m _ _ _ _ _ (holds-at-start h f n) (failed (t .before .before .if1 .left))
+          (g .fill-states2 .ensures .0 m ls f n l₁ l₂ l₃ (λ some. omega arith)),
       left _ _ _ _ _ _ _ (g .fill-states2 .ensures .1 .0) (g .fill-states2 .ensures .1 .1),
     )
 
