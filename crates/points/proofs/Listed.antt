@@ -4,17 +4,16 @@ use native.Mathlib.Omega.{arith}
 use native.Mathlib.Nat.{zero-add}
 use mathlib.Core.Path.{_≡_, refl, sym, ap, _∙_, subst}
 use mathlib.Core.Bool.{Bool, true, false}
-use mathlib.Core.List.{List, [], _++_}
+use mathlib.Core.List.{List, _++_}
 use lib.ListN.{length, take, drop, length-append}
 use lib.Seq.{take-add, take-all}
 use Rattle.sets.specs.Set.{member}
 use Rattle.sets.proofs.SetLaws.{member-none}
 use Rattle.syntax.specs.Tree.{Monitor}
-use Rattle.machine.specs.Monitor.{Config, Frame, Run, accepted, stopped, allIdle}
+use Rattle.machine.specs.Monitor.{Frame, Run, accepted, allIdle}
 use Rattle.machine.specs.Decide.Step.{run}
 use Rattle.meaning.specs.Model.{model}
 use Rattle.meaning.specs.Decide.Table.{forEach}
-use Rattle.meaning.specs.Decide.Frames.{framesOf, frames}
 use Rattle.meaning.specs.Points.{pointAt, pointCount, pointSize, stopAnswer, noticesAt}
 use Rattle.demands.proofs.Prefixes.{run-stopped}
 use Rattle.digits.specs.Written.{over, Writes}

@@ -11,10 +11,10 @@ use lib.Seq.{drop-cons, take-suc, take-all}
 use Rattle.machine.specs.Monitor.{Monitor, Config, Run, accepted, stopped, allIdle}
 use Rattle.machine.specs.Decide.Step.{Outcome, moved, refused, step, run}
 use Rattle.machine.specs.Monitor as machine
-use Rattle.machine.specs.Agreement.{Checked, AgreeOn, Agrees, plainRun, tableRun}
+use Rattle.machine.specs.Agreement.{Checked, Agrees, plainRun, tableRun}
 use Rattle.machine.proofs.Agreement.{agrees}
 use Rattle.machine.proofs.RulesDecided.{run-on, run-stop, refused-number, told-decides}
-use Rattle.machine.proofs.Reached.{Reached, start-reached, step-reached}
+use Rattle.machine.proofs.Reached.{start-reached, step-reached}
 use Rattle.meaning.specs.Decide.Frames.{framesOf, frames}
 use Rattle.demands.proofs.Prefixes.{run-append, run-stopped}
 use Rattle.stepper.specs.declared.Run as code
@@ -24,7 +24,7 @@ use Rattle.stepper.specs.Shown.{ofMachine, Shows, Steps, stepBy, toldOn, frameO
 use Rattle.trace.specs.Decoded.{numbersAt}
 use Rattle.trace.proofs.FramesAt.{frame-at, frames-end}
 use Rattle.trace.specs.declared.Numbers.{Numbers}
-use Rattle.run.specs.Way.{Asked, runOf, At, TableAt, goes-on, has-stopped, lostBy, Way, BothStop, Passes}
+use Rattle.run.specs.Way.{runOf, At, TableAt, goes-on, has-stopped, lostBy, Way, BothStop, Passes}
 use Rattle.run.specs.Ended.{EndsAs}
 use Rattle.run.specs.declared.frames.Stop.{Stop}
 use Rattle.run.specs.declared.frames.Going.{Going}

@@ -1,5 +1,4 @@
 -- What is so of the plain machine's part and of the table's is so of either machine's.
-use Prim.Native.Nat.{ℕ}
 use mathlib.Core.Path.{_≡_, refl}
 use mathlib.Core.Bool.{Bool, true, false}
 use Rattle.stepper.specs.Shown.{ofMachine}

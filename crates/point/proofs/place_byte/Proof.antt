@@ -1,9 +1,9 @@
 -- `point::place_byte` meets its contract.
 use borrow.Author.Needs.{needs}
 use Prim.Native.Nat.{ℕ}
-use mathlib.Core.Path.{ap, ap₂, _∙_}
+use mathlib.Core.Path.{ap₂}
 use lib.Bits.{bitOr}
-use Rattle.point.specs.Held.{regionPart, duePart, idlePart, heldByte}
+use Rattle.point.specs.Held.{heldByte}
 use Rattle.point.proofs.place_byte.Statement.{statement}
 use Rattle.point.proofs.place_byte.Tie as tie
 

@@ -1,10 +1,10 @@
 -- `point::put_point` meets its contract: where there is room the point's three parts, one behind the other.
 use borrow.Author.Needs.{needs}
 use native.Mathlib.Omega.{arith}
-use lib.ListN.{length, length-append}
+use lib.ListN.{length-append}
 use Rattle.digits.proofs.Writing.{written-more, written-length}
 use Rattle.lines.proofs.Writing.{put, not-put}
-use Rattle.point.specs.Held.{heldSet, heldShared, heldNotices, heldTable, heldPoint}
+use Rattle.point.specs.Held.{heldSet, heldNotices, heldPoint}
 use Rattle.point.proofs.Lengths.{shared-length}
 use Rattle.point.proofs.put_point.Statement.{statement}
 use Rattle.point.proofs.put_point.Tie as tie

@@ -1,7 +1,6 @@
 -- `point::put_set` meets its contract: two bytes, one behind the other.
 use borrow.Author.Needs.{needs}
 use native.Mathlib.Omega.{arith}
-use mathlib.Core.Path.{_∙_}
 use Rattle.digits.proofs.Writing.{written-more, written-length}
 use Rattle.point.specs.Held.{heldSet}
 use Rattle.point.proofs.put_set.Statement.{statement}

@@ -2,7 +2,7 @@
 use borrow.Author.Needs.{needs}
 use native.Mathlib.Omega.{arith}
 use Rattle.digits.proofs.Writing.{written-more, written-length}
-use Rattle.point.specs.Held.{heldSet, heldShared}
+use Rattle.point.specs.Held.{heldShared}
 use Rattle.point.proofs.Lengths.{values-length, places-length}
 use Rattle.point.proofs.put_shared.Statement.{statement}
 use Rattle.point.proofs.put_shared.Tie as tie

@@ -1,7 +1,6 @@
 -- `point::put_table` meets its contract: a byte, and the notices behind it.
 use borrow.Author.Needs.{needs}
 use native.Mathlib.Omega.{arith}
-use mathlib.Core.Path.{_∙_}
 use Rattle.digits.proofs.Writing.{written-more, written-length}
 use Rattle.point.specs.Held.{heldSet, heldNotices, heldTable}
 use Rattle.point.proofs.put_table.Statement.{statement}

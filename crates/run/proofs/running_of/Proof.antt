@@ -1,7 +1,6 @@
 -- `run::running_of` meets its contract: by the machine's run of the list, its refusal or the record of its last point.
-use native.Mathlib.Omega.{arith}
 use Prim.Native.Nat.{ℕ}
-use mathlib.Core.Path.{_≡_, refl, sym, _∙_, subst}
+use mathlib.Core.Path.{refl, sym, _∙_, subst}
 use mathlib.Core.Bool.{false}
 use borrow.Author.Needs.{needs}
 use Rattle.machine.specs.Monitor.{Run, accepted, stopped}

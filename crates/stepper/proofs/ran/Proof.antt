@@ -1,6 +1,6 @@
 -- `stepper::ran` meets its contract: the look-ups and the calls are the parts of the point after a body, of each machine.
-use Prim.Native.Nat.{ℕ, _<_}
-use mathlib.Core.Path.{_≡_, refl, ap, ap₂, _∙_, subst}
+use Prim.Native.Nat.{ℕ}
+use mathlib.Core.Path.{_≡_, refl, ap, _∙_, subst}
 use mathlib.Core.Bool.{Bool, true, false, not, _&&_, _||_}
 use lib.Dec.{eqb}
 use borrow.Author.Needs.{needs}
@@ -8,7 +8,7 @@ use Rattle.sets.specs.Set.{member}
 use Rattle.machine.specs.Monitor.{Place, Threads, SameThreads}
 use Rattle.machine.specs.Decide.Step.{ran, leave, without}
 use Rattle.stepper.specs.Shown.{ofMachine, threadsOf, frameOf}
-use Rattle.stepper.specs.Slices.{afterAt, followsAt, toldAt, configOf}
+use Rattle.stepper.specs.Slices.{afterAt, followsAt, configOf}
 use Rattle.stepper.proofs.Agree.{told-alike}
 use Rattle.stepper.proofs.ran.Statement.{statement}
 use Rattle.stepper.proofs.ran.Tie as tie

@@ -1,6 +1,6 @@
 -- `frames::first_lost` meets its contract.
 use native.Mathlib.Omega.{arith}
-use mathlib.Core.Path.{refl, sym, ap}
+use mathlib.Core.Path.{sym, ap}
 use Prim.Native.Nat.{ℕ}
 use Rattle.run.specs.Way.{lostBy}
 use Rattle.run.proofs.FrameByFrame.{lost-first, lost-kept}
