@@ -19,7 +19,8 @@ pub mod monitor;
 pub mod tries;
 pub mod check;
 
-// The table and refusal 10.
+// The table, the pairs that are touched, and refusal 10.
+pub mod pairs;
 pub mod table;
 
 // Traces, the two machines, and the refusals 11 to 14.

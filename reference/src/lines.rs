@@ -1,4 +1,5 @@
-//! What the programs print ("Program lines"), and lines about `points` and about tries.
+//! What the programs print ("Program lines"), and lines about `points`, about tries and about
+//! touched pairs.
 
 use crate::answer::Answer;
 use crate::check::check;
@@ -81,6 +82,16 @@ pub fn replay_tries(file: &[u8]) -> Vec<u8> {
         lines += &fate_line(fate);
     }
     lines.into_bytes()
+}
+
+/// The line that `replay` prints about touched pairs: 00, how many there are and how many
+/// bytes the table has, four digits each; of a refused file noughts.
+pub fn replay_pairs(file: &[u8]) -> Vec<u8> {
+    let (pairs, length) = match place(file, usize::MAX) {
+        Ok(placed) => (placed.pairs, placed.table.len()),
+        Err(_) => (0, 0),
+    };
+    format!("00{pairs:04X}{length:04X}\n").into_bytes()
 }
 
 /// Two digits for the pass, 00 of a chosen try, FF of one that is false at the start; then

@@ -7,6 +7,7 @@ use std::path::Path;
 use std::process::ExitCode;
 use std::str::FromStr;
 
+use reference::cases::counted::{self, counted};
 use reference::cases::made::{made, small_list};
 use reference::cases::{write_cases, Size};
 use reference::hostile::compare::{compare, Plan};
@@ -19,8 +20,10 @@ const USAGE: &str = "usage:
   reference points DIR
   reference replay-points DIR
   reference replay-tries DIR
+  reference replay-pairs DIR
   reference cases SEED COUNT DIR [small]
   reference tries-cases [DIR]
+  reference pairs-cases [DIR]
   reference tally DIR
   reference hostile-cases SEED COUNT DIR
   reference hostile SEED COUNT WORKERS PROGRAMS KEPT [UNDER..]";
@@ -34,10 +37,13 @@ fn main() -> ExitCode {
         ["points", directory] => on_case(directory, lines::points_lines),
         ["replay-points", directory] => on_case(directory, lines::replay_points),
         ["replay-tries", directory] => on_case(directory, |file, _| lines::replay_tries(file)),
+        ["replay-pairs", directory] => on_case(directory, |file, _| lines::replay_pairs(file)),
         ["cases", seed, count, directory] => cases(seed, count, directory, Size::FULL),
         ["cases", seed, count, directory, "small"] => cases(seed, count, directory, Size::SMALL),
         ["tries-cases"] => io::stdout().write_all(small_list().as_bytes()),
         ["tries-cases", directory] => tries_cases(Path::new(directory)),
+        ["pairs-cases"] => io::stdout().write_all(counted::small_list().as_bytes()),
+        ["pairs-cases", directory] => pairs_cases(Path::new(directory)),
         ["tally", directory] => tally(Path::new(directory)),
         ["hostile-cases", seed, count, directory] => hostile_cases(seed, count, directory),
         ["hostile", seed, count, workers, programs, kept, ref under @ ..] => {
@@ -87,6 +93,11 @@ fn parsed<T: FromStr<Err = ParseIntError>>(number: &str) -> io::Result<T> {
 /// Writes all cases that are made for tries.
 fn tries_cases(directory: &Path) -> io::Result<()> {
     made().iter().enumerate().try_for_each(|(number, made)| made.case.write(directory, number))
+}
+
+/// Writes all cases whose touched pairs are counted by hand.
+fn pairs_cases(directory: &Path) -> io::Result<()> {
+    counted().iter().enumerate().try_for_each(|(number, one)| one.case.write(directory, number))
 }
 
 fn tally(directory: &Path) -> io::Result<()> {

@@ -3,6 +3,7 @@
 use crate::answer::Answer;
 use crate::check::check;
 use crate::monitor::Monitor;
+use crate::pairs;
 
 #[derive(Clone, Copy, Debug, PartialEq, Eq)]
 pub struct Entry {
@@ -18,7 +19,8 @@ struct Move {
     after: Vec<i64>,
 }
 
-/// The entries, for each region and then each guard.
+/// The entries, for each region and then each guard. The states of every pair are gone
+/// through, and where an entry stands the text must allow it.
 pub fn entries(monitor: &Monitor) -> Vec<Entry> {
     let kept = monitor.kept_states();
     let regions = 0..monitor.regions.len();
@@ -33,6 +35,7 @@ pub fn entries(monitor: &Monitor) -> Vec<Entry> {
                 .collect();
             // It stands when the body makes the guard true from some such state,
             if made_true.contains(&true) {
+                assert!(pairs::is_touched(monitor, region, guard), "an entry without a touch");
                 // and is unconditional when it does so from every such state.
                 let unconditional = !made_true.contains(&false);
                 let broadcast = !is_signal(monitor, &moves, guard);
@@ -89,15 +92,18 @@ pub struct Placed {
     pub table: Vec<u8>,
     /// The chosen tries, the first try the lowest bit.
     pub chosen: u16,
+    /// How many pairs of region and guard are touched.
+    pub pairs: usize,
 }
 
-/// The table of a file, for a buffer of the given length, and its chosen tries. After
-/// the refusals of the file comes 10, when the buffer is shorter than the table.
+/// The table of a file, for a buffer of the given length, its chosen tries and how many
+/// pairs are touched. After the refusals of the file comes 10, when the buffer is shorter
+/// than the table.
 pub fn place(file: &[u8], buffer_length: usize) -> Result<Placed, Answer> {
     let monitor = check(file)?;
     let table = table_lines(&entries(&monitor));
     if buffer_length < table.len() {
         return Err(Answer::at(10, 0));
     }
-    Ok(Placed { table, chosen: monitor.chosen() })
+    Ok(Placed { table, chosen: monitor.chosen(), pairs: pairs::count(&monitor) })
 }

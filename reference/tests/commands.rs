@@ -119,6 +119,41 @@ fn cases_made_for_tries_are_listed_and_written() {
 }
 
 #[test]
+fn pairs_read_a_directory() {
+    let at = directory("pairs");
+    let run = || command(&["replay-pairs", at.to_str().unwrap()], b"");
+    let put = |file: &str| fs::write(at.join("monitor.txt"), file).unwrap();
+    assert_eq!(run(), "0000000000\n");
+    put(BOX);
+    assert_eq!(run(), "0000040012\n");
+    put(&BOX.replace("full := 1;", "if (false) { full := 9; }"));
+    assert_eq!(run(), "0000040009\n");
+    put(&BOX.replace("full := 0", "full := 2"));
+    assert_eq!(run(), "0000000000\n");
+}
+
+#[test]
+fn cases_counted_by_hand_are_listed_and_written() {
+    let list = command(&["pairs-cases"], b"");
+    let first = list.split("\n\n").next().unwrap();
+    let line = format!("0080{}", "FF".repeat(16));
+    let lines = [
+        "case 0: Box",
+        &format!("file: {BOX}"),
+        "trace: 000100 010001 000101",
+        "pairs: 4",
+        "placer: 00010100 01000100",
+        &format!("runner: {line} {line}"),
+    ];
+    assert_eq!(first.lines().collect::<Vec<&str>>(), lines);
+    let at = directory("counted");
+    command(&["pairs-cases", at.to_str().unwrap()], b"");
+    assert!(fs::read_dir(&at).unwrap().count() >= 40);
+    let file = fs::read(at.join("00000/monitor.txt")).unwrap();
+    assert_eq!(file, BOX.as_bytes());
+}
+
+#[test]
 fn cases_hold_what_the_programs_print() {
     let at = directory("cases");
     command(&["cases", "1", "40", at.to_str().unwrap(), "small"], b"");

@@ -12,3 +12,4 @@ pub mod Cases10
 pub mod Cases11
 pub mod Points
 pub mod Tries
+pub mod Pairs

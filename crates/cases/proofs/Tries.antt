@@ -2,7 +2,7 @@
 -- same. Made by tools/theorems.
 use Prim.Native.Nat.{ℕ}
 use mathlib.Core.Path.{_≡_, refl}
-use mathlib.Core.List.{List, [], _∷_, _++_, map}
+use mathlib.Core.List.{List, [], _∷_, map}
 use Rattle.syntax.specs.Bytes.{bytes}
 use Rattle.meaning.proofs.Printing.{Case, whole, tries-of, printing}
 

@@ -72,7 +72,7 @@ fn replay(fd: i32) -> bool {
     true
 }
 
-// The lines of one case: placer's and runner's, its points, and its tries.
+// The lines of one case: placer's and runner's, its points, its tries, and its touched pairs.
 fn show_case(file: &[u8], trace: &[u8]) {
     let mut out = [0u8; output::OUTPUT_BYTES];
     let table = output::placer_lines(file, &mut out);
@@ -88,6 +88,7 @@ fn show_case(file: &[u8], trace: &[u8]) {
     let mut short = [UNWRITTEN; BUFFER];
     show_points(file, trace, &mut short, room - 1, false);
     show_tries(file);
+    show_pairs(file);
 }
 
 // The points of a case in so many bytes of a buffer.
@@ -125,6 +126,13 @@ fn show_tries(file: &[u8]) {
         }
         i += 1;
     }
+}
+
+// How many pairs of region and guard are touched, and the length of the table; 0 of a refused file.
+fn show_pairs(file: &[u8]) {
+    let mut table = [0u8; output::OUTPUT_BYTES];
+    let placed = monitor::place(file, &mut table);
+    show(0, wide16(placed.pairs), placed.length);
 }
 
 // What becomes of one try.

@@ -2,6 +2,7 @@
 
 use super::draws::Draws;
 use super::monitors::{accepted, Accepted, Counts, Region, Sketch};
+use super::pairs::wide;
 use super::tries::{any_try, counting};
 use super::words::{blanks, integer, laid_out, words, Layout, Words};
 use super::Size;
@@ -13,9 +14,9 @@ use crate::machines::Machines;
 use crate::ranges::{HIGHEST, LOWEST, MOST_STATES};
 use crate::tokens::{LONGEST_NUMBER, LONGEST_WORD};
 
-/// One of the limits below. The last six do not fit a small case.
+/// One of the limits below. The last seven do not fit a small case.
 pub fn any_limit(draws: &mut Draws, size: Size) -> usize {
-    draws.below(if size.is_small { 6 } else { 12 })
+    draws.below(if size.is_small { 6 } else { 13 })
 }
 
 /// A monitor that meets this limit.
@@ -43,7 +44,8 @@ pub fn exact(draws: &mut Draws, size: Size, limit: usize) -> Accepted {
         8 => all_states(draws, size),
         9 => all_tokens(draws, size),
         10 => all_bytes(draws, size),
-        _ => longest_table(draws, size),
+        11 => longest_table(draws, size),
+        _ => widest(draws, size),
     }
 }
 
@@ -221,6 +223,12 @@ fn longest_table(draws: &mut Draws, size: Size) -> Accepted {
             *sketch.region(number) = Region { guard, body };
         }
     })
+}
+
+/// As many variables and regions as there may be, most regions touching one variable.
+fn widest(draws: &mut Draws, size: Size) -> Accepted {
+    let methods = draws.count(MOST_METHODS / 2, MOST_METHODS);
+    wide(draws, size, &Counts { variables: MOST_VARIABLES, methods, regions: MOST_REGIONS })
 }
 
 /// The machines anew, after the file has been changed into another good one.

@@ -13,7 +13,7 @@ pub struct Made {
 }
 
 const X: &str = "var x = 0 in 0..3;";
-const X_Y: &str = "var x = 0 in 0..1; var y = 0 in 0..1;";
+pub(super) const X_Y: &str = "var x = 0 in 0..1; var y = 0 in 0..1;";
 
 const UP: &str = "waituntil (x < 3) { x := x + 1; }";
 const STAY: &str = "waituntil (true) { }";
@@ -29,7 +29,7 @@ const EACH_OTHER: [&str; 2] = [
 ];
 
 /// A file with these variables, kept condition and tries, each region a method of its own.
-fn file(variables: &str, keep: &str, tries: &[&str], regions: &[&str]) -> String {
+pub(super) fn file(variables: &str, keep: &str, tries: &[&str], regions: &[&str]) -> String {
     let tries: String = tries.iter().map(|condition| format!(" try {condition};")).collect();
     let method = |(number, region)| format!(" method m{number} {{ {region} }}");
     let methods: String = regions.iter().enumerate().map(method).collect();
@@ -39,10 +39,7 @@ fn file(variables: &str, keep: &str, tries: &[&str], regions: &[&str]) -> String
 /// All of them.
 pub fn made() -> Vec<Made> {
     let mut made = Vec::new();
-    let mut add = |what, file: String, frames: &str| {
-        let trace = frames.split_whitespace().map(|frame| format!("{frame}\n")).collect::<String>();
-        made.push(Made { what, case: Case { monitor: file.into(), trace: trace.into() } });
-    };
+    let mut add = |what, file, frames: &str| made.push(Made { what, case: case(file, frames) });
     choices(&mut add);
     runs(&mut add);
     faults(&mut add);
@@ -51,6 +48,12 @@ pub fn made() -> Vec<Made> {
 }
 
 type Add<'a> = dyn FnMut(&'static str, String, &str) + 'a;
+
+/// A file beside these frames, which have blanks between.
+pub(super) fn case(file: String, frames: &str) -> Case {
+    let trace: String = frames.split_whitespace().map(|frame| format!("{frame}\n")).collect();
+    Case { monitor: file.into(), trace: trace.into() }
+}
 
 /// Which tries are chosen, and why the others are not.
 fn choices(add: &mut Add) {
@@ -241,7 +244,6 @@ pub fn is_small(case: &Case) -> bool {
 /// `runner` prints. Lists have blanks between, and an empty line ends a case.
 pub fn small_list() -> String {
     let mut text = String::new();
-    let on_a_line = |lines: &[u8]| String::from_utf8_lossy(lines).trim_end().replace('\n', " ");
     let small = made().into_iter().filter(|made| is_small(&made.case));
     for (number, Made { what, case: Case { monitor, trace } }) in small.enumerate() {
         let (verdict, fates) = tried(&monitor);
@@ -259,4 +261,9 @@ pub fn small_list() -> String {
         text += &format!("runner: {}\n\n", on_a_line(&runner(&monitor, &trace)));
     }
     text
+}
+
+/// Lines as one line, with blanks between.
+pub(super) fn on_a_line(lines: &[u8]) -> String {
+    String::from_utf8_lossy(lines).trim_end().replace('\n', " ")
 }

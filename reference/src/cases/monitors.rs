@@ -1,6 +1,7 @@
 //! Monitors that the check accepts, of many shapes.
 
 use super::draws::Draws;
+use super::pairs::{any_touching, set_apart, wide, wide_counts};
 use super::tries::add_tries;
 use super::words::{integer, laid_out_to_fit, respelled_words, words, Words};
 use super::Size;
@@ -110,6 +111,10 @@ pub struct Accepted {
 }
 
 pub fn any_accepted(draws: &mut Draws, size: Size) -> Accepted {
+    if draws.chance(25) {
+        let counts = wide_counts(draws, size);
+        return wide(draws, size, &counts);
+    }
     let counts = Counts::any(draws, size);
     accepted(draws, size, &counts, |_, _| ())
 }
@@ -164,9 +169,10 @@ fn any_sketch(draws: &mut Draws, size: Size, counts: &Counts) -> Sketch {
     let mut guards: Vec<Words> = Vec::new();
     let mut methods: Vec<Method> = Vec::new();
     for number in 0..counts.regions {
-        let mut region = match draws.chance(50) {
-            true => matched_region(draws, &variables),
-            false => Region {
+        let mut region = match draws.below(10) {
+            0..=3 => matched_region(draws, &variables),
+            4 | 5 => any_touching(draws, &variables),
+            _ => Region {
                 guard: any_guard(draws, &variables),
                 body: any_body(draws, &variables, size.statements),
             },
@@ -187,8 +193,10 @@ fn any_sketch(draws: &mut Draws, size: Size, counts: &Counts) -> Sketch {
         }
     }
     let mut sketch = Sketch { variables, keep, tries: Vec::new(), methods };
-    if draws.chance(40) {
-        add_tries(draws, size, &mut sketch);
+    match draws.below(100) {
+        0..=39 => add_tries(draws, size, &mut sketch),
+        40..=46 => set_apart(draws, &mut sketch),
+        _ => (),
     }
     sketch
 }
@@ -233,7 +241,7 @@ fn any_keep(draws: &mut Draws, variables: &[Variable]) -> Words {
 }
 
 /// A region whose body fits its guard, so that others are woken by it.
-fn matched_region(draws: &mut Draws, variables: &[Variable]) -> Region {
+pub fn matched_region(draws: &mut Draws, variables: &[Variable]) -> Region {
     let variable = draws.pick(variables);
     let name = &variable.name;
     let lowest = integer(draws, variable.lowest).join(" ");
@@ -282,11 +290,11 @@ pub fn any_condition(draws: &mut Draws, variables: &[Variable], depth: usize) ->
     }
 }
 
-fn any_comparison(draws: &mut Draws) -> String {
+pub fn any_comparison(draws: &mut Draws) -> String {
     draws.pick(&["==", "==", "!=", "<", "<=", ">", ">="]).into()
 }
 
-fn comparison_with_constant(draws: &mut Draws, variables: &[Variable]) -> Words {
+pub fn comparison_with_constant(draws: &mut Draws, variables: &[Variable]) -> Words {
     let variable = draws.pick(variables);
     let constant = any_value(draws, &variable);
     let mut sides = [vec![variable.name], integer(draws, constant)];
@@ -298,7 +306,7 @@ fn comparison_with_constant(draws: &mut Draws, variables: &[Variable]) -> Words 
 }
 
 /// A value of the variable, mostly near an end of its range.
-fn any_value(draws: &mut Draws, variable: &Variable) -> i64 {
+pub fn any_value(draws: &mut Draws, variable: &Variable) -> i64 {
     match draws.below(4) {
         0 => variable.lowest,
         1 => variable.highest,

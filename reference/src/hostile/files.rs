@@ -35,6 +35,8 @@ enum Kind {
     Claims,
     /// Tries added, moved, doubled, cut, swapped.
     Tries,
+    /// Other guards and left sides; bodies emptied, or put into an `if` or an `else`.
+    Touches,
     /// Long runs of brackets, `!`, `||`, statements and the like.
     Runs,
     /// Words and numbers about their greatest length, or nearly reserved.
@@ -49,7 +51,7 @@ enum Kind {
     Any,
 }
 
-const SHARES: [(Kind, usize); 17] = [
+const SHARES: [(Kind, usize); 18] = [
     (Kind::Whole, 28),
     (Kind::Other, 3),
     (Kind::Bytes, 5),
@@ -61,6 +63,7 @@ const SHARES: [(Kind, usize); 17] = [
     (Kind::Names, 4),
     (Kind::Claims, 8),
     (Kind::Tries, 7),
+    (Kind::Touches, 6),
     (Kind::Runs, 11),
     (Kind::Spelling, 5),
     (Kind::Ranges, 4),
@@ -110,6 +113,7 @@ fn damaged(draws: &mut Draws, source: &mut Source, mut file: Vec<u8>) -> Vec<u8>
         Kind::Names => names,
         Kind::Claims => claims,
         Kind::Tries => tries,
+        Kind::Touches => touches,
         Kind::Runs => runs,
         Kind::Spelling => spelling,
         Kind::Ranges => other_ranges,
@@ -438,6 +442,69 @@ fn try_place(draws: &mut Draws, file: &Words) -> usize {
         true => draws.count(0, file.len()),
         false => draws.pick(&places),
     }
+}
+
+const GUARDS: [&str; 8] = [
+    "true",
+    "1 < 2",
+    "false || 0 == 0",
+    "2 < 1",
+    "NAME == NAME",
+    "NAME < 1",
+    "NAME < 1 && OTHER < 1",
+    "NAME + OTHER > 0",
+];
+
+/// What is put around a body or a block of an `if`.
+const AROUND: [[&str; 2]; 5] = [
+    ["if ( false ) {", "}"],
+    ["if ( true ) { } else {", "}"],
+    ["if ( NAME < 1 ) { } else {", "}"],
+    ["if ( NAME == NAME ) { if ( NAME > 0 ) {", "} }"],
+    ["if ( 1 < 2 ) {", "} else { NAME := 999 ; }"],
+];
+
+fn touches(draws: &mut Draws, file: &mut Words) {
+    let names = [variables_of(file), words("x")].concat();
+    for _ in 0..draws.pick(&[1, 1, 2, 4]) {
+        let [name, other] = [0, 1].map(|_| draws.pick(&names));
+        let with_names = |text: &str| words(&text.replace("NAME", &name).replace("OTHER", &other));
+        let kind = draws.below(4);
+        let places = match kind {
+            0 | 1 => places_behind(file, &["waituntil ("]),
+            2 => body_places(file),
+            _ => places_behind(file, &[":="]),
+        };
+        if places.is_empty() {
+            continue;
+        }
+        let place = draws.pick(&places);
+        let Some(end) = end_of(file, place) else { continue };
+        match kind {
+            0 | 1 => drop(file.splice(place..end, with_names(draws.pick(&GUARDS)))),
+            2 if draws.chance(30) => drop(file.drain(place..end)),
+            2 => {
+                let [before, behind] = draws.pick(&AROUND).map(with_names);
+                file.splice(end..end, behind);
+                file.splice(place..place, before);
+            }
+            // The left side; a damaged file may begin with `:=`.
+            _ => file[place.saturating_sub(2)] = other,
+        }
+    }
+}
+
+/// Where the bracket or brace that is open at a place is closed.
+fn end_of(file: &Words, place: usize) -> Option<usize> {
+    let mut open = 0;
+    (place..file.len()).find(|at| {
+        open += match file[*at].as_str() {
+            "(" | "{" => 1,
+            ")" | "}" => -1,
+            _ => 0,
+        };
+        open < 0
+    })
 }
 
 /// A run of something many times over: what is repeated, what stands behind it, what

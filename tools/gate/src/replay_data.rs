@@ -1,10 +1,11 @@
 //! Makes what the program `replay` is run on: the bench examples of document 01, the second
-//! program's cases for tries, made by hand, its drawn cases, and hostile input.
+//! program's cases for tries and for touched pairs, made by hand, its drawn cases, and hostile
+//! input.
 //!
 //! TO/data/cases.bin has for each case the lengths of a monitor file and a trace, four bytes each,
 //! the lowest first, then both; TO/stdout what the second program prints for each as placer, then
-//! as runner, then five lines of ten digits about its call `points`, and then lines of ten digits
-//! about tries.
+//! as runner, then five lines of ten digits about its call `points`, then lines of ten digits about
+//! tries, and then one about touched pairs.
 //!
 //! `points` is called twice, from the start values' state (from state 0 where the file is refused),
 //! with a buffer of bytes A5. Where N is 33 * (length of the trace / 7 + 1):
@@ -20,6 +21,9 @@
 //! 8 pass, one line for each try: ten noughts if it is chosen; FF and eight noughts if it is false
 //! at the start; else the pass in which it is broken (two digits), the region and the state (four
 //! digits each).
+//!
+//! About touched pairs one line: 00, how many there are (four digits) and the length of the table in
+//! bytes (four digits); of a refused file both are 0.
 
 use std::path::{Path, PathBuf};
 use std::process::{Command, Stdio};
@@ -83,20 +87,21 @@ struct Made {
 }
 
 impl Made {
-    /// From the bench examples, the cases for tries and so many drawn ones, or none of them if there
+    /// From the bench examples, the cases for tries and for pairs and so many drawn ones, or none of them if there
     /// are to be 0, and from the first hostile inputs.
     fn by(second: &Second, seed: &str, count: &str, hostile: &str) -> io::Result<Made> {
         let scratch = Scratch::new()?;
-        let [bench, tries, drawn, damaged] =
-            ["bench", "tries", "cases", "hostile"].map(|name| scratch.at.join(name));
+        let [bench, tries, pairs, drawn, damaged] =
+            ["bench", "tries", "pairs", "cases", "hostile"].map(|name| scratch.at.join(name));
         if count != "0" {
             write_bench(second, &bench)?;
             told(second, "tries-cases", &tries)?;
+            told(second, "pairs-cases", &pairs)?;
         }
         second.write("cases", seed, count, &drawn)?;
         second.write("hostile-cases", seed, hostile, &damaged)?;
         let mut cases = Vec::new();
-        for directory in [&bench, &tries, &drawn] {
+        for directory in [&bench, &tries, &pairs, &drawn] {
             cases.extend(children(directory)?);
         }
         cases.extend(few_long(&damaged)?);
@@ -128,6 +133,7 @@ impl Made {
         write(&case.join("trace.txt"), &trace)?;
         self.told.extend(second.replay_points(case)?);
         self.told.extend(told(second, "replay-tries", case)?);
+        self.told.extend(told(second, "replay-pairs", case)?);
         self.data.extend(file);
         self.data.extend(trace);
         Ok(())

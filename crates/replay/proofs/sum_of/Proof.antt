@@ -2,7 +2,6 @@
 use Prim.Native.Nat.{_-_, _<_, _≤_}
 use native.Mathlib.Omega.{arith}
 use lib.ListN.{length}
-use borrow.Author.Needs.{needs}
 use Rattle.replay.proofs.sum_of.Statement.{statement}
 use Rattle.replay.proofs.sum_of.Tie as tie
 
