@@ -2,7 +2,7 @@
 
 use crate::check::check;
 use crate::machines::{frames, Machine, Machines, Place};
-use crate::table::{entries, Entry};
+use crate::table::{place, Entry};
 use crate::Refusal;
 
 /// `runner` judges a longer trace by this many first bytes.
@@ -11,7 +11,7 @@ pub const MOST_TRACE_BYTES: usize = 65_536;
 pub fn placer(file: &[u8]) -> Vec<u8> {
     let mut out = Vec::new();
     match check(file) {
-        Ok(checked) => put_table(&mut out, &entries(&checked)),
+        Ok(checked) => put_table(&mut out, &place(&checked).entries),
         Err(refusal) => put_refusal(&mut out, refusal),
     }
     out
@@ -27,7 +27,7 @@ pub fn runner(file: &[u8], trace: &[u8]) -> Vec<u8> {
             return out;
         }
     };
-    let machines = Machines::new(&checked, &entries(&checked));
+    let machines = Machines::new(&checked, &place(&checked).entries);
     let frames = frames(&trace[..trace.len().min(MOST_TRACE_BYTES)]);
     for machine in [Machine::Plain, Machine::Table] {
         let ended = match &frames {

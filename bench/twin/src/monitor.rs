@@ -5,6 +5,9 @@ pub const MOST_VARIABLES: usize = 6;
 /// A value for each variable; slots without a variable stay 0.
 pub type Values = [i32; MOST_VARIABLES];
 
+/// Some of the variables, one bit each.
+pub type VariableSet = u8;
+
 #[derive(Debug)]
 pub struct Monitor {
     pub variables: Vec<Variable>,
@@ -83,7 +86,37 @@ fn value(expression: &[Term], values: &Values) -> i32 {
         .sum()
 }
 
+/// The variables that an expression names.
+fn named_by(expression: &[Term]) -> VariableSet {
+    expression.iter().fold(0, |named, term| match *term {
+        Term::Constant(_) => named,
+        Term::Plus(variable) | Term::Minus(variable) => named | 1 << variable,
+    })
+}
+
+/// The variables that a block's text assigns, reached or not.
+fn assigned_by(block: &[Statement]) -> VariableSet {
+    block.iter().fold(0, |assigned, statement| match statement {
+        Statement::Assign { variable, .. } => assigned | 1 << variable,
+        Statement::If { then, otherwise, .. } => {
+            assigned | assigned_by(then) | assigned_by(otherwise)
+        }
+    })
+}
+
 impl Condition {
+    /// The variables that it names.
+    fn named(&self) -> VariableSet {
+        match self {
+            Condition::Any(parts) | Condition::All(parts) => {
+                parts.iter().fold(0, |named, part| named | part.named())
+            }
+            Condition::Not(part) => part.named(),
+            Condition::Constant(_) => 0,
+            Condition::Compare { left, right, .. } => named_by(left) | named_by(right),
+        }
+    }
+
     pub fn holds(&self, values: &Values) -> bool {
         match self {
             Condition::Any(parts) => parts.iter().any(|part| part.holds(values)),
@@ -128,6 +161,18 @@ impl Monitor {
                 self.run(if condition.holds(values) { then } else { otherwise }, values)
             }
         })
+    }
+
+    /// The guards that each region touches, one bit a guard: those that name a variable
+    /// which its body's text assigns.
+    pub fn touched(&self) -> Vec<u16> {
+        let named: Vec<VariableSet> = self.guards.iter().map(Condition::named).collect();
+        let touched_by = |region: &Region| {
+            let assigned = assigned_by(&region.body);
+            let guards = named.iter().enumerate();
+            guards.fold(0, |set, (guard, named)| set | u16::from(named & assigned != 0) << guard)
+        };
+        self.regions.iter().map(touched_by).collect()
     }
 
     pub fn count_of_states(&self) -> usize {

@@ -1,9 +1,9 @@
 //! brute placer < FILE    what `placer` prints
 //! brute runner DIR       what `runner` prints in DIR
 //!
-//! By brute force: nothing is kept for a state. For each region and each guard all
-//! states are gone through, and conditions and bodies evaluated anew in each. The
-//! reading of a file and its trees are the twin's.
+//! By brute force: nothing is kept for a state. For each region and each guard that it
+//! touches all states are gone through, and conditions and bodies evaluated anew in
+//! each. The reading of a file and its trees are the twin's.
 
 use std::process::ExitCode;
 
@@ -100,15 +100,19 @@ fn chosen(monitor: &Monitor) -> Vec<bool> {
     }
 }
 
-/// The entries, for each region and then each guard.
+/// The entries, for each region and then each guard that it touches.
 fn entries(monitor: &Monitor) -> Vec<Entry> {
+    let touched = monitor.touched();
     let mut entries = Vec::new();
     for region in 0..monitor.regions.len() {
         for guard in 0..monitor.guards.len() {
+            if touched[region] >> guard & 1 == 0 {
+                continue;
+            }
             let moves = Moves::of(monitor, region, guard);
             if moves.made_true {
                 let unconditional = !moves.left_false;
-                let broadcast = is_broadcast(monitor, guard);
+                let broadcast = is_broadcast(monitor, &touched, guard);
                 entries.push(Entry { region, guard, unconditional, broadcast });
             }
         }
@@ -116,10 +120,14 @@ fn entries(monitor: &Monitor) -> Vec<Entry> {
     entries
 }
 
-fn is_broadcast(monitor: &Monitor, guard: usize) -> bool {
+/// Of a guard that has an entry. It holds in some kept state, and a body that does not
+/// touch it leaves it true there.
+fn is_broadcast(monitor: &Monitor, touched: &[u16], guard: usize) -> bool {
     let regions = monitor.regions.iter().enumerate();
     let mut having = regions.filter(|(_, region)| region.guard == guard);
-    having.any(|(number, _)| Moves::of(monitor, number, guard).left_true)
+    having.any(|(number, _)| {
+        touched[number] >> guard & 1 == 0 || Moves::of(monitor, number, guard).left_true
+    })
 }
 
 /// What a region's body does to a guard, from some state each.

@@ -7,7 +7,7 @@ use std::path::Path;
 
 use twin::check::{check, Checked};
 use twin::machines::{Frame, Machine, Machines, Place, Run, THREADS};
-use twin::table::entries;
+use twin::table::place;
 
 /// As many frames as `runner` reads: 65,534 bytes.
 const MOST_FRAMES: usize = 9362;
@@ -22,6 +22,8 @@ fn main() -> io::Result<()> {
     write(directory, "worst", &worst_file(), MOST_FRAMES)?;
     write(directory, "guards", &guards_file(), 0)?;
     write(directory, "tries", &tries_file(), MOST_FRAMES)?;
+    write(directory, "wide", &wide_file([4; 6]), MOST_FRAMES)?;
+    write(directory, "wide-odd", &wide_file([5, 4, 5, 3, 3, 4]), MOST_FRAMES)?;
     write(directory, "longest", LONGEST, MOST_FRAMES)?;
     for eighths in 0..=8 {
         let frames = MOST_FRAMES * eighths / 8;
@@ -54,7 +56,7 @@ fn worst_file() -> String {
 }
 
 /// As many tokens and states, but all in the guards: bodies are empty, and so is the
-/// table, so that a search for an entry never ends before the last state.
+/// table, since no region touches a guard.
 fn guards_file() -> String {
     let guard = |region| {
         let [x, y] = [region, region + 1].map(name);
@@ -98,6 +100,37 @@ fn tries_file() -> String {
 }
 
 const TURNED: &str = "c := b; d := 1 - e; e := f; f := d;";
+
+/// Six variables with ranges of the given sizes, and sixteen regions with a guard each:
+/// guard and body name one variable, the same. Six methods step a variable round, so that
+/// someone can always move; in two more a thread goes from variable to variable and
+/// waits for each. The kept condition names all variables.
+fn wide_file(sizes: [usize; 6]) -> String {
+    const WORDS: [&str; 6] = ["spring", "gas", "tap", "gate", "lamp", "relay"];
+    let variables: Vec<(&str, usize)> =
+        WORDS.into_iter().zip(sizes).map(|(word, size)| (word, size - 1)).collect();
+    let mut file = String::from("monitor wide {\n");
+    for (word, highest) in &variables {
+        file += &format!("  var {word} = 0 in 0..{highest};\n");
+    }
+    let within: Vec<String> =
+        variables.iter().map(|(word, highest)| format!("{word} <= {highest}")).collect();
+    file += &format!("  keep {};\n", within.join(" && "));
+    for (word, highest) in &variables {
+        let body =
+            format!("if ({word} < {highest}) {{ {word} := {word} + 1; }} else {{ {word} := 0; }}");
+        file += &format!("  method step_{word} {{ waituntil ({word} >= 0) {{ {body} }} }}\n");
+    }
+    file += "  method wear {\n";
+    for (word, _) in &variables[..4] {
+        file += &format!("    waituntil ({word} > 0) {{ {word} := {word} - 1; }}\n");
+    }
+    file += "  }\n  method service {\n";
+    for (word, highest) in &variables {
+        file += &format!("    waituntil ({word} == 0) {{ {word} := {highest}; }}\n");
+    }
+    file + "  }\n}\n"
+}
 
 /// A file like the worst one with any power of two of states up to 4,096. Only the
 /// ranges differ, and no body leaves them, however small they are.
@@ -175,7 +208,7 @@ const LONGEST: &str = "monitor longest {
 
 /// Frames that both machines take, drawn so that many threads wait.
 fn trace(checked: &Checked, count: usize) -> String {
-    let machines = Machines::new(checked, &entries(checked));
+    let machines = Machines::new(checked, &place(checked).entries);
     let mut plain = machines.start();
     let mut table = machines.start();
     let mut draws = Draws(1);
