@@ -36,7 +36,7 @@ extern "C" {
 #define DAMSONYET_POINT_BYTES 33
 /* A buffer with room for the points of a trace of so many bytes. */
 #define DAMSONYET_POINTS_BYTES(trace_len) (DAMSONYET_POINT_BYTES * ((size_t)(trace_len) / DAMSONYET_FRAME_BYTES + 1))
-/* The stack that a call may need: 552,096 bytes were measured, by a condition of 998 marks `!`, and 250,000 for most files. */
+/* The stack that a call may need: 554,640 bytes were measured, by a condition of 998 marks `!`, and 250,000 for most files. */
 #define DAMSONYET_STACK 655360
 /* Values cross with 128 added. */
 #define DAMSONYET_VALUE(held) ((int)(held) - 128)
@@ -51,12 +51,15 @@ typedef struct {
     size_t second;
 } damsonyet_answer;
 
-/* What placing answers, and where it is placed the table's length in bytes, and the chosen tries as bits, the first `try` lowest. Beside a
- * refusal both are 0, 10 included. */
+/* What placing answers, and where it is placed the table's length in bytes; the chosen tries as bits, the first `try` lowest; and how many
+ * pairs of region and guard are touched: the region's body assigns, anywhere in its text and reached or not, a variable that the guard names.
+ * A region's own guard counts like any other. Only the states of touched pairs are gone through for an entry; every other pair has none by
+ * the text alone. Beside a refusal all three are 0, 10 included. */
 typedef struct {
     damsonyet_answer answer;
     size_t length;
     uint16_t chosen;
+    uint16_t pairs;
 } damsonyet_placing;
 
 /* What a machine answers to a trace. Where the answer is 0, its last point: the values of `vars` variables, each with 128 added (128 in the
@@ -180,8 +183,8 @@ typedef struct {
 /* The verdict of a file: 0, or a refusal from 1 to 9 with its places. */
 damsonyet_answer damsonyet_check(const uint8_t *file, size_t file_len);
 
-/* The table of a file from byte 0 of a buffer, 9 bytes a line, and its chosen tries; refused (1 to 9, or 10 where the buffer is too short),
- * not a byte of the buffer changes. DAMSONYET_OUTPUT_BYTES are always enough. */
+/* The table of a file from byte 0 of a buffer, 9 bytes a line, its chosen tries and the count of its touched pairs; refused (1 to 9, or 10
+ * where the buffer is too short), not a byte of the buffer changes. DAMSONYET_OUTPUT_BYTES are always enough. */
 damsonyet_placing damsonyet_place(const uint8_t *file, size_t file_len, uint8_t *table, size_t table_len);
 
 /* A run of a trace from a start state on the plain machine or, where `table` is true, on the table's: the file's refusals, 11 to 14, or 0. */
@@ -237,6 +240,7 @@ DAMSONYET_AT(damsonyet_answer, second, 16);
 DAMSONYET_SIZE(damsonyet_placing, 40);
 DAMSONYET_AT(damsonyet_placing, length, 24);
 DAMSONYET_AT(damsonyet_placing, chosen, 32);
+DAMSONYET_AT(damsonyet_placing, pairs, 34);
 DAMSONYET_SIZE(damsonyet_running, 72);
 DAMSONYET_AT(damsonyet_running, vars, 24);
 DAMSONYET_AT(damsonyet_running, values, 32);

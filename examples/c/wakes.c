@@ -15,6 +15,7 @@ int main(void) {
         damsonyet_span guard = outline.region[r].guard;
         printf("region %zu waits until %.*s\n", r, (int)(guard.to - guard.from), (const char *)file + guard.from);
     }
+    printf("region and guard: %d pairs touched\n", placing.pairs);
     printf("%.*s", (int)placing.length, (const char *)table);
     return 0;
 }

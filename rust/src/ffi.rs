@@ -19,6 +19,7 @@ pub struct Placing {
     pub answer: Answer,
     pub length: usize,
     pub chosen: u16,
+    pub pairs: u16,
 }
 
 #[repr(C)]
@@ -158,6 +159,7 @@ extern "C" {
 const _: () = {
     assert!(size_of::<Answer>() == 24 && offset_of!(Answer, first) == 8 && offset_of!(Answer, second) == 16);
     assert!(size_of::<Placing>() == 40 && offset_of!(Placing, length) == 24 && offset_of!(Placing, chosen) == 32);
+    assert!(offset_of!(Placing, pairs) == 34);
     assert!(size_of::<Running>() == 72 && offset_of!(Running, vars) == 24 && offset_of!(Running, values) == 32);
     assert!(offset_of!(Running, places) == 44 && offset_of!(Running, notified) == 60);
     assert!(offset_of!(Running, how_many) == 64 && offset_of!(Running, of_file) == 68);

@@ -80,6 +80,17 @@ pub struct Table {
     pub entries: Vec<Entry>,
     /// The chosen tries as bits, the first `try` lowest: [`members`] lists them.
     pub chosen: u16,
+    /// How many pairs of region and guard are touched: the region's body assigns, anywhere in its text and reached or not, a variable that
+    /// the guard names. A region's own guard counts like any other. Every other pair has no entry by the text alone.
+    ///
+    /// ```
+    /// let file = b"monitor Box { var full = 0 in 0..1; keep true;
+    ///     method put { waituntil (full == 0) { full := 1; } }
+    ///     method get { waituntil (full == 1) { full := 0; } } }";
+    /// let table = damsonyet::place(file).unwrap();
+    /// assert_eq!((table.pairs, table.entries.len()), (4, 2));
+    /// ```
+    pub pairs: u16,
     /// The lines that `placer` prints, nine bytes each.
     pub text: Vec<u8>,
 }
@@ -147,7 +158,7 @@ pub fn place(file: &[u8]) -> Result<Table, Refusal> {
         .chunks_exact(9)
         .map(|line| Entry { region: two(line, 0), guard: two(line, 2), unconditional: two(line, 4) == 1, broadcast: two(line, 6) == 1 })
         .collect();
-    Ok(Table { entries, chosen: placing.chosen, text })
+    Ok(Table { entries, chosen: placing.chosen, pairs: placing.pairs, text })
 }
 
 fn record(running: &ffi::Running) -> Result<Record, Refusal> {

@@ -1,12 +1,13 @@
 //! The library beside the second program (`reference/`): every call gives the same, on generated cases and on hostile input.
 use damsonyet::{Entry, Fate, Machine, Notices, Outcome, Place, Point, Points, Record, Refusal};
+use reference::cases::counted::counted;
 use reference::cases::made::made;
 use reference::cases::{make_case, Case, Size};
 use reference::hostile::Bases;
 use reference::machines::Machines;
 use reference::outline as second;
 use reference::points::needed;
-use reference::{table, Answer};
+use reference::{pairs, table, Answer};
 use std::fmt::Debug;
 use std::time::Instant;
 
@@ -45,6 +46,11 @@ fn cases(seed: u64, count: usize, size: Size, word: &'static str) -> impl Iterat
 /// The cases that are made for tries.
 fn made_for_tries() -> impl Iterator<Item = Input> {
     made().into_iter().enumerate().map(|(number, made)| Input::of(format!("case {number} made for tries"), made.case))
+}
+
+/// The cases whose touched pairs are counted by hand, each with its count.
+fn counted_by_hand() -> impl Iterator<Item = (Input, usize)> {
+    counted().into_iter().map(|one| (Input::of(format!("case counted by hand: {}", one.what), one.case), one.pairs))
 }
 
 fn hostile(seed: u64, count: usize) -> impl Iterator<Item = Input> {
@@ -202,6 +208,10 @@ struct Counts {
     most_states: usize,
     longer_traces: usize,
     refused: [usize; 10],
+    /// Pairs of region and guard in accepted files, and the touched ones among them; and files in which some are and some are not.
+    pairs: usize,
+    touched: usize,
+    partly_touched: usize,
     /// Runs by their answers, on both machines.
     runs: [usize; 15],
     points: usize,
@@ -242,6 +252,10 @@ fn compare(input: &Input, counts: &mut Counts) {
             counts.accepted += 1;
             counts.most_states += usize::from(monitor.count_of_states() == 4_096);
             counts.longer_traces += usize::from(input.trace.len() > reference::lines::MOST_TRACE_BYTES);
+            let (touched, all) = (pairs::count(monitor), monitor.regions.len() * monitor.guards.len());
+            counts.pairs += all;
+            counts.touched += touched;
+            counts.partly_touched += usize::from(0 < touched && touched < all);
         }
         Err(refused) => counts.refused[usize::from(refused.number)] += 1,
     }
@@ -262,6 +276,7 @@ fn tables_and_lines(input: &Input, machines: &Result<Machines, Refusal>) {
         .map(|m| damsonyet::Table {
             entries: m.entries.iter().map(entry).collect(),
             chosen: m.monitor.chosen(),
+            pairs: pairs::count(&m.monitor) as u16,
             text: table::table_lines(&m.entries),
         })
         .map_err(|refused| *refused);
@@ -449,9 +464,10 @@ fn lent_buffers(input: &Input, machines: &Result<Machines, Answer>, start: usize
         let mut buffer = vec![BEFORE; room];
         let given = unsafe { ffi::damsonyet_place(file.as_ptr(), file.len(), buffer.as_mut_ptr(), room) };
         let second = reference::place(file, room);
-        let (lines, chosen) = second.as_ref().map_or((&[][..], 0), |placed| (&placed.table[..], placed.chosen));
-        let wanted = (numbers(second.as_ref().err()), lines.len(), chosen, written(lines, room));
-        input.same(("place's buffer", room), (three(given.answer), given.length, given.chosen, buffer), wanted);
+        let (lines, chosen, pairs) = second.as_ref().map_or((&[][..], 0, 0), |placed| (&placed.table[..], placed.chosen, placed.pairs));
+        let wanted = (numbers(second.as_ref().err()), lines.len(), chosen, pairs, written(lines, room));
+        let library = (three(given.answer), given.length, given.chosen, given.pairs.into(), buffer);
+        input.same(("place's buffer", room), library, wanted);
     }
     let mut buffer = Box::new([BEFORE; ffi::OUTPUT_BYTES]);
     let count = unsafe { ffi::damsonyet_placer_lines(file.as_ptr(), file.len(), &mut *buffer) };
@@ -571,6 +587,24 @@ fn generated_cases() {
         assert!([0, 11, 12, 13, 14].iter().all(|&answer| counts.runs[answer] >= 20), "{counts:?}");
         assert!(counts.parted >= 10 && counts.faults >= 5 && counts.not_kept >= 50, "{counts:?}");
         assert!(counts.tried >= 30 && counts.chosen >= 50 && counts.false_at_start >= 20 && counts.broken >= 20, "{counts:?}");
+        let others = counts.pairs - counts.touched;
+        assert!(counts.partly_touched >= 50 && counts.touched >= 500 && others >= 500, "{counts:?}");
+    });
+}
+
+#[test]
+fn cases_counted_by_hand() {
+    with_stack(|| {
+        let begun = Instant::now();
+        let mut counts = Counts::default();
+        for (input, pairs) in counted_by_hand() {
+            let placed = damsonyet::place(&input.file).map_or(0, |table| table.pairs);
+            assert_eq!(usize::from(placed), pairs, "{}", input.name);
+            compare(&input, &mut counts);
+            compare_slots(&input);
+        }
+        println!("{counts:?} in {:?}", begun.elapsed());
+        assert!(counts.accepted >= 20 && counts.accepted < counts.inputs && counts.partly_touched >= 10, "{counts:?}");
     });
 }
 

@@ -3,8 +3,17 @@ use damsonyet::{Fate, Machine, Outcome, Place, Reason, Refusal};
 use std::fs;
 use std::path::{Path, PathBuf};
 
+/// The archive's own calls, for lent buffers.
+#[allow(dead_code)]
+#[path = "../src/ffi.rs"]
+mod ffi;
+
+fn root() -> PathBuf {
+    Path::new(env!("CARGO_MANIFEST_DIR")).join("../examples")
+}
+
 fn examples() -> Vec<PathBuf> {
-    let root = Path::new(env!("CARGO_MANIFEST_DIR")).join("../examples");
+    let root = root();
     let mut folders = Vec::new();
     for folder in [root.clone(), root.join("refusals")] {
         folders.extend(fs::read_dir(folder).expect("a folder").map(|entry| entry.expect("an entry").path()));
@@ -130,6 +139,9 @@ fn agree(file: &[u8], trace: &[u8], start: usize) {
     if told.is_err() {
         return;
     }
+    let table = damsonyet::place(file).expect("an accepted file");
+    let pairs = usize::from(table.pairs);
+    assert!(table.entries.len() <= pairs && pairs <= outline.regions.len() * outline.guards, "{pairs}");
     for number in [0, outline.start, outline.states - 1, outline.states, usize::MAX] {
         let state = damsonyet::state_at(file, number).expect("of an accepted file");
         assert_eq!(state.is_some(), number < outline.states);
@@ -282,7 +294,7 @@ fn long_runs_agree() {
 #[test]
 fn states_of_a_file_refused_with_9() {
     with_stack(|| {
-        let at = |name: &str| read(&Path::new(env!("CARGO_MANIFEST_DIR")).join("../examples/refusals").join(name).join("monitor.txt"));
+        let at = |name: &str| read(&root().join("refusals").join(name).join("monitor.txt"));
         for (name, faults) in [("9-midway", true), ("9-late-closed", false), ("9-not-reached", true)] {
             let file = at(name);
             let Err(refusal) = damsonyet::check(&file) else { panic!("{name} is accepted") };
@@ -342,6 +354,104 @@ fn tries_that_are_refused() {
         assert_eq!(refused(&behind), Err((4, at)));
         assert_eq!(refused(&file("try y == 0;", "")), Err((6, 46)));
         assert!(damsonyet::outline(&file("try y == 0;", "")).is_err());
+    });
+}
+
+/// Touched pairs of the examples, each counted by hand: for each region, the guards that name a variable which its body assigns.
+#[test]
+fn pairs_of_the_examples() {
+    with_stack(|| {
+        for (name, pairs) in [
+            ("barrier/monitor.txt", 2 + 2),
+            ("bounded-buffer/monitor.txt", 3 + 3 + 3),
+            ("box/monitor.txt", 2 + 2),
+            ("breaker/monitor.txt", 3 + 3 + 3 + 3 + 1),
+            ("breaker-guesses/monitor.txt", 4 + 4 + 4 + 3 + 2 + 1),
+            ("breaker-guesses/monitor-without.txt", 4 + 4 + 4 + 3 + 2 + 1),
+            ("readers-limit/monitor.txt", 2 + 2 + 2 + 2),
+            ("readers-writers/monitor.txt", 1 + 1 + 2 + 2),
+            ("readers-writers/monitor-published.txt", 1 + 1 + 2 + 2),
+            ("refusals/9-not-reached/monitor-kept.txt", 2 + 2),
+            ("refusals/9-not-reached/monitor-tried.txt", 2 + 2),
+            ("round-robin/monitor.txt", 3 + 3 + 3),
+            ("ticketed-readers-writers/monitor.txt", 4 + 8 + 4 + 8 + 4 + 8 + 5 + 5),
+            ("wide-bay/monitor.txt", 5 + 3 + 4 + 2 + 2 + 1 + 2 + 2 + 1),
+        ] {
+            let file = read(&root().join(name));
+            assert_eq!(damsonyet::place(&file).expect("an accepted file").pairs, pairs, "{name}");
+        }
+    });
+}
+
+/// What touches is the text: a left side anywhere in a body, and a name anywhere in a guard.
+#[test]
+fn pairs_by_the_text() {
+    with_stack(|| {
+        let pairs = |keep: &str, regions: &[&str]| {
+            let region = |(k, region): (usize, &&str)| format!("method m{k} {{ waituntil {region} }}\n");
+            let regions: String = regions.iter().enumerate().map(region).collect();
+            let variables = "var x = 0 in 0..3; var y = 0 in 0..3; var x1 = 0 in 0..3;";
+            let file = format!("monitor m {{ {variables} keep {keep}; {regions} }}");
+            damsonyet::place(file.as_bytes()).unwrap_or_else(|refusal| panic!("{file}: {refusal}")).pairs
+        };
+        let waits = "(x == 3) { }";
+        // Nothing is assigned; nothing is named; what is read is not assigned.
+        assert_eq!(pairs("true", &[waits, "(y == 1) { if (x == 0) { } else { } }"]), 0);
+        assert_eq!(pairs("true", &["(true) { x := 0; }", "(1 < 2 || false) { y := 0; }"]), 0);
+        assert_eq!(pairs("true", &[waits, "(true) { y := x; if (x == 3) { y := x - x; } }"]), 0);
+        // A region's own guard counts.
+        assert_eq!(pairs("true", &["(x < 3) { x := x + 1; }"]), 1);
+        // Wherever the assignment stands, reached or not, and however often.
+        assert_eq!(pairs("true", &[waits, "(true) { x := 0; x := 1; x := 2; }"]), 1);
+        assert_eq!(pairs("true", &[waits, "(true) { if (y == 0) { } else { x := 0; } }"]), 1);
+        assert_eq!(pairs("true", &[waits, "(true) { if (true) { if (y == 1) { if (y == 2) { x := 0; } } } }"]), 1);
+        assert_eq!(pairs("true", &[waits, "(true) { if (false) { x := 9; } }"]), 1);
+        assert_eq!(pairs("true", &[waits, "(false) { x := 9; }"]), 1);
+        assert_eq!(pairs("true", &[waits, "(true) { x := x; }"]), 1);
+        // Wherever the name stands.
+        let sets = "(true) { x := 0; }";
+        for guard in ["!(y == 0 && (1 == 1 || x < 2))", "y - 1 + x > 0", "0 == x", "x == x", "true || x == 0", "!!!(x != 0)"] {
+            assert_eq!(pairs("true", &[&format!("({guard}) {{ }}"), sets]), 1, "{guard}");
+        }
+        // Another name is another variable, if it only begins so; and no other condition is a guard.
+        assert_eq!(pairs("x == x", &["(x1 == 0 && y == 0) { }", "(true) { if (x == 0) { x := 1; } }"]), 0);
+        // One guard at several regions is one, with as many pairs as there are regions that touch it; two variables make no second pair.
+        assert_eq!(pairs("true", &["(x == 1) { x := 0; }", "( x==001 ) { }", "(1 == x) { x := 2; }"]), 2 + 2);
+        assert_eq!(pairs("true", &["(x == y) { x := 0; y := 0; }"]), 1);
+        // As many as there may be.
+        let regions: String = (0..16).map(|k| format!("waituntil (x < {k}) {{ x := 0; }}")).collect();
+        let file = format!("monitor m {{ var x = 0 in 0..1; keep true; method a {{ {regions} }} }}");
+        assert_eq!(damsonyet::place(file.as_bytes()).expect("an accepted file").pairs, 256);
+    });
+}
+
+/// Beside a refusal of the file, and beside 10, there is no length, no try is chosen and no pair counted.
+#[test]
+fn no_pairs_beside_a_refusal() {
+    with_stack(|| {
+        let mut buffer = vec![0xA5; ffi::OUTPUT_BYTES];
+        let mut place = |file: &[u8], room: usize| {
+            let placing = unsafe { ffi::damsonyet_place(file.as_ptr(), file.len(), buffer.as_mut_ptr(), room) };
+            (placing.answer.number, placing.length, placing.chosen, placing.pairs)
+        };
+        let mut refused = [0; 10];
+        for folder in examples() {
+            let file = read(&folder.join("monitor.txt"));
+            let number = damsonyet::check(&file).map_or_else(|refusal| refusal.number, |()| 0);
+            if number != 0 {
+                assert_eq!(place(&file, ffi::OUTPUT_BYTES), (number, 0, 0, 0), "{}", folder.display());
+            }
+            refused[usize::from(number)] += 1;
+        }
+        assert!(refused.iter().all(|&count| count > 0), "{refused:?}");
+        let guesses = read(&root().join("breaker-guesses/monitor.txt"));
+        assert_eq!(place(&guesses, 45), (0, 45, 0b1111, 18));
+        for room in [0, 1, 9, 44] {
+            assert_eq!(place(&guesses, room), (10, 0, 0, 0));
+        }
+        // An empty table fits any buffer: its count is told.
+        let empty = b"monitor m { var x = 0 in 0..1; keep true; method a { waituntil (x == 0) { x := 1; } } }";
+        assert_eq!(place(empty, 0), (0, 0, 0, 1));
     });
 }
 

@@ -77,8 +77,9 @@ file that cannot be read or written.
 
 const SHOW: &str = "\
 Shows a hand-in whole: variables, kept condition and tries,
-guards, regions and table of a file, and the run of a trace
-on both machines, frame by frame.
+guards and regions, how many pairs of these are touched, and
+the table of a file; and the run of a trace on both
+machines, frame by frame.
 
 Usage: panel show FILE [TRACE] [OPTIONS]
        panel show DIR [OPTIONS]
@@ -106,7 +107,8 @@ refused, 2 an error.
 const CHECK: &str = "\
 Checks a monitor file. A refusal is told with its number,
 line and column, the line itself, the reason and what to do;
-of tries, how many are chosen.
+of an accepted file, how many pairs of region and guard are
+touched; of tries, how many are chosen.
 
 Usage: panel check FILE [OPTIONS]
 
@@ -122,14 +124,18 @@ Exit status: 0 accepted, 1 refused, 2 an error.
 
 const PLACE: &str = "\
 Places the wake-up table of a monitor file: a sentence an
-entry, and a matrix of regions and guards. Of tries it says
-which are chosen, and why each other one is not.
+entry, and a matrix of regions and guards. It says how many
+pairs of these are touched, that is, the body assigns a
+variable that the guard names (no other pair has an entry).
+Of tries it says which are chosen, and why each other one is
+not.
 
 Usage: panel place FILE [OPTIONS]
 
 Options
   --json              one object on one line, the table's
-                      lines in \"table\", the tries in
+                      lines in \"table\", how many pairs are
+                      touched in \"pairs\", the tries in
                       \"chosen\" and \"tries\"
   --color WHEN        auto, always or never
   -h, --help          this text

@@ -102,7 +102,7 @@ pub fn place(to: &mut dyn Write, file: &[u8]) -> io::Result<()> {
         Ok(table) => {
             let lines = table.text.split(|&byte| byte == b'\n').filter(|line| !line.is_empty());
             let lines = lines.map(|line| text(&String::from_utf8_lossy(line)));
-            write!(to, "{{\"answer\":[0,0,0],\"table\":{}{}}}", list(lines), tried(file))
+            write!(to, "{{\"answer\":[0,0,0],\"table\":{},\"pairs\":{}{}}}", list(lines), table.pairs, tried(file))
         }
         Err(refusal) => write!(to, "{{\"answer\":{}{}}}", answer(&Err(refusal)), tried(file)),
     }

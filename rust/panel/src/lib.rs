@@ -7,6 +7,7 @@ pub mod json;
 pub mod mark;
 pub mod out;
 pub mod page;
+pub mod pairs;
 pub mod sheet;
 pub mod text;
 pub mod tries;

@@ -1,6 +1,7 @@
 //! What the commands print for people.
 use crate::frames::{self, Frame};
 use crate::out::{Out, Style, NO_BREAK};
+use crate::pairs;
 use crate::sheet::{pair, shown, Sheet};
 use crate::tries::{self, Tried};
 use crate::words::{self, Refused};
@@ -128,6 +129,9 @@ pub fn check(out: &mut Out, name: &str, file: &[u8]) -> io::Result<Verdict> {
     let Some(sheet) = accepted(out, name, file)? else { return Ok(Verdict::Refused) };
     out.text(Style::Good, "", "  ", &format!("{name}: accepted"))?;
     out.text(Style::Plain, "  ", "  ", &format!("monitor {}: {}", sheet.title(), counts(&sheet)))?;
+    if let Ok(placed) = damsonyet::place(file) {
+        out.text(Style::Plain, "  ", "  ", &pairs::summary(&sheet.outline, &placed))?;
+    }
     if let Some(tries) = tried(&sheet) {
         out.text(Style::Plain, "  ", "  ", &tries::summary(&tries))?;
     }
@@ -212,6 +216,7 @@ pub fn place(out: &mut Out, name: &str, file: &[u8]) -> io::Result<Verdict> {
     let Ok(placed) = damsonyet::place(file) else { return Ok(Verdict::Refused) };
     let entries = words::entries(placed.entries.len());
     out.text(Style::Good, "", "  ", &format!("{name}: accepted, {entries}"))?;
+    out.text(Style::Plain, "  ", "  ", &pairs::summary(&sheet.outline, &placed))?;
     out.blank()?;
     out.heading("Table: region, guard, 01 unconditional, 01 broadcast")?;
     table(out, &sheet, &placed)?;
@@ -465,6 +470,7 @@ pub fn show(out: &mut Out, hand_in: &HandIn) -> io::Result<Verdict> {
     let Ok(placed) = damsonyet::place(hand_in.file) else { return Ok(Verdict::Refused) };
     out.text(Style::Good, "", "  ", &format!("{}: accepted", hand_in.file_name))?;
     out.text(Style::Plain, "  ", "  ", &format!("monitor {}: {}", sheet.title(), counts(&sheet)))?;
+    out.text(Style::Plain, "  ", "  ", &pairs::summary(&sheet.outline, &placed))?;
     out.blank()?;
     listing(out, &sheet)?;
     out.blank()?;

@@ -161,7 +161,8 @@ fn waits_on(sheet: &Sheet, point: &Point, thread: usize, guard: Option<usize>) -
 
 // ---- refusals of a file
 
-fn is_word(byte: u8) -> bool {
+/// Whether a byte may stand in a name.
+pub fn is_word(byte: u8) -> bool {
     byte.is_ascii_alphanumeric() || byte == b'_'
 }
 

@@ -2,6 +2,7 @@
 use damsonyet::{Place, Point};
 use panel::frames::frames;
 use panel::page::{page, Input};
+use panel::pairs::Touched;
 use panel::sheet::Sheet;
 use panel::words;
 use std::fs;
@@ -168,6 +169,65 @@ fn refused_files_show_the_place() {
         assert_eq!(html.contains("class=\"body broken\""), refusal.number == 9, "{name}");
         assert!(!html.contains("id=\"table\"") && !html.contains("id=\"run\""), "{name}: a refused file has no table and no run");
     }
+}
+
+/// The grid of touched pairs: a cell a pair, hatched, with a dot or with the entry's mark, as the library's count and entries have it.
+#[test]
+fn touched_pairs_have_their_cells() {
+    let [mut bare, mut dots, mut marks] = [0; 3];
+    let none = b"monitor m { var x = 0 in 0..1; keep true; method a { waituntil (x == 0) { } } }".to_vec();
+    let more = [("crowded".to_string(), crowded(), None), ("none".to_string(), none, None)];
+    for (name, file, _) in hand_ins().into_iter().filter(|(_, _, trace)| trace.is_none()).chain(more) {
+        let html = made(&file, None);
+        let Ok(table) = damsonyet::place(&file) else {
+            assert!(!html.contains("<table class=\"pairs\">") && !html.contains("Touched pairs"), "{name}");
+            continue;
+        };
+        let sheet = Sheet::new(&file, damsonyet::outline(&file).unwrap().0);
+        let (regions, guards) = (sheet.outline.regions.len(), sheet.outline.guards);
+        assert!(html.contains(&format!("<b>{}</b>", panel::pairs::count(&sheet.outline, &table))), "{name}");
+        let touched = Touched::of(&sheet, &table).unwrap();
+        let grid = html.split("<table class=\"pairs\">").nth(1).unwrap().split("</table>").next().unwrap();
+        let rows: Vec<&str> = grid.split("<tr>").skip(1).collect();
+        assert_eq!(rows.len(), regions + 1, "{name}");
+        for g in 0..guards {
+            let head = format!("<th scope=\"col\" title=\"guard {g:02X}: {}\">g{g:02X}</th>", escaped(&sheet.guard_text(g)));
+            assert!(rows[0].contains(&head), "{name}: {head}");
+        }
+        for (r, row) in rows[1..].iter().enumerate() {
+            let title = format!("region {r:02X}, {}: {}", sheet.region_name(r), sheet.body_text(r));
+            assert!(row.starts_with(&format!("<th scope=\"row\" title=\"{}\">r{r:02X}</th>", escaped(&title))), "{name}: {row}");
+            let cells: Vec<&str> = row.split("<td").skip(1).collect();
+            assert_eq!(cells.len(), guards, "{name}");
+            for (g, cell) in cells.iter().enumerate() {
+                let entry = table.entries.iter().find(|entry| (usize::from(entry.region), usize::from(entry.guard)) == (r, g));
+                let (says, shape) = match entry.map(|entry| (entry.broadcast, entry.unconditional)) {
+                    _ if touched.by(r, g) == 0 => ("not touched", " class=\"bare\""),
+                    None => ("touched, no entry", "&#8226;"),
+                    Some((false, true)) => ("touched, signal, always", "#signal"),
+                    Some((false, false)) => ("touched, signal, if it holds", "#signal"),
+                    Some((true, true)) => ("touched, broadcast, always", "#broadcast"),
+                    Some((true, false)) => ("touched, broadcast, if it holds", "#broadcast"),
+                };
+                let here = format!("{name}: region {r}, guard {g}: {cell}");
+                assert!(cell.contains(shape) && cell.contains(&format!("hidden\">{says}</span>")), "{here}");
+                assert_eq!(cell.contains("mark asks"), entry.is_some_and(|entry| !entry.unconditional), "{here}");
+                for (k, variable) in sheet.outline.variables.iter().enumerate() {
+                    let by = touched.by(r, g) >> k & 1 == 1;
+                    let named = String::from_utf8_lossy(sheet.bytes(&variable.name)).into_owned();
+                    let title = cell.split('"').find(|part| part.contains(" assigns ")).unwrap();
+                    let listed = title.split(" assigns ").nth(1).unwrap().split(", which").next().unwrap();
+                    assert_eq!(listed.split([',', ' ']).any(|word| word == named), by, "{here}");
+                }
+            }
+        }
+        let count = |what: &str| grid.matches(what).count();
+        let pairs = usize::from(table.pairs);
+        let cells = (count("class=\"bare\""), count("&#8226;"), count("<use "));
+        assert_eq!(cells, (regions * guards - pairs, pairs - table.entries.len(), table.entries.len()), "{name}");
+        (bare, dots, marks) = (bare + cells.0, dots + cells.1, marks + cells.2);
+    }
+    assert!(bare > 50 && dots > 50 && marks > 50, "{bare} {dots} {marks}");
 }
 
 /// Box and breaker as before; and of a file with tries each one's mark, condition and reason, and the steps as the library's states have them.

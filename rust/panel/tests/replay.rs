@@ -1,27 +1,7 @@
 //! The JSON of every case of crates/replay, made back into what the programs print for it, byte for byte.
 mod common;
-use common::{panel, root, stdout, Json, Scratch};
+use common::{cases, panel, root, stdout, Json, Scratch};
 use std::fs;
-
-/// The monitor files and traces.
-fn cases() -> Vec<(Vec<u8>, Vec<u8>)> {
-    let data = fs::read(root().join("crates/replay/data/cases.bin")).expect("the cases");
-    let mut rest = &data[..];
-    let mut take = |n: usize| {
-        let (head, tail) = rest.split_at(n);
-        rest = tail;
-        head.to_vec()
-    };
-    let mut cases = Vec::new();
-    let mut left = data.len();
-    while left > 0 {
-        let lengths = take(8);
-        let length = |at: usize| u32::from_le_bytes(lengths[at..at + 4].try_into().expect("four bytes")) as usize;
-        cases.push((take(length(0)), take(length(4))));
-        left -= 8 + length(0) + length(4);
-    }
-    cases
-}
 
 fn answer_line(answer: &Json) -> String {
     let numbers = answer.numbers();
@@ -123,6 +103,18 @@ fn tries_lines(place: &Json) -> String {
     lines
 }
 
+/// The line about touched pairs: how many there are, and how many bytes the table has.
+fn pairs_line(place: &Json) -> String {
+    let (pairs, length) = match is_accepted(place) {
+        true => (place.at("pairs").number(), 9 * place.at("table").list().len()),
+        false => {
+            assert!(place.get("pairs").is_none() && place.get("table").is_none());
+            (0, 0)
+        }
+    };
+    format!("00{pairs:04X}{length:04X}\n")
+}
+
 fn written(write: impl FnOnce(&mut dyn std::io::Write) -> std::io::Result<()>) -> Json {
     let mut bytes = Vec::new();
     write(&mut bytes).expect("written");
@@ -150,7 +142,7 @@ fn told(check: &Json, place: &Json, run: &Json, show: &Json, trace: usize) -> St
     } else {
         assert!(show.get("place").is_none() && show.get("run").is_none());
     }
-    placer_lines(place) + &runner_lines(run) + &points_lines(run, trace) + &tries_lines(place)
+    placer_lines(place) + &runner_lines(run) + &points_lines(run, trace) + &tries_lines(place) + &pairs_line(place)
 }
 
 /// On a thread with room for the library's calls, as the program has it.

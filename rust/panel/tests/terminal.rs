@@ -78,6 +78,7 @@ fn lines_fit_the_terminal() {
         "box",
         "breaker",
         "breaker-guesses",
+        "wide-bay",
         "refusals/9-weak-try",
         "ticketed-readers-writers",
         "refusals/9-late-closed",

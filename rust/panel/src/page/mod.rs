@@ -1,4 +1,5 @@
 //! A hand-in as one HTML page that needs nothing else: the file, its table, and the run of a trace as a picture.
+pub mod pairs;
 mod picture;
 mod run;
 mod table;
@@ -44,7 +45,7 @@ pub fn page(input: &Input) -> String {
         parts.push(Part { id: "tries", heading: "The tries", html: tries::tries(sheet, &tried) });
     }
     if let (Some(sheet), Ok(table)) = (&sheet, damsonyet::place(input.file)) {
-        parts.push(Part { id: "table", heading: "The table", html: table::table(sheet, &table) });
+        parts.push(Part { id: "table", heading: "The table", html: table::table(sheet, &table) + &pairs::pairs(sheet, &table) });
         if let Some((trace, name)) = input.trace {
             let run = run::run(sheet, trace, name, input.start);
             told.push(run.summary);

@@ -5,7 +5,7 @@ use crate::words;
 use damsonyet::{Entry, Table};
 
 /// A picture of an entry, by the marks that stand at the top of the page.
-fn mark(broadcast: bool, unconditional: bool) -> String {
+pub fn mark(broadcast: bool, unconditional: bool) -> String {
     let name = if broadcast { "broadcast" } else { "signal" };
     let class = if unconditional { "mark" } else { "mark asks" };
     format!("<svg class=\"{class}\" viewBox=\"0 0 28 18\" width=\"28\" height=\"18\" aria-hidden=\"true\"><use href=\"#{name}\"/></svg>")

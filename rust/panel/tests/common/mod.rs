@@ -92,6 +92,26 @@ pub const BOX: &[u8] = b"monitor box {
 }
 ";
 
+/// The monitor files and traces of crates/replay.
+pub fn cases() -> Vec<(Vec<u8>, Vec<u8>)> {
+    let data = std::fs::read(root().join("crates/replay/data/cases.bin")).expect("the cases");
+    let mut rest = &data[..];
+    let mut take = |n: usize| {
+        let (head, tail) = rest.split_at(n);
+        rest = tail;
+        head.to_vec()
+    };
+    let mut cases = Vec::new();
+    let mut left = data.len();
+    while left > 0 {
+        let lengths = take(8);
+        let length = |at: usize| u32::from_le_bytes(lengths[at..at + 4].try_into().expect("four bytes")) as usize;
+        cases.push((take(length(0)), take(length(4))));
+        left -= 8 + length(0) + length(4);
+    }
+    cases
+}
+
 /// A value of JSON; numbers are whole.
 #[derive(Clone, Debug, PartialEq)]
 pub enum Json {
