@@ -1,13 +1,11 @@
--- The outcomes so far: from the states below s, with what serves the next sixteen; behind the last state all of them;
--- and what they say of the states from which a body may run.
+-- The outcomes so far: from the states below s, with what serves the next sixteen; behind the last state all of them.
 use Prim.Native.Nat.{ℕ, _+_, _-_, _*_, _≤_, _<_}
 use native.Mathlib.Omega.{arith}
 use mathlib.Core.Path.{_≡_, ap, subst, _∙_}
-use mathlib.Core.Bool.{Bool, false}
+use mathlib.Core.Bool.{false}
 use mathlib.Core.List.{List}
 use lib.ListN.{length, getD}
 use lib.Dec.{ltb}
-use lib.IntN.{ℤ}
 use borrow.Author.Tests.{ltb-true, ltb-false}
 use Rattle.logic.proofs.Bools.{split}
 use Rattle.sets.specs.Set.{member}
@@ -18,7 +16,7 @@ use Rattle.meaning.specs.State.{count, stateAt}
 use Rattle.variables.specs.declared.Bounds.{Bounds}
 use Rattle.states.specs.Rows.{outcomeNumber, Outcomes}
 use Rattle.lanes.specs.Promises.{Sixteen, Values, Apart}
-use Rattle.bodies.specs.Shifts.{OutcomesAll, Serves, AllServe, Filling, PutRows}
+use Rattle.bodies.specs.Shifts.{Serves, AllServe, Filling, PutRows}
 use Rattle.bodies.proofs.Shifting.{serves-next}
 
 -- the outcome of region r's body from state t stands at its place
@@ -68,11 +66,6 @@ module _ {m : Monitor} {named : List ℕ} where
           ∙ serves r low .each j l inside
 
   pub filled : {lanes shifts after : List ℕ} {what s : ℕ} → Sofar m named lanes what shifts after s
-      → count (vars m) ≤ s → OutcomesAll m after
-  unfolding OutcomesAll
+      → count (vars m) ≤ s → Outcomes m after
+  unfolding Outcomes
   filled sofar h r t low inside = sofar .done r t low (omega arith) inside
-
--- from the states where a test and the guard hold, in particular
-pub outcomes-of : (m : Monitor) (rows : List ℕ) → OutcomesAll m rows → (keep : List ℤ → Bool) → Outcomes m keep rows
-unfolding OutcomesAll Outcomes
-outcomes-of m rows all keep r low = record { each = λ s inside. record { number = λ k g. all r s low inside } }

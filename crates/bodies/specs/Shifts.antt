@@ -19,13 +19,6 @@ use Rattle.variables.specs.declared.Bounds.{Bounds}
 use Rattle.states.specs.Rows.{faultMark, outcomeNumber, BodiesAt}
 use Rattle.lanes.specs.Promises.{Values}
 
--- the outcome of every region's body from every state, whether it may run there or not: that of region r from state s
--- at r * 4096 + s
-unfoldable pub OutcomesAll : Monitor → List ℕ → Type 0
-OutcomesAll m rows =
-    (r s : ℕ) → r < length (regions m) → s < count (vars m)
-    → getD rows (r * mostStates + s) 0 ≡ outcomeNumber (vars m) (outcome (region m r) (vars m) (stateAt (vars m) s))
-
 -- Numbers
 
 -- what a value adds to a state's number, and the most that it can

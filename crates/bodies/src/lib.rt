@@ -18,10 +18,10 @@ ghost use Rattle.meaning.specs.Model.{vars, regions, region};
 ghost use Rattle.meaning.specs.Held.{Biased};
 ghost use Rattle.evaluator.specs.Coding.{Codes, Covers, lane};
 ghost use Rattle.variables.specs.Bounded.{Bounded};
-ghost use Rattle.states.specs.Rows.{BodiesAt};
+ghost use Rattle.states.specs.Rows.{BodiesAt, Outcomes};
 ghost use Rattle.lanes.specs.Promises.{Sixteen, Values, Apart};
 ghost use Rattle.bodies.specs.Shifts.{unshift, share, mostShare, ShiftOf, Stretch, Noted, Ran, Filling};
-ghost use Rattle.bodies.specs.Shifts.{Serves, AllServe, PutRows, OutcomesAll};
+ghost use Rattle.bodies.specs.Shifts.{Serves, AllServe, PutRows};
 
 // How many numbers there are for shifts.
 const RING: u32 = 4096;
@@ -203,7 +203,7 @@ pub fn fill_after(
         → Codes (vars m) ls (now (kinds .entry)) (now (values .entry)) → Bounded (vars m) bounds → length ls ≤ mostBytes
         → count ≡ length (regions m) → count ≤ mostRegions → BodiesAt m ls ats
         → ((r : ℕ) → r < length (regions m) → Covers (vars m) (spellBlock (region m r .body)) (getD named r 0))
-        → mostAfter ≤ length (now (after .entry)) → OutcomesAll m (now (after .exit))) ⌝ }
+        → mostAfter ≤ length (now (after .entry)) → Outcomes m (now (after .exit))) ⌝ }
 {
     if after.len() < machine::AFTER {
         return;

@@ -27,7 +27,7 @@ use Rattle.meaning.proofs.Searching.{where-none-iff, where-some-iff}
 use Rattle.meaning.proofs.StateLaws.{number-below, state-at-number}
 use Rattle.breaking.specs.declared.Broken.the-variants.{Never, At}
 use Rattle.states.specs.Rows.{TruthRow, GuardNumbers, KeptAll, HoldsAll, AfterAll}
-use Rattle.states.specs.Rows.{outcomeNumber, Moved, Outcomes}
+use Rattle.states.specs.Rows.{outcomeNumber, Outcomes}
 use Rattle.states.specs.Promises.{Looked, runsBy}
 use Rattle.breaking.specs.Broken.{BrokenAs, failsBy, breaksBy}
 use Rattle.states.proofs.Holding.{row-of-kept, kept-truth}
@@ -57,7 +57,7 @@ module _ {vs : List Var} {keep : List ℤ → Bool} {q : Region} {guard : ℕ} {
         rw (ne-eqb (numberOf vs bs) 4096 other, held) (bit-is (keep bs))
 
     -- a region breaks at a state exactly where the slices say so
-    pub breaks-is : (s : ℕ) → s < count vs → (to : ℕ) → Moved vs keep q s to
+    pub breaks-is : (s : ℕ) → s < count vs → (to : ℕ) → to ≡ outcomeNumber vs (outcome q vs (stateAt vs s))
         → breaks vs keep q (stateAt vs s) ≡ breaksBy kept′ holds′ guard s to
     unfolding breaks breaksBy
     breaks-is s low to t =
@@ -66,10 +66,10 @@ module _ {vs : List Var} {keep : List ℤ → Bool} {q : Region} {guard : ℕ} {
         tests-equal (breaks vs keep q (stateAt vs s)) (breaksBy kept′ holds′ guard s to)
         (λ h. let u = both (keep (stateAt vs s) && truth (q .guard) vs (stateAt vs s)) (not (keptAfter keep o)) h in
         let (k, g) = both (keep (stateAt vs s)) (truth (q .guard) vs (stateAt vs s)) (u .0) in
-        and (ap (failsBy kept′) (t .number k g) ∙ fails ∙ u .1) (runs-true l s low k g))
+        and (ap (failsBy kept′) t ∙ fails ∙ u .1) (runs-true l s low k g))
         (λ h. let u = both (failsBy kept′ to) (runsBy kept′ holds′ guard s) h in
         let (k, g) = runs-parts l s low (u .1) in
-        and (and k g) (sym fails ∙ sym (ap (failsBy kept′) (t .number k g)) ∙ u .0))
+        and (and k g) (sym fails ∙ sym (ap (failsBy kept′) t) ∙ u .0))
 
 -- All regions
 
@@ -78,7 +78,7 @@ numbered-below [] i a e = no-some e
 numbered-below (x ∷ xs) zero a e = omega arith
 numbered-below (x ∷ xs) (suc i) a e = let h = numbered-below xs i a e in omega arith
 
-module _ (m : Monitor) (rows : List ℕ) (outcomes : Outcomes m (keptAt m) rows) where
+module _ (m : Monitor) (rows : List ℕ) (outcomes : Outcomes m rows) where
   module _ (numbers kept′ holds′ : List ℕ) (good : GoodRanges (vars m)) (few : count (vars m) ≤ 4096)
       (by-kept : KeptAll m kept′) (by-holds : HoldsAll m holds′) (by-number : GuardNumbers m numbers) where
     -- region j at state s, by the slices
@@ -94,7 +94,7 @@ module _ (m : Monitor) (rows : List ℕ) (outcomes : Outcomes m (keptAt m) rows)
         let same : region m j ≡ q = Option·some-injective _ _ (sym (region-numbered m j low) ∙ e) in
         subst (λ (u : Region). breaks (vars m) (keptAt m) u (stateAt (vars m) s) ≡ Breaks j s) same
         (breaks-is (looked m (keptAt m) numbers kept′ holds′ by-number (row-of-kept m kept′ by-kept) by-holds j low)
-        good few s h _ (outcomes j low .each s h))
+        good few s h _ (outcomes j s low h))
 
     pub never : ((j : ℕ) → j < length (regions m) → (s : ℕ) → s < count (vars m) → Breaks j s ≡ false)
         → BrokenAs Never (broken m)
@@ -137,6 +137,6 @@ module _ (m : Monitor) (rows : List ℕ) (outcomes : Outcomes m (keptAt m) rows)
       let g = sym (holds-guard m one-cond r s) ∙ holding in
       let o = outcome (region m r) (vars m) (stateAt (vars m) s) in
       let quiet = where-none-iff (vars m) (breaks (vars m) (keptAt m)) (regions m) .0 e r (region m r) (region-numbered m r h) s low in
-      outcomes r h .each s low .number k g
+      outcomes r s h low
       ∙ split (keptAfter (keptAt m) o) (kept-number (vars m) (keptAt m) s o)
       (λ f. clash (and (and k g) (true-not f)) quiet)

@@ -9,7 +9,6 @@ ghost use lib.Dec.{eqb};
 ghost use Rattle.machine.specs.Limits.{mostRegions, mostStates, mostAfter};
 ghost use Rattle.syntax.specs.Tree.{Monitor};
 ghost use Rattle.meaning.specs.Model.{vars, regions};
-ghost use Rattle.meaning.specs.Kept.{keptAt};
 ghost use Rattle.meaning.specs.Decide.Check.{broken};
 ghost use Rattle.variables.specs.Bounded.{Bounded};
 ghost use Rattle.sets.specs.Set.{member};
@@ -73,7 +72,7 @@ pub fn first_broken(
     ensures { λ r. ⌜ ((m : Monitor) → Bounded (vars m) bounds → count ≡ length (regions m) → count ≤ mostRegions
         → GuardNumbers m «guard_of» → mostStates ≤ length (now (kept .entry)) → mostStates ≤ length (now (holds .entry))
         → mostAfter ≤ length (now (after .entry)) → KeptAll m (now (kept .entry)) → HoldsAll m (now (holds .entry))
-        → Outcomes m (keptAt m) (now (after .entry)) → BrokenAs r (broken m)) ⌝ }
+        → Outcomes m (now (after .entry)) → BrokenAs r (broken m)) ⌝ }
 {
     if kept.len() < machine::STATES {
         return Broken::Never;

@@ -115,7 +115,7 @@ module _ {m : Monitor} {states : ℕ} {guard-of : List ℕ} {regions-of start tr
         let o = outcome q (vars m) as′ in
         let l = looked m (truth (m .keep) (vars m)) guard-of keep holds (held .by-number) (held .by-keep) (held .by-holds) r
         below in
-        let moved = held .outcomes r below .each s few in
+        let moved = held .outcomes r s below few in
         let ends = ends-is u low o (outcome-state (held .good) q s few) in
         tests-equal _ _
         (λ h.
@@ -124,13 +124,13 @@ module _ {m : Monitor} {states : ℕ} {guard-of : List ℕ} {regions-of start tr
         let k = bit-one (truth (m .keep) (vars m) as′) (sym (held .by-keep s few) ∙ eqb-true (getD keep s 0) 1 h-keep) in
         let g = sym (l .by-guard s few) ∙ h-guard in
         and (and (and k (sym (all-there m tried (held .by-tries) few-tries set xs is s few) ∙ h-set)) g)
-        (sym ends ∙ ap (λ (n : ℕ). ltb n 4096 && not (member (getD tried n 0) u)) (sym (moved .number k g)) ∙ and h-to f))
+        (sym ends ∙ ap (λ (n : ℕ). ltb n 4096 && not (member (getD tried n 0) u)) (sym moved) ∙ and h-to f))
         (λ h.
         let (b, f) = both (binds m xs q as′) (endsFalse (vars m) (tryAt m u) o) h in
         let (x, g) = both (truth (m .keep) (vars m) as′ && allHold m xs as′) (truth (q .guard) (vars m) as′) b in
         let (k, a) = both (truth (m .keep) (vars m) as′) (allHold m xs as′) x in
         let (h-to, h-f) = both (ltb to 4096) (not (member (getD tried to 0) u))
-        (ap (λ (n : ℕ). ltb n 4096 && not (member (getD tried n 0) u)) (moved .number k g) ∙ ends ∙ f) in
+        (ap (λ (n : ℕ). ltb n 4096 && not (member (getD tried n 0) u)) moved ∙ ends ∙ f) in
         and (bound keep holds tried guard set s to (not-true (all-there m tried (held .by-tries) few-tries set xs is s few ∙ a))
         (eq-eqb (getD keep s 0) 1 (held .by-keep s few ∙ bit-true k)) h-to ∙ l .by-guard s few ∙ g) h-f)
 

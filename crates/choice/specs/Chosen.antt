@@ -33,7 +33,7 @@ pub record Tried (m : Monitor) (states : ℕ) (guard-of : List ℕ) (count-of st
   pub by-keep : TruthRow (vars m) (truth (m .keep) (vars m)) keep
   pub by-holds : HoldsAll m holds
   pub by-tries : TruthSets (vars m) (m .tries) tried
-  pub outcomes : Outcomes m (truth (m .keep) (vars m)) after
+  pub outcomes : Outcomes m after
 
 -- what becomes of a try, as it is held: of one that no body breaks all numbers are 0 (R 16.18)
 unfoldable pub slotFor : Fate → Slot

@@ -176,7 +176,7 @@ fn drop_pass(
 }
 
 // The choice among so many tries, of which those that hold at each state are held in `tried`: `start` is the state at
-// the start values, `after` has the outcomes of the bodies where keep and the guard hold.
+// the start values, `after` has the outcomes of the bodies.
 pub fn choose(
     states: usize,
     guard_of: [u8; machine::REGIONS],

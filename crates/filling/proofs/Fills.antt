@@ -15,11 +15,11 @@ use Rattle.meaning.specs.Kept.{keptAt}
 use Rattle.meaning.specs.Decide.Check.{broken}
 use Rattle.meaning.specs.Decide.Choice.{chosenTries, chosenBits}
 use Rattle.meaning.specs.Model.{vars}
-use Rattle.meaning.proofs.Choosing.{kept-iff, start-kept}
+use Rattle.meaning.proofs.Choosing.{start-kept}
 use Rattle.variables.specs.declared.Bounds.{Bounds}
 use Rattle.layout.specs.declared.Layout.{Layout}
 use Rattle.layout.specs.declared.Tries.{Tries}
-use Rattle.states.specs.Rows.{TruthRow, TruthSets, GuardNumbers, KeptAll, Outcomes}
+use Rattle.states.specs.Rows.{TruthRow, TruthSets, GuardNumbers, KeptAll}
 use Rattle.breaking.specs.Broken.{BrokenAs}
 use Rattle.states.proofs.Holding.{kept-of-row}
 use Rattle.breaking.proofs.Breaking.{after-all}
@@ -60,14 +60,6 @@ passed : (o : Option (ℕ × ℕ)) {x : Broken} → BrokenAs x o → x ≡ Never
 unfolding BrokenAs
 passed none a e = refl
 passed (some q) a e = different (cc)
-
--- an outcome where keep and the guard hold is one where the kept condition and the guard do
-pub outcomes-kept : (m : Monitor) (rows : List ℕ) → Outcomes m (truth (m .keep) (vars m)) rows → Outcomes m (keptAt m) rows
-unfolding Outcomes
-outcomes-kept m rows o r h =
-    record {
-      each = λ s low. record { number = λ k g. o r h .each s low .number (kept-iff m _ .0 k .0) g };
-    }
 
 -- the row of keep, with the chosen tries: that of the kept condition
 pub kept-strong : (m : Monitor) (tried kept₀ kept : List ℕ) (chosen : ℕ) → length (m .tries) ≤ 16

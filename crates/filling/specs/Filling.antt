@@ -20,7 +20,7 @@ use Rattle.filling.specs.declared.Settled.{Settled}
 pub record Rows (m : Monitor) (kept holds after : List ℕ) : Type 0 where
   pub by-kept : KeptAll m kept
   pub by-holds : HoldsAll m holds
-  pub outcomes : Outcomes m (keptAt m) after
+  pub outcomes : Outcomes m after
 
 -- each slice is as long as it was
 abbrev pub AsLong : List ℕ → List ℕ → List ℕ → List ℕ → List ℕ → List ℕ → Type 0

@@ -10,7 +10,6 @@ use lib.Dec.{eqb, ltb}
 use lib.IntN.{ℤ}
 use borrow.Author.Tests.{ltb-true, ltb-false, lt-ltb, le-ltb, eq-eqb, ne-eqb}
 use Rattle.syntax.specs.Tree.{Monitor}
-use Rattle.syntax.proofs.Grammar.{one-cond}
 use Rattle.sets.specs.Set.{member}
 use Rattle.logic.specs.Tests.{bit}
 use Rattle.logic.proofs.Bools.{split, is-false}
@@ -19,12 +18,12 @@ use Rattle.meaning.specs.Runs.{State}
 use Rattle.meaning.specs.Decide.Bodies.{outcome}
 use Rattle.meaning.specs.Model.{vars, regions, guards, region, guardOf, holds, kept}
 use Rattle.meaning.specs.Outline.{moveOf, move}
-use Rattle.meaning.proofs.ModelLaws.{guard-below, holds-guard, holds-below}
+use Rattle.meaning.proofs.ModelLaws.{guard-below, holds-below}
 use Rattle.meaning.proofs.StateLaws.{number-below}
 use Rattle.variables.specs.declared.Bounds.{Bounds}
 use Rattle.layout.specs.declared.Layout.{Layout}
 use Rattle.states.specs.Rows.{GuardNumbers, KeptAll, HoldsAll, Outcomes, outcomeNumber}
-use Rattle.states.proofs.Holding.{kept-truth, guards-few}
+use Rattle.states.proofs.Holding.{guards-few}
 use Rattle.states.proofs.Held.{outcome-state}
 use Rattle.lookup.specs.Slices.{moveBy, moveIn}
 use Rattle.lookup.specs.Looked.{Looked, faultsMark, neverMark, moveNumber}
@@ -122,12 +121,8 @@ module _ {m : Monitor} {b : Bounds} {l : Layout} {kept′ holds′ after′ : Li
           ∙ holding (guardOf m q) (omega (arith, guard-below m q within, few-guards)) in
           split (kept m n)
           (λ on. split (holds m (guardOf m q) n)
-          (λ h.
-          let (_, truly) = kept-truth m n on in
-          let guard = sym (holds-guard m one-cond q n) ∙ h in
-          let to = k .outcomes q within .each n low .number truly guard in
-          rw (moveIn, move, below, t, number, on, h)
+          (λ h. rw (moveIn, move, below, t, number, on, h)
           (ended _ (outcome (region m q) (vars m) (stateAt (vars m) n))
-          (outcome-state (k .bounded .good) (region m q) n low) to))
+          (outcome-state (k .bounded .good) (region m q) n low) (k .outcomes q n within low)))
           (λ h. rw (moveIn, move, below, t, number, on, h)))
           (λ off. rw (moveIn, move, below, t, off))

@@ -9,7 +9,6 @@ use Rattle.machine.specs.Limits.{mostRegions}
 use Rattle.sets.specs.Set.{member}
 use Rattle.syntax.specs.Tree.{Var, Monitor}
 use Rattle.meaning.specs.State.{count, stateAt, numberOf}
-use Rattle.meaning.specs.Kept.{keptAt}
 use Rattle.meaning.specs.Held.{Biased}
 use Rattle.meaning.specs.Runs.{State}
 use Rattle.meaning.specs.Model.{vars, regions, guards, holds, kept}
@@ -30,7 +29,7 @@ pub record Looked (m : Monitor) (b : Bounds) (l : Layout) (kept′ holds′ afte
   pub guard-numbers : GuardNumbers m (l .«guard_of»)
   pub by-kept : KeptAll m kept′
   pub by-holds : HoldsAll m holds′
-  pub outcomes : Outcomes m (keptAt m) after′
+  pub outcomes : Outcomes m after′
 
 -- a move as a number: in the place of a state after a body, that it assigns outside a range or does not run (R 16.14)
 abbrev pub faultsMark : ℕ

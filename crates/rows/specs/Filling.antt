@@ -35,7 +35,7 @@ pub record Swept (m : Monitor) (keep holds tried after : List ℕ) : Type 0 wher
   pub by-keep : TruthRow (vars m) (truth (m .keep) (vars m)) keep
   pub by-holds : HoldsAll m holds
   pub by-tries : TruthSets (vars m) (m .tries) tried
-  pub outcomes : Outcomes m (truth (m .keep) (vars m)) after
+  pub outcomes : Outcomes m after
 
 -- the texts of the guards, each where its first region has it, and of the tries
 pub record GuardTexts (l : Layout) (n : Mentions) (r : Texts) : Type 0 where

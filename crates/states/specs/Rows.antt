@@ -9,7 +9,7 @@ use lib.IntN.{ℤ}
 use Rattle.machine.specs.Limits.{mostStates}
 use Rattle.sets.specs.Set.{member}
 use Rattle.syntax.specs.Token.{Lexeme, mark, rbrace}
-use Rattle.syntax.specs.Tree.{Var, Cond, Region, Monitor, spellCond, spellBlock}
+use Rattle.syntax.specs.Tree.{Var, Cond, Monitor, spellCond, spellBlock}
 use Rattle.logic.specs.Tests.{bit}
 use Rattle.machine.specs.Decide.Table.{runs}
 use Rattle.meaning.specs.Value.{truth}
@@ -62,18 +62,9 @@ unfoldable pub outcomeNumber : List Var → Option (List ℤ) → ℕ
 outcomeNumber vs none = faultMark
 outcomeNumber vs (some as′) = numberOf vs as′
 
--- the outcome of a region's body from state s, where a test of the values and the guard hold there
-pub record Moved (vs : List Var) (keep : List ℤ → Bool) (q : Region) (s to : ℕ) : Type 0 where
-  pub number :
-      keep (stateAt vs s) ≡ true → truth (q .guard) vs (stateAt vs s) ≡ true
-      → to ≡ outcomeNumber vs (outcome q vs (stateAt vs s))
-
--- the same for every state below n
-pub record Row (vs : List Var) (keep : List ℤ → Bool) (q : Region) (n : ℕ) (f : ℕ → ℕ) : Type 0 where
-  pub each : (s : ℕ) → s < n → Moved vs keep q s (f s)
-
--- and for every region: that of region r from state s at r * 4096 + s
-unfoldable pub Outcomes : Monitor → (List ℤ → Bool) → List ℕ → Type 0
-Outcomes m keep rows =
-    (r : ℕ) → r < length (regions m)
-    → Row (vars m) keep (region m r) (count (vars m)) (λ s. getD rows (r * 4096 + s) 0)
+-- the outcome of every region's body from every state, whether it may run there or not: that of region r from state s
+-- at r * mostStates + s
+unfoldable pub Outcomes : Monitor → List ℕ → Type 0
+Outcomes m rows =
+    (r s : ℕ) → r < length (regions m) → s < count (vars m)
+    → getD rows (r * mostStates + s) 0 ≡ outcomeNumber (vars m) (outcome (region m r) (vars m) (stateAt (vars m) s))

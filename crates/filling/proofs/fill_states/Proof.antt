@@ -20,7 +20,7 @@ use Rattle.rows.specs.Filling.{Filling, Swept}
 use Rattle.breaking.specs.Broken.{BrokenAs}
 use Rattle.choice.specs.Chosen.{Chooses}
 use Rattle.filling.specs.Filling.{Rows, AsLong}
-use Rattle.filling.proofs.Fills.{numbers-of, outcomes-kept, kept-strong, said, settled-9, settled-0}
+use Rattle.filling.proofs.Fills.{numbers-of, kept-strong, said, settled-9, settled-0}
 use Rattle.filling.proofs.fill_states.Statement.{statement}
 use Rattle.filling.proofs.fill_states.Tie as tie
 
@@ -121,7 +121,7 @@ module _ (c : At) {m : Monitor} {ls : List Lexeme} (f : Given c m ls) (named : M
       record {
         by-kept = by-kept;
         by-holds = swept .by-holds;
-        outcomes = outcomes-kept m (after-rows c) (swept .outcomes);
+        outcomes = swept .outcomes;
       }
 
   broken-as : BrokenAs (c .first-broken .result) (broken m)

@@ -1,8 +1,6 @@
 -- `rows::fill_rows` meets its contract: what each call fills, of the texts that it is handed.
 use native.Mathlib.Omega.{arith}
 use Rattle.meaning.specs.Model.{vars, guards}
-use Rattle.meaning.specs.Value.{truth}
-use Rattle.bodies.proofs.Filled.{outcomes-of}
 use Rattle.rows.proofs.Texts.{keeping, guarding, trying, bodies-of, holds-of}
 use Rattle.rows.proofs.fill_rows.Statement.{statement}
 use Rattle.rows.proofs.fill_rows.Tie as tie
@@ -22,10 +20,8 @@ returns c m ls f named l₁ l₂ l₃ l₄ =
           tries .fill-sets2 .ensures (vars m) (m .tries) (trying f named (tries .before .before .try-texts .ensures))
           (λ some. l₃ (omega (arith, tries .before .before .try-texts .ensures .counted)));
       outcomes =
-          outcomes-of m _
-          (last .fill-after .ensures m ls (f .codes) (f .bounded) (f .few) (f .laid .region-count)
-          (omega (arith, f .laid .region-count, f .few-regions)) (bodies-of f named) (named .bodies) l₄)
-          (truth (m .keep) (vars m));
+          last .fill-after .ensures m ls (f .codes) (f .bounded) (f .few) (f .laid .region-count)
+          (omega (arith, f .laid .region-count, f .few-regions)) (bodies-of f named) (named .bodies) l₄;
     }
 
 pub fill-rows-spec : {M : Type 1} → statement M
