@@ -1,4 +1,3 @@
 pub mod Filled
 pub mod Shifting
 pub mod Stretches
-pub mod Summing

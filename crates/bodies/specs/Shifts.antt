@@ -1,6 +1,6 @@
--- The outcome of every body from every state, and what the functions inside promise to each other: a state's number as
--- a sum, what a body does to it as a shift, and sixteen places written in a row.
-use Prim.Native.Nat.{ℕ, _+_, _-_, _*_, _%_, _<_, _≤_}
+-- The outcome of every body from every state, and what the functions inside promise to each other: what a body does to
+-- a state's number as a shift, and sixteen places written in a row.
+use Prim.Native.Nat.{ℕ, _+_, _*_, _%_, _<_, _≤_}
 use mathlib.Core.Path.{_≡_}
 use mathlib.Core.Bool.{Bool, true, false, cond}
 use mathlib.Core.List.{List, _∷_, _++_}
@@ -18,17 +18,6 @@ use Rattle.variables.specs.Bounded.{Bounded}
 use Rattle.variables.specs.declared.Bounds.{Bounds}
 use Rattle.states.specs.Rows.{faultMark, outcomeNumber, BodiesAt}
 use Rattle.lanes.specs.Promises.{Values}
-
--- Numbers
-
--- what a value adds to a state's number, and the most that it can
-unfoldable pub share : ℕ → ℕ → ℕ → ℕ
-share value low weight = (value + (65536 - low)) % 4096 * (weight % 8192)
-
-abbrev pub mostShare : ℕ
-mostShare = 33542145
-
--- Shifts
 
 -- the number of the state after a body that shifts state s so, or the mark of a fault
 unfoldable pub unshift : ℕ → ℕ → ℕ

@@ -1,65 +1,55 @@
 // Runs the body of every region from every state, sixteen states at a time, each in a lane. What a body does to a
 // state's number is held as a shift: a number that is added to it, modulo 4,096, or FAULT. A body is run anew only
 // where a variable that its text names changed from the last sixteen states to these; else its shifts serve again.
+use machine::StateNumber;
 use variables::Bounds;
 ghost use mathlib.Core.Path.{_≡_};
-ghost use mathlib.Core.Bool.{true, false};
 ghost use mathlib.Core.List.{List};
 ghost use Prim.Native.Nat.{ℕ, _+_, _*_, _<_, _≤_};
 ghost use lib.ListN.{length, getD};
-ghost use lib.IntN.{ℤ};
 ghost use Rattle.syntax.specs.Limits.{mostBytes, mostVars};
 ghost use Rattle.machine.specs.Limits.{mostRegions, mostStates, mostAfter};
 ghost use Rattle.syntax.specs.Token.{Lexeme};
-ghost use Rattle.syntax.specs.Tree.{Monitor, Var, spellBlock};
-ghost use Rattle.meaning.specs.State.{numberOf};
-ghost use Rattle.meaning.specs.Runs.{State};
+ghost use Rattle.syntax.specs.Tree.{Monitor, spellBlock};
 ghost use Rattle.meaning.specs.Model.{vars, regions, region};
-ghost use Rattle.meaning.specs.Held.{Biased};
+ghost use Rattle.meaning.specs.SixteenBits.{wrapped, share};
 ghost use Rattle.evaluator.specs.Coding.{Codes, Covers, lane};
-ghost use Rattle.variables.specs.Bounded.{Bounded};
+ghost use Rattle.variables.specs.Bounded.{Bounded, NumberOf};
 ghost use Rattle.states.specs.Rows.{BodiesAt, Outcomes};
 ghost use Rattle.lanes.specs.Promises.{Sixteen, Values, Apart};
-ghost use Rattle.bodies.specs.Shifts.{unshift, share, mostShare, ShiftOf, Stretch, Noted, Ran, Filling};
+ghost use Rattle.bodies.specs.Shifts.{unshift, ShiftOf, Stretch, Noted, Ran, Filling};
 ghost use Rattle.bodies.specs.Shifts.{Serves, AllServe, PutRows};
 
 // How many numbers there are for shifts.
-const RING: u32 = 4096;
+const SHIFTS: StateNumber = machine::STATE_END;
 
-// The same, in the type in which shifts are held.
-const SHIFTS: u16 = machine::STATE_END;
-
-// A number, as wide as the sums are.
-fn wide(x: u16) -> u32
-    ensures { λ r. ⌜ (r ≡ x) × (r ≤ 65535) ⌝ }
-{
-    x as u32
-}
-
-// Numbers in sixteen lanes, with what the values of variable k add: each less the lowest, as often as it weighs. The
-// remainders keep the sums small for any bounds.
-fn with_shares(sums: [u32; 16], lanes: &[u16; 96], k: usize, low: u16, weight: u16) -> [u32; 16]
-    requires { ⌜ (k < mostVars) × ((j : ℕ) → j < 16 → getD sums j 0 ≤ k * mostShare) ⌝ }
+// Numbers in sixteen lanes, with what the values of variable k add.
+fn with_shares(
+    sums: [StateNumber; 16],
+    lanes: &[u16; 96],
+    k: usize,
+    low: u16,
+    weight: u16,
+) -> [StateNumber; 16]
+    requires { ⌜ k < mostVars ⌝ }
     ensures { λ r. ⌜ ((j : ℕ) → j < 16
-        → getD r j 0 ≡ getD sums j 0 + share (getD (now (lanes .entry)) (k * 16 + j) 0) low weight) ⌝ }
+        → getD r j 0 ≡ wrapped (getD sums j 0 + share wrapped (getD (now (lanes .entry)) (k * 16 + j) 0) low weight)) ⌝ }
 {
-    let up = 65536 - wide(low);
-    let times = wide(weight) % 8192;
-    let mut more = [0u32; 16];
+    let mut more = [0u16; 16];
     let mut j: usize = 0;
     while j < 16 {
-        more[j] = sums[j] + (wide(lanes[k * 16 + j]) + up) % RING * times;
+        let share = variables::share_of(lanes[k * 16 + j], low, weight);
+        more[j] = variables::plus(sums[j], share);
         j += 1;
     }
     more
 }
 
 // The number of the state in each lane.
-fn numbers(bounds: Bounds, lanes: &[u16; 96]) -> [u32; 16]
-    ensures { λ r. ⌜ ((vs : List Var) (as′ : List ℤ) (j : ℕ) → j < 16 → Bounded vs bounds
-        → Biased vs as′ (lane (now (lanes .entry)) j) → State vs as′ → getD r j 0 ≡ numberOf vs as′) ⌝ }
+fn numbers(bounds: Bounds, lanes: &[u16; 96]) -> [StateNumber; 16]
+    ensures { λ r. ⌜ ((j : ℕ) → j < 16 → NumberOf bounds (lane (now (lanes .entry)) j) (getD r j 0)) ⌝ }
 {
-    let mut sums = [0u32; 16];
+    let mut sums = [0u16; 16];
     let mut k: usize = 0;
     while k < syntax::VARIABLES {
         if bounds.count <= k {
@@ -73,18 +63,18 @@ fn numbers(bounds: Bounds, lanes: &[u16; 96]) -> [u32; 16]
 }
 
 // The shift from state s to the state with a number, or FAULT.
-fn shift_of(ok: bool, to: u32, s: usize) -> u16
+fn shift_of(ok: bool, to: StateNumber, s: StateNumber) -> u16
     requires { ⌜ s < mostStates ⌝ }
     ensures { λ r. ⌜ ShiftOf ok to s r ⌝ }
 {
     if !ok {
         return states::FAULT;
     }
-    ((to % RING + RING - s as u32) % RING) as u16
+    (to % SHIFTS + SHIFTS - s) % SHIFTS
 }
 
 // The shifts of region r from the sixteen states from s on, of a body that was run in their lanes.
-fn note(bounds: Bounds, ok: u16, ended: &[u16; 96], s: usize, r: usize, shifts: &mut [u16])
+fn note(bounds: Bounds, ok: u16, ended: &[u16; 96], s: StateNumber, r: usize, shifts: &mut [u16])
     requires { ⌜ (s ≤ 4080) × (r < mostRegions) × (length (now shifts) ≡ 256) ⌝ }
     ensures { λ _. ⌜ Stretch (r * 16) (Noted bounds ok (now (ended .entry)) s) (now (shifts .entry))
         (now (shifts .exit)) 16 ⌝ }
@@ -92,7 +82,7 @@ fn note(bounds: Bounds, ok: u16, ended: &[u16; 96], s: usize, r: usize, shifts: 
     let to = numbers(bounds, ended);
     let mut j: usize = 0;
     while j < 16 {
-        shifts[r * 16 + j] = shift_of(sets::has(ok, j as u32), to[j], s + j);
+        shifts[r * 16 + j] = shift_of(sets::has(ok, j as u32), to[j], s + j as u16);
         j += 1;
     }
 }
@@ -104,7 +94,7 @@ fn run_from(
     bounds: Bounds,
     lanes: [u16; 96],
     at: usize,
-    s: usize,
+    s: StateNumber,
     r: usize,
     shifts: &mut [u16],
 )
@@ -129,7 +119,7 @@ fn shifts_from(
     named: [u16; machine::REGIONS],
     count: usize,
     what: u16,
-    s: usize,
+    s: StateNumber,
     shifts: &mut [u16],
 )
     requires { ⌜ (s ≤ 4080) × (count ≤ mostRegions) × (length (now shifts) ≡ 256) ⌝ }
@@ -149,7 +139,7 @@ fn shifts_from(
 }
 
 // The number of the state after a body that shifts state s so.
-fn shifted(s: u16, shift: u16) -> u16
+fn shifted(s: StateNumber, shift: u16) -> StateNumber
     requires { ⌜ s < mostStates ⌝ }
     ensures { λ r. ⌜ r ≡ unshift s shift ⌝ }
 {
@@ -161,22 +151,22 @@ fn shifted(s: u16, shift: u16) -> u16
 }
 
 // The outcomes of region r from the sixteen states from s on, by its shifts.
-fn put_row(shifts: &[u16], r: usize, s: usize, after: &mut [u16])
+fn put_row(shifts: &[u16], r: usize, s: StateNumber, after: &mut [StateNumber])
     requires { ⌜ (s ≤ 4080) × (r < mostRegions) × (length (now shifts) ≡ 256) × (mostAfter ≤ length (now after)) ⌝ }
     ensures { λ _. ⌜ Stretch (r * mostStates + s)
         (λ j x. x ≡ unshift (s + j) (getD (now (shifts .entry)) (r * 16 + j) 0))
         (now (after .entry)) (now (after .exit)) 16 ⌝ }
 {
-    let at = r * machine::STATES + s;
+    let at = r * machine::STATES + s as usize;
     let mut j: usize = 0;
     while j < 16 {
-        after[at + j] = shifted((s + j) as u16, shifts[r * 16 + j]);
+        after[at + j] = shifted(s + j as u16, shifts[r * 16 + j]);
         j += 1;
     }
 }
 
 // The same of every region.
-fn put_rows(shifts: &[u16], count: usize, s: usize, after: &mut [u16])
+fn put_rows(shifts: &[u16], count: usize, s: StateNumber, after: &mut [StateNumber])
     requires { ⌜ (s ≤ 4080) × (count ≤ mostRegions) × (length (now shifts) ≡ 256) × (mostAfter ≤ length (now after)) ⌝ }
     ensures { λ _. ⌜ PutRows (now (shifts .entry)) count s (now (after .entry)) (now (after .exit)) ⌝ }
 {
@@ -197,7 +187,7 @@ pub fn fill_after(
     ats: [u16; machine::REGIONS],
     named: [u16; machine::REGIONS],
     count: usize,
-    after: &mut [u16],
+    after: &mut [StateNumber],
 )
     ensures { λ _. ⌜ ((m : Monitor) (ls : List Lexeme)
         → Codes (vars m) ls (now (kinds .entry)) (now (values .entry)) → Bounded (vars m) bounds → length ls ≤ mostBytes
@@ -212,13 +202,13 @@ pub fn fill_after(
         return;
     }
     let states = bounds.states;
-    if machine::STATES < states {
+    if machine::STATE_END < states {
         return;
     }
     let mut lanes = lanes::first_lanes(bounds);
     let mut what: u16 = 65535;
     let mut shifts = [0u16; 256];
-    let mut s: usize = 0;
+    let mut s: StateNumber = 0;
     while s < states {
         shifts_from(
             kinds,

@@ -1,5 +1,6 @@
 // Refusal 9 by look-up: the lowest region, then the lowest state from which the outcome of its body is a fault or not
 // kept.
+use machine::StateNumber;
 use variables::Bounds;
 ghost use mathlib.Core.Path.{_≡_};
 ghost use mathlib.Core.Bool.{_&&_};
@@ -18,21 +19,21 @@ ghost use Rattle.breaking.specs.Broken.{BrokenAs, failsBy, breaksBy, Low
 // Every region keeps, or the lowest region and then the lowest state from which one does not (9).
 pub enum Broken {
     Never,
-    At(usize, usize),
+    At(usize, StateNumber),
 }
 
 // Is an outcome a fault, or a state at which the kept condition is false?
-fn fails(kept: &[u8], to: u16) -> bool
+fn fails(kept: &[u8], to: StateNumber) -> bool
     ensures { λ r. ⌜ r ≡ failsBy (now (kept .entry)) to ⌝ }
 {
     if to == states::FAULT {
         return true;
     }
-    states::byte_at(kept, states::wide(to)) != 1
+    states::byte_at(kept, to) != 1
 }
 
 // Does a region break at a state, by what is held of that state (`here`, `held`) and the outcome of its body?
-fn breaks_at(kept: &[u8], here: u8, held: u16, guard: u8, to: u16) -> bool
+fn breaks_at(kept: &[u8], here: u8, held: u16, guard: u8, to: StateNumber) -> bool
     ensures { λ r. ⌜ r ≡ (failsBy (now (kept .entry)) to && (eqb here 1 && member held guard)) ⌝ }
 {
     if here != 1 {
@@ -45,14 +46,21 @@ fn breaks_at(kept: &[u8], here: u8, held: u16, guard: u8, to: u16) -> bool
 }
 
 // The lowest state at which a region breaks, by the outcomes of its body; the count of states where it never does.
-fn first_in_row(row: &[u16], states: usize, guard: u8, kept: &[u8], holds: &[u16]) -> usize
+fn first_in_row(
+    row: &[StateNumber],
+    states: StateNumber,
+    guard: u8,
+    kept: &[u8],
+    holds: &[u16],
+) -> StateNumber
     requires { ⌜ (states ≤ length (now row)) × (states ≤ length (now kept)) × (states ≤ length (now holds)) ⌝ }
     ensures { λ r. ⌜ Lowest
         (λ s. breaksBy (now (kept .entry)) (now (holds .entry)) guard s (getD (now (row .entry)) s 0)) states r ⌝ }
 {
-    let mut s: usize = 0;
+    let mut s: StateNumber = 0;
     while s < states {
-        if breaks_at(kept, kept[s], holds[s], guard, row[s]) {
+        let at = s as usize;
+        if breaks_at(kept, kept[at], holds[at], guard, row[at]) {
             return s;
         }
         s += 1;
@@ -67,7 +75,7 @@ pub fn first_broken(
     count: usize,
     kept: &[u8],
     holds: &[u16],
-    after: &[u16],
+    after: &[StateNumber],
 ) -> Broken
     ensures { λ r. ⌜ ((m : Monitor) → Bounded (vars m) bounds → count ≡ length (regions m) → count ≤ mostRegions
         → GuardNumbers m «guard_of» → mostStates ≤ length (now (kept .entry)) → mostStates ≤ length (now (holds .entry))
@@ -87,7 +95,7 @@ pub fn first_broken(
         return Broken::Never;
     }
     let states = bounds.states;
-    if machine::STATES < states {
+    if machine::STATE_END < states {
         return Broken::Never;
     }
     let mut r: usize = 0;

@@ -111,7 +111,7 @@ pub fn start_of(loaded: Loaded) -> usize
     }
     let bounds = loaded.bounds;
     let starts = bounds.starts;
-    variables::number_of(bounds, starts)
+    variables::number_of(bounds, starts) as usize
 }
 
 // Both machines over what was loaded of a file: its refusal, or the runs of the trace from a start state.

@@ -1,14 +1,15 @@
 -- Which tests decide whether a state binds, one behind the other; and what a step does to a try's slot.
-use Prim.Native.Nat.{ℕ, zero, suc, _+_, _*_, _<_}
+use Prim.Native.Nat.{ℕ, zero, suc, _+_, _*_, _<_, _≤_}
 use native.Mathlib.Omega.{arith}
-use mathlib.Core.Path.{_≡_, refl, sym, ap, _∙_}
+use mathlib.Core.Path.{_≡_, refl, sym, _∙_}
 use mathlib.Core.Bool.{Bool, true, false, not, _&&_, and-false}
 use mathlib.Core.List.{List}
-use lib.ListN.{length, getD, set}
+use lib.ListN.{length, getD, set, take, drop}
 use lib.Seq.{getD-set-same}
 use lib.Dec.{eqb, ltb}
 use Rattle.logic.proofs.Bools.{both, is-false, clash, not-true}
 use Rattle.sets.specs.Set.{member}
+use Rattle.states.proofs.Regions.{part-at}
 use Rattle.choice.specs.Slots.{lacks, bindsBy, breaksRow, breaksBy, Slot, markSlot, markIf, rowSlot, rowsSlot}
 
 all-four : (a b c d : Bool) → a && b && c && d ≡ true → (a ≡ true) × (b ≡ true) × (c ≡ true) × (d ≡ true)
@@ -75,8 +76,8 @@ next-slot n f p r x y z b e h g = g ∙ sym (row-next n f p r x y b (sym e) h)
 pub row-same : {n k : ℕ} (f : ℕ → Bool) (p r : ℕ) (x : Slot) → n ≡ k → rowSlot n f p r x ≡ rowSlot k f p r x
 row-same f p r x e = rw e
 
--- a row by tests that agree, and one region more
-pub row-alike : (n : ℕ) (f g : ℕ → Bool) (p r : ℕ) (x : Slot) → ((s : ℕ) → s < n → f s ≡ g s)
+-- a row by tests that agree
+row-alike : (n : ℕ) (f g : ℕ → Bool) (p r : ℕ) (x : Slot) → ((s : ℕ) → s < n → f s ≡ g s)
     → rowSlot n f p r x ≡ rowSlot n g p r x
 unfolding rowSlot
 row-alike zero f g p r x h = refl
@@ -86,40 +87,30 @@ pub rows-none : (n : ℕ) (f : ℕ → ℕ → Bool) (p : ℕ) (x : Slot) → ro
 unfolding rowsSlot
 rows-none n f p x = refl
 
-pub rows-next : (k n : ℕ) (f : ℕ → ℕ → Bool) (p : ℕ) (x y z : Slot) (g : ℕ → Bool) → y ≡ rowsSlot k n f p x
-    → z ≡ rowSlot n g p k y → ((s : ℕ) → s < n → g s ≡ f k s)
-    → z ≡ rowsSlot (k + 1) n f p x
-unfolding rowsSlot
-rows-next k n f p x y z g e h same =
-    let one : k + 1 ≡ suc k = omega arith in
-    h ∙ row-alike n g (f k) p k y same ∙ rw one (rw e)
+-- one region more, whose row is lent
+module _ (after guard-of keep holds tried : List ℕ) (set u k n w p : ℕ) (x y z : Slot) where
+  pub rows-next : let f = breaksBy after guard-of keep holds tried set u in
+      let g = breaksRow (take w (drop (k * 4096) after)) (getD guard-of k 0) keep holds tried set u in
+      y ≡ rowsSlot k n f p x → z ≡ rowSlot n g p k y → w ≡ 4096 → n ≤ 4096 → z ≡ rowsSlot (k + 1) n f p x
+  unfolding breaksRow breaksBy rowsSlot
+  rows-next e h whole few =
+      let f = breaksBy after guard-of keep holds tried set u in
+      let g = breaksRow (take w (drop (k * 4096) after)) (getD guard-of k 0) keep holds tried set u in
+      let one : k + 1 ≡ suc k = omega arith in
+      rw (one, ← e) (h ∙ row-alike n g (f k) p k y (λ s low. rw (part-at after k w s whole (omega arith))))
 
 pub rows-same : {k j : ℕ} (n : ℕ) (f : ℕ → ℕ → Bool) (p : ℕ) (x : Slot) → k ≡ j → rowsSlot k n f p x ≡ rowsSlot j n f p x
 rows-same n f p x e = rw e
 
--- a region's row, lent
-pub row-of : (after guard-of keep holds tried row : List ℕ) (guard set u r s : ℕ) → guard ≡ getD guard-of r 0
-    → getD row s 0 ≡ getD after (r * 4096 + s) 0
-    → breaksRow row guard keep holds tried set u s ≡ breaksBy after guard-of keep holds tried set u r s
-unfolding breaksRow breaksBy
-row-of after guard-of keep holds tried row guard set u r s g e = rw (g, e)
-
--- what a state that binds breaks
+-- what a state that binds breaks: those of the tries that stand and are false behind the body
 module _ (row keep holds tried : List ℕ) (guard set u s to : ℕ) (is : to ≡ getD row s 0) where
-  pub broken-bit : (stands : Bool) → bindsBy keep holds tried guard set s to ≡ true
-      → stands && breaksRow row guard keep holds tried set u s ≡ stands && not (member (getD tried to 0) u)
+  pub broken-bit : (chosen x lost : ℕ) → bindsBy keep holds tried guard set s to ≡ true → x ≡ getD tried to 0
+      → member lost u ≡ member chosen u && not (member x u)
+      → member chosen u && breaksRow row guard keep holds tried set u s ≡ member lost u
   unfolding breaksRow
-  broken-bit stands h = rw (← is, h)
+  broken-bit chosen x lost h e g = rw (← is, h, ← e) (sym g)
 
   pub unbroken-bit : (stands : Bool) → bindsBy keep holds tried guard set s to ≡ false
       → stands && breaksRow row guard keep holds tried set u s ≡ false
   unfolding breaksRow
   unbroken-bit stands h = rw (← is, h) (and-false stands)
-
--- which of the tries that stand are false behind the body
-pub lost-bit : (tried : List ℕ) (chosen u x y to lost : ℕ) → x ≡ getD tried y 0 → y ≡ to
-    → member lost u ≡ member chosen u && not (member x u)
-    → member chosen u && not (member (getD tried to 0) u) ≡ member lost u
-lost-bit tried chosen u x y to lost e f g =
-    ap (λ (n : ℕ). member chosen u && not (member (getD tried n 0) u)) (sym f)
-    ∙ ap (λ (n : ℕ). member chosen u && not (member n u)) (sym e) ∙ sym g

@@ -1,17 +1,17 @@
 // The choice among a file's tries: from those that hold at the start values each pass drops what some body breaks, until
 // nothing is dropped; and the kept condition with the chosen ones in it.
+use machine::StateNumber;
 ghost use mathlib.Core.Path.{_≡_};
 ghost use mathlib.Core.Bool.{Bool, not, _&&_};
-ghost use mathlib.Core.List.{List};
 ghost use Prim.Native.Nat.{ℕ, _+_, _*_, _<_, _≤_};
 ghost use lib.ListN.{length, getD};
-ghost use lib.Dec.{eqb, ltb};
+ghost use lib.Dec.{eqb};
 ghost use Rattle.machine.specs.Limits.{mostRegions, mostStates, mostAfter};
 ghost use Rattle.syntax.specs.Limits.{mostTries};
 ghost use Rattle.syntax.specs.Tree.{Monitor};
 ghost use Rattle.logic.specs.Tests.{bit};
 ghost use Rattle.sets.specs.Set.{member};
-ghost use Rattle.choice.specs.Slots.{lacks, bindsBy, breaksBy, breaksRow, Slot, slotOf, markSlot, markIf, rowSlot};
+ghost use Rattle.choice.specs.Slots.{lacks, bindsBy, breaksBy, breaksRow, slotOf, markIf, rowSlot};
 ghost use Rattle.choice.specs.Slots.{rowsSlot};
 ghost use Rattle.choice.specs.Chosen.{Tried, Chooses};
 
@@ -21,7 +21,7 @@ pub struct Choice {
     pub chosen: u16,
     pub passes: [u8; syntax::TRIES],
     pub regions: [u8; syntax::TRIES],
-    pub states: [u16; syntax::TRIES],
+    pub states: [StateNumber; syntax::TRIES],
 }
 
 // A set of tries, of which none is dropped.
@@ -37,13 +37,6 @@ pub fn undropped(set: u16) -> Choice
     }
 }
 
-// A number as an index.
-fn wide(x: u16) -> usize
-    ensures { λ r. ⌜ r ≡ x ⌝ }
-{
-    x as usize
-}
-
 // Does a set lack a member of another?
 fn misses(set: u16, other: u16) -> bool
     ensures { λ r. ⌜ r ≡ lacks set other ⌝ }
@@ -52,7 +45,15 @@ fn misses(set: u16, other: u16) -> bool
 }
 
 // While a set of tries stands: do keep, the set and a guard hold at a state, from which the body stays in range?
-fn binds(keep: &[u8], holds: &[u16], tried: &[u16], guard: u8, set: u16, s: usize, to: u16) -> bool
+fn binds(
+    keep: &[u8],
+    holds: &[u16],
+    tried: &[u16],
+    guard: u8,
+    set: u16,
+    s: StateNumber,
+    to: StateNumber,
+) -> bool
     ensures { λ r. ⌜ r
         ≡ bindsBy (now (keep .entry)) (now (holds .entry)) (now (tried .entry)) guard set s to ⌝ }
 {
@@ -69,7 +70,7 @@ fn binds(keep: &[u8], holds: &[u16], tried: &[u16], guard: u8, set: u16, s: usiz
 }
 
 // Try i is dropped, in a pass, by a region from a state.
-fn mark(choice: Choice, i: usize, pass: u8, region: u8, state: u16) -> Choice
+fn mark(choice: Choice, i: usize, pass: u8, region: u8, state: StateNumber) -> Choice
     ensures { λ r. ⌜ ((u : ℕ) → u < mostTries
         → slotOf r u ≡ markIf (eqb u i) pass region state (slotOf choice u)) ⌝ }
 {
@@ -85,7 +86,7 @@ fn mark(choice: Choice, i: usize, pass: u8, region: u8, state: u16) -> Choice
 }
 
 // Those of a set are dropped.
-fn drop_all(choice: Choice, lost: u16, pass: u8, region: u8, state: u16) -> Choice
+fn drop_all(choice: Choice, lost: u16, pass: u8, region: u8, state: StateNumber) -> Choice
     ensures { λ r. ⌜ ((u : ℕ) → u < mostTries
         → slotOf r u ≡ markIf (member lost u) pass region state (slotOf choice u)) ⌝ }
 {
@@ -102,8 +103,8 @@ fn drop_all(choice: Choice, lost: u16, pass: u8, region: u8, state: u16) -> Choi
 
 // The states of one region, by the outcomes of its body: each try that it breaks while a set stands is dropped.
 fn drop_row(
-    row: &[u16],
-    states: usize,
+    row: &[StateNumber],
+    states: StateNumber,
     guard: u8,
     keep: &[u8],
     holds: &[u16],
@@ -113,20 +114,19 @@ fn drop_row(
     region: u8,
     before: Choice,
 ) -> Choice
-    requires { ⌜ states ≤ mostStates ⌝ }
     ensures { λ r. ⌜ ((u : ℕ) → u < mostTries
         → slotOf r u ≡ rowSlot states
         (breaksRow (now (row .entry)) guard (now (keep .entry)) (now (holds .entry)) (now (tried .entry)) set u) pass region
         (slotOf before u)) ⌝ }
 {
     let mut choice = before;
-    let mut s: usize = 0;
+    let mut s: StateNumber = 0;
     while s < states {
         let to = states::number_at(row, s);
         if binds(keep, holds, tried, guard, set, s, to) {
-            let lost = sets::minus(choice.chosen, states::number_at(tried, wide(to)));
+            let lost = sets::minus(choice.chosen, states::number_at(tried, to));
             if lost != 0 {
-                choice = drop_all(choice, lost, pass, region, s as u16);
+                choice = drop_all(choice, lost, pass, region, s);
             }
         }
         s += 1;
@@ -136,8 +136,8 @@ fn drop_row(
 
 // One pass over all regions.
 fn drop_pass(
-    after: &[u16],
-    states: usize,
+    after: &[StateNumber],
+    states: StateNumber,
     guard_of: [u8; machine::REGIONS],
     regions: usize,
     keep: &[u8],
@@ -178,21 +178,21 @@ fn drop_pass(
 // The choice among so many tries, of which those that hold at each state are held in `tried`: `start` is the state at
 // the start values, `after` has the outcomes of the bodies.
 pub fn choose(
-    states: usize,
+    states: StateNumber,
     guard_of: [u8; machine::REGIONS],
     regions: usize,
-    start: usize,
+    start: StateNumber,
     tries: usize,
     keep: &[u8],
     holds: &[u16],
-    after: &[u16],
+    after: &[StateNumber],
     tried: &[u16],
 ) -> Choice
     ensures { λ r. ⌜ ((m : Monitor) → Tried m states «guard_of» regions start tries (now (keep .entry))
         (now (holds .entry)) (now (after .entry)) (now (tried .entry)) → Chooses m r) ⌝ }
 {
     let mut choice = undropped(sets::below(states::number_at(tried, start), tries));
-    if machine::STATES < states {
+    if machine::STATE_END < states {
         return choice;
     }
     if machine::REGIONS < regions {
@@ -229,7 +229,7 @@ pub fn choose(
 }
 
 // The kept condition at every state: keep, where the chosen tries hold too.
-pub fn strengthen(kept: &mut [u8], tried: &[u16], chosen: u16, states: usize)
+pub fn strengthen(kept: &mut [u8], tried: &[u16], chosen: u16, states: StateNumber)
     ensures { λ _. ⌜ ((s : ℕ) (b : Bool) → s < states → states ≤ length (now (kept .entry))
         → getD (now (kept .entry)) s 0 ≡ bit b
         → getD (now (kept .exit)) s 0 ≡ bit (b && not (lacks (getD (now (tried .entry)) s 0) chosen))) ⌝ }
@@ -237,13 +237,13 @@ pub fn strengthen(kept: &mut [u8], tried: &[u16], chosen: u16, states: usize)
     if chosen == 0 {
         return;
     }
-    if kept.len() < states {
+    if kept.len() < states as usize {
         return;
     }
-    let mut s: usize = 0;
+    let mut s: StateNumber = 0;
     while s < states {
         if misses(states::number_at(tried, s), chosen) {
-            kept[s] = 0;
+            kept[s as usize] = 0;
         }
         s += 1;
     }

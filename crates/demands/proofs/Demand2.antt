@@ -2,9 +2,9 @@
 -- laws, and over values by the numbers of states. The machines: from the step that decides the rules, and over values
 -- since a state's number stands for its values.
 use Rattle.machine.specs.Monitor as machine
-use Prim.Native.Nat.{ℕ, _≤_, _<_}
+use Prim.Native.Nat.{ℕ, suc, _≤_, _<_}
 use native.Mathlib.Omega.{arith}
-use mathlib.Core.Path.{_≡_, refl, sym, ap₂, subst, _∙_}
+use mathlib.Core.Path.{_≡_, refl, sym, ap, ap₂, subst, _∙_}
 use mathlib.Core.Bool.{Bool, true, false}
 use mathlib.Core.Logic.{_↔_, Iff·rfl, Iff·trans}
 use mathlib.Core.Option.{Option·some-injective}
@@ -31,6 +31,10 @@ use Rattle.meaning.specs.Calls.{Machine, plain-machine, table-machine, Startabl
 use Rattle.meaning.specs.Decide.Calls.{toldBy, runList}
 use Rattle.meaning.specs.Accepted.{Keeps, Meets, Sound, GoodRanges, Accepted}
 use Rattle.meaning.specs.Runs.{State, BlockRuns}
+use Rattle.meaning.specs.Held.{Offset, Biased}
+use Rattle.meaning.specs.SixteenBits.{wrapped, unlimited, weightIn, numberIn}
+use Rattle.meaning.proofs.SixteenBits.{Weighing, Standing, weight-is, below, sum-so-far, share-kept, number-kept, held-up}
+use Rattle.meaning.proofs.SixteenBits.{product-is, product-kept, value-is, wrapped-keeps, unlimited-keeps}
 use Rattle.meaning.proofs.StateLaws.{state-at, number-below, state-at-number, number-of-state-at, earlier-iff}
 use Rattle.meaning.proofs.ModelLaws.{kept-below, keeps, outside, leaves, follows-below, region-numbered, holds-guard}
 use Rattle.meaning.proofs.ModelLaws.{startable-iff, holds-region, holds-below, guard-below, each-guard}
@@ -48,7 +52,7 @@ use Rattle.meaning.proofs.Touching.{touched-iff, leaves-guard, no-entry, pairs}
 use lib.IntN.{ℤ}
 use Rattle.meaning.proofs.BodyLaws.{outcome-of-runs, block-runs-state}
 use Rattle.demands.specs.Demand2.{IsEntry, IsTable, FollowsRules, Demand2, Moves, truthOf, Makes, ByValues}
-use Rattle.demands.specs.Demand2.{valued, noticesByValues, FollowsByValues, StatesNumbered}
+use Rattle.demands.specs.Demand2.{valued, noticesByValues, FollowsByValues, StatesNumbered, NumberHeld, StatesHeld}
 use Rattle.demands.specs.Demand2.{GuardsNumbered, Untouched}
 
 states-numbered : {vs : List Var} → GoodRanges vs → StatesNumbered vs
@@ -60,6 +64,41 @@ states-numbered {vs} g =
       state-back = λ as′ s. state-at-number g s;
       rising = λ as′ bs s t. earlier-iff g s t;
     }
+
+-- by laws over what keeps all that is below 65,536, as sixteen bits do and no limit does
+module _ {vs : List Var} {lows highs weights : List ℕ} (w : Weighing vs lows highs weights) where
+  standing : {as′ : List ℤ} {values : List ℕ} → State vs as′ → Biased vs as′ values → Standing vs as′ values
+  standing s b = record { state = s; biased = b }
+
+  number-is : {as′ : List ℤ} {values : List ℕ} → Standing vs as′ values
+      → numberIn wrapped lows weights values (length vs) ≡ numberOf vs as′
+  number-is s = number-kept w s wrapped wrapped-keeps
+
+  number-held : {as′ : List ℤ} {values : List ℕ} → Standing vs as′ values → NumberHeld vs lows weights as′ values
+  number-held s =
+      record {
+        number = number-is s;
+        below = rw (number-is s) (below w s);
+        products = λ k l. share-kept w s wrapped wrapped-keeps k l ∙ sym (share-kept w s unlimited unlimited-keeps k l);
+        sums = λ k l.
+            omega (arith, sum-so-far w s wrapped wrapped-keeps k l, sum-so-far w s unlimited unlimited-keeps k l);
+      }
+
+  states-held : StatesHeld vs lows highs weights
+  unfolding Offset
+  states-held =
+      record {
+        counted = product-is (w .ranges) (w .good) (w .few) wrapped wrapped-keeps;
+        sizes = product-kept (w .ranges) (w .good) (w .few) wrapped wrapped-keeps;
+        weight = w .weigh;
+        held = λ as′ xs s b. number-held (standing s b);
+        rising = λ as′ bs xs ys s t b c.
+            rw (number-is (standing s b), number-is (standing t c)) (earlier-iff (w .good) s t);
+        value = λ n k h l.
+            rw (value-is w n h wrapped wrapped-keeps k l) (held-up (w .ranges) (w .good) n h k l .is);
+        value-sums = λ n k h l.
+            value-is w n h wrapped wrapped-keeps k l ∙ sym (value-is w n h unlimited unlimited-keeps k l);
+      }
 
 guards-numbered : (m : Monitor) → GuardsNumbered m
 guards-numbered m =
@@ -369,6 +408,17 @@ demand-2 = record {
   };
   no-tries = λ m e. record { kept = no-tries m e; bits = none-chosen m e };
   state-numbers = λ file m e. states-numbered (accepted-iff file m .0 e .sound .ranges);
+  numbers-held = λ file m e lows highs weights r h.
+      let s = accepted-iff file m .0 e .sound in
+      states-held
+      (record {
+        ranges = r;
+        good = s .ranges;
+        few = s .few;
+        weigh = λ k l.
+            h k l ∙ ap (λ (x : ℕ). weightIn lows highs x (suc k))
+            (product-is r (s .ranges) (s .few) wrapped wrapped-keeps) ∙ weight-is r (s .ranges) (suc k) (omega arith);
+      });
   guard-numbers = guards-numbered;
   table = λ file m e. (rowsOf (model m), is-table file m e);
   entries = λ file m e. by-values m (accepted-iff file m .0 e .sound);

@@ -3,21 +3,23 @@
 -- accepts exactly the traces that its step rules allow. Beside these stand what the numbers of states and guards are, and
 -- which entries the text rules out. The claim is `Demand2`.
 use Rattle.machine.specs.Monitor as machine
-use Prim.Native.Nat.{ℕ, _^_, _≤_, _<_}
+use Prim.Native.Nat.{ℕ, suc, _^_, _≤_, _<_}
 use mathlib.Core.Path.{_≡_}
 use mathlib.Core.Bool.{Bool, true, false}
 use mathlib.Core.Logic.{_↔_}
 use mathlib.Core.List.{List, [], List·Memᴰ}
-use lib.ListN.{length, getD}
+use lib.ListN.{length, getD, drop}
 use Rattle.syntax.specs.Tree.{Monitor, Region, Var, spellCond}
 use Rattle.machine.specs.Monitor.{Frame, Point, Config, stopped, withState, allIdle}
-use Rattle.machine.specs.Limits.{mostLines}
+use Rattle.machine.specs.Limits.{mostStates, mostLines}
 use Rattle.syntax.specs.Limits.{mostTries}
 use Rattle.sets.specs.Set.{member}
 use Rattle.machine.specs.Algorithm1.{Holds, Fails, Triple, Stands, Signals}
 use Rattle.machine.specs.Rules.{Rules, Stops, Semantics, NoticesOver, PlainNoticesBy, TableNoticesBy, RulesBy, StopsBy}
 use Rattle.meaning.specs.Value.{truth}
 use Rattle.meaning.specs.State.{count, stateAt, numberOf, Earlier}
+use Rattle.meaning.specs.Held.{Offset, Biased, Ranges}
+use Rattle.meaning.specs.SixteenBits.{wrapped, unlimited, countIn, weightIn, share, numberIn, valueIn}
 use Rattle.meaning.specs.Answer.{Answer, accepted, refused}
 use Rattle.meaning.specs.Decide.Check.{check}
 use Rattle.meaning.specs.Kept.{keptAt}
@@ -33,7 +35,7 @@ use Rattle.meaning.specs.Touch.{Touched, Pairs}
 use Rattle.meaning.specs.Decide.Touch.{pairsOf}
 use Rattle.meaning.specs.Table.{Row, rowLines, Increasing, Small}
 use Rattle.meaning.specs.Refusal.{Refusal}
-use lib.IntN.{ℤ}
+use lib.IntN.{ℤ, pos}
 
 -- The numbers of states and of guards
 
@@ -45,6 +47,35 @@ pub record StatesNumbered (vs : List Var) : Type 0 where
   pub number-back : (n : ℕ) → n < count vs → numberOf vs (stateAt vs n) ≡ n
   pub state-back : (as′ : List ℤ) → State vs as′ → stateAt vs (numberOf vs as′) ≡ as′
   pub rising : (as′ bs : List ℤ) → State vs as′ → State vs bs → Earlier as′ bs ↔ (numberOf vs as′ < numberOf vs bs)
+
+-- how a state's is held, worked out from its values with 128 added (R 3.21)
+pub record NumberHeld (vs : List Var) (lows weights : List ℕ) (as′ : List ℤ) (values : List ℕ) : Type 0 where
+  -- "for every accepted file and every state it is still document 01's number"
+  pub number : numberIn wrapped lows weights values (length vs) ≡ numberOf vs as′
+  -- "State numbers stay below 4,096"
+  pub below : numberIn wrapped lows weights values (length vs) < mostStates
+  -- each product and each sum on the way is what it would be without the limit
+  pub products : (k : ℕ) → k < length vs
+      → share wrapped (getD values k 0) (getD lows k 0) (getD weights k 0)
+      ≡ share unlimited (getD values k 0) (getD lows k 0) (getD weights k 0)
+  pub sums : (k : ℕ) → k ≤ length vs → numberIn wrapped lows weights values k ≡ numberIn unlimited lows weights values k
+
+-- of all states, by the bounds and the weights that are held of the variables
+pub record StatesHeld (vs : List Var) (lows highs weights : List ℕ) : Type 0 where
+  -- the count of states, with each product on the way
+  pub counted : countIn wrapped lows highs (length vs) ≡ count vs
+  pub sizes : (k : ℕ) → k ≤ length vs → countIn wrapped lows highs k ≡ countIn unlimited lows highs k
+  pub weight : (k : ℕ) → k < length vs → getD weights k 0 ≡ count (drop (suc k) vs)
+  pub held : (as′ : List ℤ) (values : List ℕ) → State vs as′ → Biased vs as′ values
+      → NumberHeld vs lows weights as′ values
+  -- (R 3.20)
+  pub rising : (as′ bs : List ℤ) (xs ys : List ℕ) → State vs as′ → State vs bs → Biased vs as′ xs → Biased vs bs ys
+      → Earlier as′ bs ↔ (numberIn wrapped lows weights xs (length vs) < numberIn wrapped lows weights ys (length vs))
+  -- back from a number (R 3.18), with each sum
+  pub value : (n k : ℕ) → n < count vs → k < length vs
+      → Offset (getD (stateAt vs n) k (pos 0)) (valueIn wrapped lows weights n k)
+  pub value-sums : (n k : ℕ) → n < count vs → k < length vs
+      → valueIn wrapped lows weights n k ≡ valueIn unlimited lows weights n k
 
 -- the guards' are those below the count, each of some region's guard, for which it stands (R 3.9)
 pub record GuardsNumbered (m : Monitor) : Type 0 where
@@ -189,6 +220,13 @@ pub record Demand2 : Type 0 where
   pub no-tries : (m : Monitor) → m .tries ≡ [] → NoTries m
   -- (R 12.15)
   pub state-numbers : (file : List ℕ) (m : Monitor) → check file ≡ accepted m → StatesNumbered (vars m)
+  -- (R 12.18)
+  pub numbers-held :
+      (file : List ℕ) (m : Monitor) → check file ≡ accepted m → (lows highs weights : List ℕ)
+      → Ranges (vars m) lows highs
+      → ((k : ℕ) → k < length (vars m)
+      → getD weights k 0 ≡ weightIn lows highs (countIn wrapped lows highs (length (vars m))) (suc k))
+      → StatesHeld (vars m) lows highs weights
   -- for every tree, also one that is not accepted (R 12.15)
   pub guard-numbers : (m : Monitor) → GuardsNumbered m
   -- (R 12.5)

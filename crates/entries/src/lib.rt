@@ -1,5 +1,6 @@
 // The entries of a monitor that is held in slices: for each region that touches a guard, by one sweep over the states
 // with all guards at once. Which guards a region touches is handed in as a set: its body leaves every other as it was.
+use machine::StateNumber;
 ghost use mathlib.Core.Path.{_≡_};
 ghost use Prim.Native.Nat.{ℕ, _+_, _*_, _%_, _<_, _≤_};
 ghost use lib.ListN.{length, getD};
@@ -15,10 +16,10 @@ fn guard(x: u8) -> u32
 }
 
 // A state's number; in slices that hold a monitor the remainder is the number itself.
-fn state(x: u16) -> usize
+fn state(x: StateNumber) -> StateNumber
     ensures { λ n. ⌜ n ≡ x % mostStates ⌝ }
 {
-    x as usize % machine::STATES
+    x % machine::STATE_END
 }
 
 // May a region's body run from state s: do the kept condition and the region's guard hold?
@@ -26,15 +27,16 @@ fn may_run(
     kept: &[u8; machine::STATES],
     holds: &[u16; machine::STATES],
     guard: u32,
-    s: usize,
+    s: StateNumber,
 ) -> bool
     requires { ⌜ s < mostStates ⌝ }
     ensures { λ b. ⌜ b ≡ runsAt (now (kept .entry)) (now (holds .entry)) guard s ⌝ }
 {
-    if kept[s] != 1 {
+    let at = s as usize;
+    if kept[at] != 1 {
         return false;
     }
-    sets::has(holds[s], guard)
+    sets::has(holds[at], guard)
 }
 
 // What a region's body does to guards over the states it may run from, as sets: those that it makes true from some
@@ -49,10 +51,10 @@ struct Sweep {
 fn visit(
     kept: &[u8; machine::STATES],
     holds: &[u16; machine::STATES],
-    after: &[u16; machine::AFTER],
+    after: &[StateNumber; machine::AFTER],
     guard: u32,
     r: usize,
-    s: usize,
+    s: StateNumber,
     w: Sweep,
 ) -> Sweep
     requires { ⌜ (guard < mostRegions) × (r < mostRegions) × (s < mostStates) × Swept (now kept) (now holds)
@@ -63,9 +65,10 @@ fn visit(
     if !may_run(kept, holds, guard, s) {
         return w;
     }
-    let here = holds[s];
-    let t = state(after[r * machine::STATES + s]);
-    let there = holds[t];
+    let at = s as usize;
+    let here = holds[at];
+    let t = state(after[r * machine::STATES + at]);
+    let there = holds[t as usize];
     let either = here | there;
     Sweep {
         raised: either ^ here | w.raised,
@@ -78,8 +81,8 @@ fn visit(
 fn sweep_states(
     kept: &[u8; machine::STATES],
     holds: &[u16; machine::STATES],
-    after: &[u16; machine::AFTER],
-    states: usize,
+    after: &[StateNumber; machine::AFTER],
+    states: StateNumber,
     guard: u32,
     r: usize,
 ) -> Sweep
@@ -91,7 +94,7 @@ fn sweep_states(
         covered: 65535,
         left: 0,
     };
-    let mut s = 0;
+    let mut s: StateNumber = 0;
     while s < states {
         w = visit(kept, holds, after, guard, r, s, w);
         s += 1;
@@ -99,13 +102,11 @@ fn sweep_states(
     w
 }
 
-// How many states are gone through for a region that touches the guards of a set: none where it touches none. As a
-// product, since a branch here costs `runner` 6 % behind it.
-fn needed(touched: u16, states: usize) -> usize
-    requires { ⌜ states ≤ mostStates ⌝ }
-    ensures { λ n. ⌜ (touched ≡ 0 → n ≡ 0) × (1 ≤ touched → n ≡ states) ⌝ }
+// How many states are gone through for a region that touches the guards of a set: none where it touches none.
+fn needed(touched: u16, states: StateNumber) -> StateNumber
+    ensures { λ n. ⌜ (n ≤ states) × (touched ≡ 0 → n ≡ 0) × (1 ≤ touched → n ≡ states) ⌝ }
 {
-    (touched as usize + 65535) / 65536 * states
+    if touched == 0 { 0 } else { states }
 }
 
 // What is found of a region that touches the guards of a set: its sweep, cut down to these. One that touches none
@@ -113,8 +114,8 @@ fn needed(touched: u16, states: usize) -> usize
 fn sweep_region(
     kept: &[u8; machine::STATES],
     holds: &[u16; machine::STATES],
-    after: &[u16; machine::AFTER],
-    states: usize,
+    after: &[StateNumber; machine::AFTER],
+    states: StateNumber,
     guard: u32,
     r: usize,
     touched: u16,
@@ -170,10 +171,10 @@ fn fill_region(w: Sweep, wide: u16, guards: usize, r: usize, entries: &mut [u8])
 fn fill_regions(
     kept: &[u8; machine::STATES],
     holds: &[u16; machine::STATES],
-    after: &[u16; machine::AFTER],
+    after: &[StateNumber; machine::AFTER],
     guard_of: &[u8; machine::REGIONS],
     touched: &[u16; machine::REGIONS],
-    states: usize,
+    states: StateNumber,
     regions: usize,
     guards: usize,
     entries: &mut [u8],
@@ -211,10 +212,10 @@ fn fill_regions(
 pub fn fill_entries(
     kept: &[u8; machine::STATES],
     holds: &[u16; machine::STATES],
-    after: &[u16; machine::AFTER],
+    after: &[StateNumber; machine::AFTER],
     guard_of: &[u8; machine::REGIONS],
     touched: &[u16; machine::REGIONS],
-    states: usize,
+    states: StateNumber,
     regions: usize,
     guards: usize,
     entries: &mut [u8; machine::ENTRIES],
@@ -223,7 +224,7 @@ pub fn fill_entries(
         (now («guard_of» .entry)) (now (touched .entry)) states regions guards (now (entries .entry))
         (now (entries .exit)) ⌝ }
 {
-    if states > machine::STATES {
+    if states > machine::STATE_END {
         return;
     }
     if regions > machine::REGIONS {

@@ -5,6 +5,7 @@ use breaking::Broken;
 use choice::Choice;
 use layout::Layout;
 use layout::Tries;
+use machine::StateNumber;
 use mentions::Mentions;
 use variables::Bounds;
 ghost use mathlib.Core.Path.{_≡_};
@@ -46,7 +47,7 @@ fn fill_states(
     mentions: Mentions,
     kept: &mut [u8],
     holds: &mut [u16],
-    after: &mut [u16],
+    after: &mut [StateNumber],
     tried: &mut [u16],
 ) -> Settled
     ensures { λ r.
@@ -87,7 +88,7 @@ fn fill_states(
     );
     choice::strengthen(kept, tried, choice.chosen, bounds.states);
     match breaking::first_broken(bounds, numbers, regions, kept, holds, after) {
-        Broken::At(r, s) => with_choice(answers::say(9, r, s), choice),
+        Broken::At(r, s) => with_choice(answers::say(9, r, s as usize), choice),
         Broken::Never => with_choice(answers::say(0, 0, 0), choice),
     }
 }
@@ -103,7 +104,7 @@ pub fn fill(
     place: usize,
     kept: &mut [u8],
     holds: &mut [u16],
-    after: &mut [u16],
+    after: &mut [StateNumber],
 ) -> Settled
     ensures { λ r.
         ⌜ ((m : Monitor) (ls : List Lexeme) → Filling m ls (now (kinds .entry)) (now (values .entry)) bounds layout tries

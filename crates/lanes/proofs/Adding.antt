@@ -1,23 +1,21 @@
 -- Adding to a state's number, by its digits: what goes over from the variables behind one is added to its digit, and
 -- what that makes past its size goes over to those before it.
-use Prim.Native.Nat.{ℕ, zero, suc, _+_, _-_, _*_, _/_, _%_, _≤_, _<_, _∣_}
+use Prim.Native.Nat.{ℕ, zero, suc, _+_, _-_, _*_, _/_, _%_, _≤_, _<_}
 use native.Mathlib.Omega.{arith}
-use native.Mathlib.Nat.{dvd-mul-left, dvd-refl, dvd-mul-left-of-dvd, mod-mod-of-dvd, mod-add-mod, div-add-mod'}
-use native.Mathlib.Nat.{mul-assoc, suc-mul, mul-add-div-right, mul-pos, mod-lt, mod-eq-of-lt, div-lt-iff-lt-mul}
+use native.Mathlib.Nat.{dvd-mul-left, mod-mod-of-dvd, mod-add-mod, div-add-mod'}
+use native.Mathlib.Nat.{mul-assoc, suc-mul, mul-add-div-right, mul-pos, mod-lt, div-lt-iff-lt-mul}
 use borrow.Author.Tests.{ltb-true, ltb-false}
 use mathlib.Core.Path.{_≡_, sym, ap, _∙_}
-use mathlib.Core.List.{List, [], _∷_}
-use mathlib.Core.Option.{some, Option·some-injective}
+use mathlib.Core.List.{List, _∷_}
 use lib.Dec.{ltb}
 use lib.Arith.{digits-div, digits-mod}
-use lib.ListN.{length, getD, drop, getElem?}
-use lib.IntN.{pos, _+ℤ_}
+use lib.ListN.{length, drop}
 use Rattle.syntax.specs.Tree.{Var}
-use Rattle.logic.proofs.Bools.{no-some, split, split-eq}
-use Rattle.meaning.specs.Value.{intOf}
-use Rattle.meaning.specs.State.{size, count, stateAt}
-use Rattle.meaning.proofs.StateLaws.{count-pos}
-use Rattle.variables.proofs.Indices.{at-index}
+use Rattle.logic.proofs.Bools.{split, split-eq}
+use Rattle.meaning.specs.State.{size, count}
+use Rattle.meaning.proofs.StateLaws.{size-pos, count-pos}
+use Rattle.meaning.proofs.SixteenBits.{count-at, digit, digit-less}
+use Rattle.logic.proofs.Indices.{at-index}
 use Rattle.lanes.specs.Adding.{Settled, Carried}
 
 -- One digit
@@ -48,49 +46,15 @@ one-remainder s q r q′ r′ e h h′ = sym (digits-mod q h) ∙ ap (λ (x : �
 
 -- The digits of a state's number
 
-size-pos : (v : Var) → 0 < size v
-unfolding size
-size-pos v = omega arith
-
--- the digit of a variable
-abbrev pub digit : List Var → ℕ → ℕ → ℕ
-digit vs n k = n % count (drop k vs) / count (drop (suc k) vs)
-
 -- what goes over from the variables from one on, where m is added
 abbrev pub over : List Var → ℕ → ℕ → ℕ → ℕ
 over vs n m k = (n % count (drop k vs) + m) / count (drop k vs)
 
-count-divides : (vs : List Var) (k : ℕ) → count (drop k vs) ∣ count vs
-unfolding count
-count-divides [] zero = dvd-refl _
-count-divides [] (suc k) = dvd-refl _
-count-divides (v ∷ vs) zero = dvd-refl _
-count-divides (v ∷ vs) (suc k) = dvd-mul-left-of-dvd (count (drop k vs)) (count-divides vs k) (size v)
-
--- a state's value is its lowest with its digit
-pub value-at : (vs : List Var) (n k : ℕ) (v : Var) → n < count vs → getElem? vs k ≡ some v
-    → getD (stateAt vs n) k (pos 0) ≡ intOf (v .low) +ℤ pos (digit vs n k)
-unfolding count stateAt
-value-at [] n k v h e = no-some e
-value-at (u ∷ vs) n zero v h e = rw (← Option·some-injective u v e, mod-eq-of-lt h)
-value-at (u ∷ vs) n (suc k) v h e =
-    value-at vs (n % count vs) k v (mod-lt n (count-pos vs)) e
-    ∙ ap (λ (x : ℕ). intOf (v .low) +ℤ pos (x / count (drop (suc k) vs)))
-    (mod-mod-of-dvd (count (drop k vs)) n (count-divides vs k))
-
 module _ (vs : List Var) (n k : ℕ) (v : Var) (e : drop k vs ≡ v ∷ drop (suc k) vs) where
-  count-here : count (drop k vs) ≡ size v * count (drop (suc k) vs)
-  unfolding count
-  count-here = ap count e
-
   -- with m added, the digit of a variable and what goes over from it
   pub digits-sum : (m : ℕ) → digit vs n k + over vs n m (suc k) ≡ over vs n m k * size v + digit vs (n + m) k
   digits-sum m =
-      rw count-here (digit-sum (size v) (count (drop (suc k) vs)) n (size-pos v) (count-pos (drop (suc k) vs)) m)
-
-  pub digit-less : digit vs n k < size v
-  digit-less =
-      rw count-here (digit-below (size v) (count (drop (suc k) vs)) n (size-pos v) (count-pos (drop (suc k) vs)))
+      rw (count-at vs k v e) (digit-sum (size v) (count (drop (suc k) vs)) n (size-pos v) (count-pos (drop (suc k) vs)) m)
 
 -- where nothing goes over, the variables before keep their digits
 pub digits-kept : (vs : List Var) (n m k : ℕ) → k ≤ length vs → over vs n m k ≡ 0 → (u : ℕ) → u < k

@@ -19,10 +19,11 @@ use Rattle.evaluator.proofs.Lanes.{lane-at, length-lane}
 use Rattle.variables.specs.Bounded.{Bounded}
 use Rattle.variables.specs.declared.Bounds.{Bounds}
 use Rattle.lanes.specs.Promises.{Sixteen, Values}
-use Rattle.lanes.specs.Adding.{SizeOf, Share, Settled, Carried, Ready, Raised, sumAt}
+use Rattle.variables.specs.Promises.{SizeOf}
+use Rattle.lanes.specs.Adding.{Share, Settled, Carried, Ready, Raised, sumAt}
 use Rattle.lanes.specs.declared.Part.{Part}
-use Rattle.lanes.proofs.Adding.{digit, over, digits-sum, digit-less, digits-kept, settle-digit}
-use Rattle.lanes.proofs.Digits.{place, held-digit, digits-held}
+use Rattle.meaning.proofs.SixteenBits.{place, digit, digit-less, held-digit, digits-held}
+use Rattle.lanes.proofs.Adding.{over, digits-sum, digits-kept, settle-digit}
 
 -- the value of variable i in lane j is as it was
 abbrev Same : List ℕ → List ℕ → ℕ → ℕ → Type 0
@@ -112,7 +113,7 @@ module _ {b : Bounds} {lanes values : List ℕ} {changed : ℕ} {carry : List �
     old : getD values ((k₁ - 1) * 16 + j) 0 ≡ getD (b .lows) (k₁ - 1) 0 + digit vs n (k₁ - 1)
     old =
         g .before (k₁ - 1) j (omega arith) h ∙ sym (lane-at lanes j (k₁ - 1) (omega (arith, g .few, g .within)))
-        ∙ held-digit bounded n (omega arith) held (k₁ - 1) inside
+        ∙ held-digit (bounded .ranges) (bounded .good) n (omega arith) held (k₁ - 1) inside
 
     lane-next : (v c : ℕ)
         → Settled (sumAt values ((k₁ - 1) * 16) carry (part .here) j) (getD (b .highs) (k₁ - 1) 0 % 4096) size v
@@ -120,7 +121,7 @@ module _ {b : Bounds} {lanes values : List ℕ} {changed : ℕ} {carry : List �
         → (v ≡ getD (b .lows) (k₁ - 1) 0 + digit vs (n + 16) (k₁ - 1)) × (part .rest + c ≡ over vs n 16 (k₁ - 1))
     lane-next v c settled carried =
         let k = k₁ - 1 in
-        let p = place bounded k inside in
+        let p = place (bounded .ranges) (bounded .good) k inside in
         let last : k₁ ≡ suc k = omega arith in
         let top : getD (b .highs) k 0 % 4096 ≡ getD (b .highs) k 0 = omega (arith, p .high-small) in
         let long : size ≡ getD (b .highs) k 0 - getD (b .lows) k 0 + 1 =
@@ -194,7 +195,7 @@ module _ {b : Bounds} {lanes values : List ℕ} {changed : ℕ} {carry : List �
         before = λ i j h l. g .before i j (omega arith) l;
         behind = g .behind;
         added = λ vs j n bounded h low held.
-            let p = place bounded k (inside vs j n bounded h low held) in
+            let p = place (bounded .ranges) (bounded .good) k (inside vs j n bounded h low held) in
             let value = old vs j n bounded h low held in
             let below = digit-less vs n k (p .var) (p .left) in
             let carry-none = g .none (no .1) j h in
@@ -227,7 +228,7 @@ module _ {b : Bounds} {lanes values : List ℕ} {changed : ℕ} {carry : List �
             let held = s .each j h (omega arith) in
             let a = g .added vs j n bounded h less held in
             rw sum
-            (digits-held bounded (n + 16) less (lane values j) (length-lane values j)
+            (digits-held (bounded .ranges) (bounded .good) (n + 16) less (lane values j) (bounded .few-vars) (length-lane values j)
             (λ i l.
             lane-at values j i (omega (arith, bounded .few-vars))
             ∙ split (ltb i k)
@@ -236,7 +237,7 @@ module _ {b : Bounds} {lanes values : List ℕ} {changed : ℕ} {carry : List �
             let none : over vs n 16 k ≡ 0 =
             omega (arith, a .goes, g .none (nothing .1) j h, ltb-false 0 rest (nothing .0)) in
             g .before i j below h ∙ sym (lane-at lanes j i (omega (arith, bounded .few-vars)))
-            ∙ held-digit bounded n (omega arith) held i l
+            ∙ held-digit (bounded .ranges) (bounded .good) n (omega arith) held i l
             ∙ ap (λ (x : ℕ). getD (b .lows) i 0 + x)
             (sym (digits-kept vs n 16 k (omega (arith, g .within, all-of bounded (g .counted))) none i below)))
             (λ t. a .done i (ltb-false i k t) l))

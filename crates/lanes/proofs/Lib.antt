@@ -1,6 +1,5 @@
 pub mod Adding
 pub mod Carrying
-pub mod Digits
 pub mod Lane
 pub mod Rows
 pub mod Named

@@ -1,16 +1,10 @@
--- What the functions that add to values in lanes promise to each other: a range's size, what is added to a variable, a
--- sum brought back into its range with its carry, and the row of a variable's sixteen values.
+-- What the functions that add to values in lanes promise to each other: what is added to a variable, a sum brought back into its range with its carry, and the row of a variable's sixteen values.
 use Prim.Native.Nat.{ℕ, _+_, _-_, _*_, _%_, _≤_, _<_}
 use mathlib.Core.Path.{_≡_}
 use mathlib.Core.Bool.{Bool, false}
 use mathlib.Core.List.{List}
 use lib.ListN.{length, getD}
 use Rattle.lanes.specs.declared.Part.{Part}
-
-pub record SizeOf (low high r : ℕ) : Type 0 where
-  pub some : 0 < r
-  pub most : r ≤ high + 1
-  pub is : low ≤ high → high ≤ 255 → r ≡ high - low + 1
 
 -- what is added to a variable of a size, and what to those before it
 pub record Share (rest size : ℕ) (r : Part) : Type 0 where

@@ -1,6 +1,7 @@
 // The values of sixteen consecutive states of a file, each state in a lane: that of variable v in lane j stands at
 // v * 16 + j, with 128 added. They are made from the states' numbers, or from the sixteen states before by adding 16,
 // the last variable first, with a carry in each lane; the loops over lanes have no branches.
+use machine::StateNumber;
 use variables::Bounds;
 ghost use mathlib.Core.Path.{_≡_};
 ghost use mathlib.Core.Bool.{false};
@@ -10,7 +11,6 @@ ghost use lib.ListN.{drop, length, getD};
 ghost use lib.IntN.{ℤ};
 ghost use Rattle.sets.specs.Set.{member};
 ghost use Rattle.syntax.specs.Limits.{mostVars};
-ghost use Rattle.machine.specs.Limits.{mostStates};
 ghost use Rattle.syntax.specs.Token.{Lexeme};
 ghost use Rattle.syntax.specs.Tree.{Var, Cond, spellCond};
 ghost use Rattle.meaning.specs.Value.{truth};
@@ -18,7 +18,7 @@ ghost use Rattle.meaning.specs.Held.{Biased};
 ghost use Rattle.evaluator.specs.Coding.{Codes, EndsCond};
 ghost use Rattle.variables.specs.Bounded.{Bounded};
 ghost use Rattle.lanes.specs.Promises.{Put, Sixteen, Values, Apart};
-ghost use Rattle.lanes.specs.Adding.{SizeOf, Share, Settled, Carried, Ready, Raised};
+ghost use Rattle.lanes.specs.Adding.{Share, Settled, Carried, Ready, Raised};
 
 // Values, and the variables whose values differ from the ones before, as a set.
 pub struct Lanes {
@@ -38,26 +38,18 @@ fn put_values(all: &mut [u16], at: usize, values: [u16; syntax::VARIABLES])
     }
 }
 
-// The values of the sixteen states from one on.
-fn lanes_at(bounds: Bounds, from: usize) -> [u16; 96]
-    requires { ⌜ from ≤ mostStates ⌝ }
-    ensures { λ r. ⌜ ((vs : List Var) → Bounded vs bounds → Sixteen vs (Values vs r) from) ⌝ }
-{
-    let mut lanes = [0u16; 96];
-    let mut j: usize = 0;
-    while j < 16 {
-        let values = variables::values_of(bounds, from + j);
-        put_values(&mut lanes, j, values);
-        j += 1;
-    }
-    lanes
-}
-
 // The values of the first sixteen states.
 pub fn first_lanes(bounds: Bounds) -> [u16; 96]
     ensures { λ r. ⌜ ((vs : List Var) → Bounded vs bounds → Sixteen vs (Values vs r) 0) ⌝ }
 {
-    lanes_at(bounds, 0)
+    let mut lanes = [0u16; 96];
+    let mut s: StateNumber = 0;
+    while s < 16 {
+        let values = variables::values_of(bounds, s);
+        put_values(&mut lanes, s as usize, values);
+        s += 1;
+    }
+    lanes
 }
 
 // How many variables there are, at most six for any bounds.
@@ -65,17 +57,6 @@ fn few(count: usize) -> usize
     ensures { λ r. ⌜ (r ≤ mostVars) × (count ≤ mostVars → r ≡ count) ⌝ }
 {
     if count <= syntax::VARIABLES { count } else { 0 }
-}
-
-// How many values a range has. The remainder keeps the number small for any range.
-fn size_of(low: u16, high: u16) -> u16
-    ensures { λ r. ⌜ SizeOf low high r ⌝ }
-{
-    if low <= high {
-        (high - low) % 4096 + 1
-    } else {
-        1
-    }
 }
 
 // What is added to a variable of a size, and what to those before it.
@@ -159,7 +140,7 @@ pub fn next(bounds: Bounds, lanes: [u16; 96]) -> Lanes
     while (0 < k) & ((0 < rest) | any) {
         k -= 1;
         let high = bounds.highs[k] % 4096;
-        let size = size_of(bounds.lows[k], high);
+        let size = variables::size_of(bounds.lows[k], high);
         let part = share(rest, size);
         rest = part.rest;
         if (0 < part.here) | any {

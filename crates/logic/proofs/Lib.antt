@@ -1,3 +1,4 @@
 pub mod Bools
 pub mod Any
 pub mod Lists
+pub mod Indices

@@ -15,12 +15,12 @@ use Rattle.syntax.specs.Tree.{Var}
 use Rattle.logic.proofs.Bools.{split, both, not-true, true-not, and}
 use Rattle.meaning.specs.Value.{intOf, less, inRange}
 use Rattle.meaning.specs.Runs.{State, no-values, one-value}
-use Rattle.meaning.specs.Held.{Offset, Biased}
+use Rattle.meaning.specs.Held.{Shifted, Offset, Biased}
 use Rattle.meaning.specs.Outline.{heldValues}
-use Rattle.variables.specs.Bounded.{Bounded, Shifted}
+use Rattle.variables.specs.Bounded.{Bounded}
 use Rattle.variables.specs.declared.Bounds.{Bounds}
-use Rattle.variables.proofs.Indices.{at-index}
-use Rattle.variables.proofs.Offsets.{shifted-le, le-shifted}
+use Rattle.logic.proofs.Indices.{at-index}
+use Rattle.meaning.proofs.Offsets.{shifted-le, le-shifted}
 use Rattle.lookup.specs.Slices.{slotOf, Trimmed}
 
 take-length : (n : ℕ) (xs : List ℕ) → n ≤ length xs → length (take n xs) ≡ n

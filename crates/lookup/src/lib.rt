@@ -2,6 +2,7 @@
 // some values.
 use answers::Answer;
 use layout::Layout;
+use machine::StateNumber;
 use variables::Bounds;
 ghost use mathlib.Core.Path.{_≡_};
 ghost use mathlib.Core.List.{List};
@@ -12,8 +13,6 @@ ghost use Rattle.syntax.specs.Limits.{mostVars};
 ghost use Rattle.machine.specs.Limits.{mostRegions, mostStates};
 ghost use Rattle.sets.specs.Set.{member};
 ghost use Rattle.meaning.specs.Model.{vars, regions, guards};
-ghost use Rattle.meaning.specs.Held.{Biased};
-ghost use Rattle.meaning.specs.Outline.{heldValues};
 ghost use Rattle.variables.specs.Bounded.{Bounded};
 ghost use Rattle.lookup.specs.Looked.{Looked, StateIs, NoState, NumberIs, NoNumber};
 ghost use Rattle.lookup.specs.Slices.{moveBy, moveIn, Within, slotOf, Trimmed};
@@ -61,7 +60,7 @@ pub fn no_state(answer: Answer) -> State
 }
 
 // What a body does whose outcome is held so, by whether the kept condition and its guard hold.
-fn move_by(kept: bool, holds: u16, guard: u8, to: u16) -> u16
+fn move_by(kept: bool, holds: u16, guard: u8, to: StateNumber) -> u16
     ensures { λ r. ⌜ r ≡ moveBy kept (member holds guard) to ⌝ }
 {
     if !kept {
@@ -78,8 +77,8 @@ fn move_at(
     layout: Layout,
     kept: bool,
     holds: u16,
-    after: &[u16; machine::AFTER],
-    number: usize,
+    after: &[StateNumber; machine::AFTER],
+    number: StateNumber,
     r: usize,
 ) -> u16
     requires { ⌜ (number < mostStates) × (r < mostRegions) ⌝ }
@@ -92,7 +91,7 @@ fn move_at(
         kept,
         holds,
         layout.guard_of[r],
-        after[r * machine::STATES + number],
+        after[r * machine::STATES + number as usize],
     )
 }
 
@@ -101,8 +100,8 @@ fn moves(
     layout: Layout,
     kept: bool,
     holds: u16,
-    after: &[u16; machine::AFTER],
-    number: usize,
+    after: &[StateNumber; machine::AFTER],
+    number: StateNumber,
 ) -> [u16; machine::REGIONS]
     requires { ⌜ number < mostStates ⌝ }
     ensures { λ x. ⌜ ((r : ℕ) → r < mostRegions
@@ -124,14 +123,14 @@ pub fn state_of(
     answer: Answer,
     kept: &[u8; machine::STATES],
     holds: &[u16; machine::STATES],
-    after: &[u16; machine::AFTER],
+    after: &[StateNumber; machine::AFTER],
     number: usize,
 ) -> State
     ensures { λ r. ⌜ r .answer ≡ answer ⌝ }
     ensures { λ r. ⌜ ((m : Monitor) → Looked m bounds layout (now (kept .entry)) (now (holds .entry)) (now (after .entry))
         → StateIs m number r) ⌝ }
 {
-    if bounds.states <= number {
+    if bounds.states as usize <= number {
         return no_state(answer);
     }
     if machine::STATES <= number {
@@ -139,14 +138,15 @@ pub fn state_of(
     }
     let is_kept = kept[number] == 1;
     let holding = sets::below(holds[number], layout.guards);
+    let s = number as StateNumber;
     State {
         answer: answer,
         known: true,
         kept: is_kept,
         vars: bounds.count,
-        values: variables::values_of(bounds, number),
+        values: variables::values_of(bounds, s),
         holds: holding,
-        after: moves(layout, is_kept, holding, after, number),
+        after: moves(layout, is_kept, holding, after, s),
     }
 }
 
@@ -213,6 +213,6 @@ pub fn number_in(bounds: Bounds, answer: Answer, values: [u16; syntax::VARIABLES
     Numbered {
         answer: answer,
         known: true,
-        number: variables::number_of(bounds, held),
+        number: variables::number_of(bounds, held) as usize,
     }
 }

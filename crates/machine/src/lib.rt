@@ -12,7 +12,10 @@ pub const THREAD_END: u8 = 16;
 
 pub const REGION_END: u8 = 16;
 
-pub const STATE_END: u16 = 4096;
+pub const STATE_END: StateNumber = 4096;
+
+// A state, by its number; also a count of states, and the outcome of a body that has none.
+pub type StateNumber = u16;
 
 // The states after bodies, of all regions at all states.
 pub const AFTER: usize = 65536;

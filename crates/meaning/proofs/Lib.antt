@@ -7,8 +7,10 @@ pub mod Frames
 pub mod TableLines
 pub mod Written
 pub mod Integers
+pub mod Offsets
 pub mod RangeLaws
 pub mod StateLaws
+pub mod SixteenBits
 pub mod BodyLaws
 pub mod Alike
 pub mod Faults

@@ -1,6 +1,6 @@
 -- A case of the programs and what the meanings print for it, with all that it takes to compute: whoever unfolds
 -- `printing` can close an equation between bytes by `refl`.
-use Prim.Native.Nat.{ℕ}
+use Prim.Native.Nat.{ℕ, suc}
 use Rattle.logic.specs.Tests.{any}
 use Rattle.machine.specs.Monitor.{threads, ahead, allIdle}
 use Rattle.machine.specs.Decide.Step.{put, without, isDue, isWaiting, beginWait, leave, onGuard, waitsOn, next}
@@ -30,6 +30,7 @@ use Rattle.meaning.specs.Model.{after, follows, model}
 use Rattle.meaning.specs.Hex.{hexDigit, hex2, hexBool}
 use Rattle.meaning.specs.Decide.Table.{entryLine, forEach, tableOf}
 use Rattle.meaning.specs.State.{size, count, stateAt, numberOf, starts}
+use Rattle.meaning.specs.SixteenBits.{wrapped, weightIn, share, numberIn, restIn, valueIn}
 use Rattle.meaning.specs.Kept.{keptAt}
 use Rattle.meaning.specs.Decide.Frames.{linesFrom, isHex, hexValue, allHex, pairAt, isFrame, frameOf, prepend}
 use Rattle.meaning.specs.Decide.Frames.{framesFrom, framesOf}
@@ -43,29 +44,32 @@ use Rattle.syntax.specs.Decide.Leading.{leading, startsWith}
 use Rattle.syntax.specs.Decide.Reading.{onwards, _>>=_, give, begins, rest, choose, expect, readName, readNumber}
 use Rattle.syntax.specs.Decide.Reading.{readMany, readSome, readInt, readAtom, readSign, readTerm, isSign, readExpr}
 use Rattle.syntax.specs.Decide.Reading.{readComparison, readCond, readConj, readSimple, readBlock, readStmt, readRegion}
-use Rattle.syntax.specs.Decide.Reading.{readMethod, readVar, readTry, atEnd, readMonitor, read}
+use Rattle.syntax.specs.Decide.Reading.{readMethod, readVar, readTry, atEnd, readMonitor, read, got, stuck}
 use Rattle.syntax.specs.Token.{keywords, marks, lexemes}
 use Rattle.syntax.specs.Decide.Lexeme.{markNumber, keywordNumber, isMark, isKey, isName}
-use Rattle.syntax.specs.Decide.Scan.{wordOf, atMost, markOf, scan, prepend as token-prepend, tokensFrom, tokenize}
+use Rattle.syntax.specs.Decide.Scan.{wordOf, atMost, markOf, scan, prepend as token-prepend, tokensFrom, tokenize, tokens, none-at}
 use Rattle.syntax.specs.Tree.{spellInt, spellAtom, signMark, spellTerm, each, spellExpr, comparisonMark, spellConstant}
 use Rattle.syntax.specs.Tree.{spellCond, spellConj, spellSimple, spellBlock, spellStmt, spellRegion, spellMethod}
-use Rattle.syntax.specs.Tree.{spellVar, spellTry, spell, InGrammar, Viable}
+use Rattle.syntax.specs.Tree.{spellVar, spellTry, spell, InGrammar, Viable, Var, all}
 use Rattle.meaning.specs.Points.{valueBytes, placeBytes, setBytes, sharedBytes, noticeBytes, noticesAt, plainPart}
 use Rattle.meaning.specs.Points.{tablePart, pointAt, stopAnswer, pointCount, listPoints, framePoints, pointsFrom}
 use Rattle.meaning.specs.Decide.Touch.{atomNames, termsName, exprNames, condNames, conjNames, simpleNames}
 use Rattle.meaning.specs.Decide.Touch.{blockAssigns, stmtAssigns, anyVar, sumOf, touched, pairsOf}
 use Rattle.meaning.specs.Points.{pointRoom, pointsOf}
-use lib.ListN.{length, replicate}
-use mathlib.Core.List.{List, _∷_, _++_}
+use lib.IntN.{ℤ, pos, _+ℤ_, natAbs}
+use lib.ListN.{length, replicate, getD}
+use mathlib.Core.List.{List, [], _∷_, _++_, map}
 
 -- What is run: `placer` on a file, `runner` on a file and a trace, one behind the other, the points of a trace from a
--- state in a buffer of so many bytes, the choice among a file's tries, or how many of its pairs are touched
+-- state in a buffer of so many bytes, the choice among a file's tries, how many of its pairs are touched, or some of its
+-- states by their numbers
 pub data Case : Type 0 where
   placing : List ℕ → Case
   running-of : List ℕ → List ℕ → Case
   whole : List ℕ → List ℕ → Case
   points-of : List ℕ → List ℕ → ℕ → ℕ → Case
   tries-of pairs-of : List ℕ → Case
+  numbers-of : List ℕ → List ℕ → Case
 
 -- what becomes of a try, and of all tries of an accepted file behind the chosen bits and their count, in lines of ten digits
 unfoldable pub fateLine : Fate → List ℕ
@@ -85,8 +89,34 @@ triesLines file =
 unfoldable pub pairsLine : List ℕ → List ℕ
 pairsLine file = let p = place file (replicate 512 0) in refusalLine (answer 0 (p .pairs) (p .length))
 
+-- a state's number in four digits and its values in two each
+unfoldable pub stateLine : ℕ → List ℕ → List ℕ
+stateLine n values = hex4 n ++ (values ++ (10 ∷ []))
+
+unfoldable pub heldAs : ℤ → ℕ
+heldAs a = natAbs (a +ℤ pos 128)
+
+-- the states with some numbers, each as document 01 counts it, there and back, and as it is held in sixteen bits
+unfoldable pub stateLines : List Var → List ℕ → List ℕ
+stateLines vs [] = []
+stateLines vs (n ∷ ns) =
+    let k = length vs in
+    let lows = map (λ v. heldAs (intOf (v .low))) vs in
+    let highs = map (λ v. heldAs (intOf (v .high))) vs in
+    let weights = forEach k 0 (λ i. weightIn lows highs (count vs) (suc i) ∷ []) in
+    let values = forEach k 0 (λ i. valueIn wrapped lows weights n i ∷ []) in
+    stateLine (numberOf vs (stateAt vs n)) (valueDigits (stateAt vs n))
+    ++ (stateLine (numberIn wrapped lows weights values k) (forEach k 0 (λ i. hex2 (getD values i 0))) ++ stateLines vs ns)
+
+unfoldable pub numbersLines : List ℕ → List ℕ → List ℕ
+numbersLines file ns =
+    elim (tokenize file) [
+      | none-at k ↦ []
+      | tokens ts ↦ elim (read (lexemes ts)) [ stuck ls ↦ [] | got m ls ↦ stateLines (all (m .vars)) ns ]
+    ]
+
 unfoldable pub printing : Case → List ℕ
-unfolding any threads put without isDue isWaiting ahead beginWait leave allIdle onGuard waitsOn next firstNotified own plainTold mayBeAt may ran waited rechecked allowed act judged step run runs someMove everyMove stands unconditional broadcast entryOf acts entryTold tableTold written place toldBy eachFrom bits ones recordOf runningOf runList runFrames runFrom running opens closes tally crowded placeOf leftOf pastLimit member misnamed placesOf inByte goodRange illRanged regionsOf keptAfter breaks firstFrom firstWhere broken noTry endsFalse isNone inSet tryAt eachTry allHold binds breaksTry firstBreak pass passes trueAtStart chosenTries chosenBits fateFrom fateOf fateLine triesLines atomNames termsName exprNames condNames conjNames simpleNames blockAssigns stmtAssigns anyVar sumOf touched pairsOf pairsLine checkMeaning checkTokens check hex4 refusalLine placeByte valueDigits placeDigits recordLine runLine machineLine placer runner valueBytes placeBytes setBytes sharedBytes noticeBytes noticesAt plainPart tablePart pointAt stopAnswer pointCount listPoints framePoints pointsFrom pointRoom pointsOf sameLexeme sameLexemes sameGuard placeIn guardsOf beginsIn goesOnIn noGuard noRegion numberAfter regions guards region guardOf holds kept after follows model hexDigit hex2 hexBool entryLine forEach tableOf size count stateAt numberOf starts linesFrom isHex hexValue allHex pairAt isFrame frameOf prepend framesFrom framesOf intOf negative less compares valueOf inRange assigned atomValue joined termsValue exprValue truth conjTruth simpleTruth andThen runBlock runStmt outcome keptAt bytes between blank letter digit wordByte leading decimal sameBytes startsWith onwards _>>=_ give begins rest choose expect readName readNumber readMany readSome readInt readAtom readSign readTerm isSign readExpr readComparison readCond readConj readSimple readBlock readStmt readRegion readMethod readVar readTry atEnd readMonitor read keywords marks wordOf atMost markOf scan token-prepend tokensFrom tokenize lexemes markNumber keywordNumber isMark isKey isName spellInt spellAtom signMark spellTerm each spellExpr comparisonMark spellConstant spellCond spellConj spellSimple spellBlock spellStmt spellRegion spellMethod spellVar spellTry spell InGrammar Viable
+unfolding any threads put without isDue isWaiting ahead beginWait leave allIdle onGuard waitsOn next firstNotified own plainTold mayBeAt may ran waited rechecked allowed act judged step run runs someMove everyMove stands unconditional broadcast entryOf acts entryTold tableTold written place toldBy eachFrom bits ones recordOf runningOf runList runFrames runFrom running opens closes tally crowded placeOf leftOf pastLimit member misnamed placesOf inByte goodRange illRanged regionsOf keptAfter breaks firstFrom firstWhere broken noTry endsFalse isNone inSet tryAt eachTry allHold binds breaksTry firstBreak pass passes trueAtStart chosenTries chosenBits fateFrom fateOf fateLine triesLines atomNames termsName exprNames condNames conjNames simpleNames blockAssigns stmtAssigns anyVar sumOf touched pairsOf pairsLine wrapped weightIn share numberIn restIn valueIn stateLine heldAs stateLines numbersLines checkMeaning checkTokens check hex4 refusalLine placeByte valueDigits placeDigits recordLine runLine machineLine placer runner valueBytes placeBytes setBytes sharedBytes noticeBytes noticesAt plainPart tablePart pointAt stopAnswer pointCount listPoints framePoints pointsFrom pointRoom pointsOf sameLexeme sameLexemes sameGuard placeIn guardsOf beginsIn goesOnIn noGuard noRegion numberAfter regions guards region guardOf holds kept after follows model hexDigit hex2 hexBool entryLine forEach tableOf size count stateAt numberOf starts linesFrom isHex hexValue allHex pairAt isFrame frameOf prepend framesFrom framesOf intOf negative less compares valueOf inRange assigned atomValue joined termsValue exprValue truth conjTruth simpleTruth andThen runBlock runStmt outcome keptAt bytes between blank letter digit wordByte leading decimal sameBytes startsWith onwards _>>=_ give begins rest choose expect readName readNumber readMany readSome readInt readAtom readSign readTerm isSign readExpr readComparison readCond readConj readSimple readBlock readStmt readRegion readMethod readVar readTry atEnd readMonitor read keywords marks wordOf atMost markOf scan token-prepend tokensFrom tokenize lexemes markNumber keywordNumber isMark isKey isName spellInt spellAtom signMark spellTerm each spellExpr comparisonMark spellConstant spellCond spellConj spellSimple spellBlock spellStmt spellRegion spellMethod spellVar spellTry spell InGrammar Viable
 printing (placing file) = placer file
 printing (running-of file trace) = runner file trace
 printing (whole file trace) = placer file ++ runner file trace
@@ -95,3 +125,4 @@ printing (points-of file trace s room) =
     refusalLine (p .plain) ++ (refusalLine (p .table) ++ (p .count ∷ p .buffer))
 printing (tries-of file) = triesLines file
 printing (pairs-of file) = pairsLine file
+printing (numbers-of file states) = numbersLines file states

@@ -23,7 +23,7 @@ low-to-high : {v : Var} → GoodRange v → less (intOf (v .high)) (intOf (v .lo
 unfolding AtMost
 low-to-high g = g .ordered
 
-size-pos : (v : Var) → 0 < size v
+pub size-pos : (v : Var) → 0 < size v
 unfolding size
 size-pos v = omega arith
 

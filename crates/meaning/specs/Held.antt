@@ -11,6 +11,10 @@ use Rattle.syntax.specs.Token.{Lexeme, mark, semicolon, rbrace}
 use Rattle.syntax.specs.Tree.{Var, Monitor, all, each, spellCond, spellTry, spellMethod}
 use Rattle.meaning.specs.Value.{intOf}
 
+-- a whole number, held as n with b added
+pub record Shifted (b : ℕ) (a : ℤ) (n : ℕ) : Type 0 where
+  pub is : a ≡ pos n -ℤ pos b
+
 -- a value with 128 added
 unfoldable pub Offset : ℤ → ℕ → Type 0
 Offset a n = a ≡ pos n -ℤ pos 128

@@ -18,3 +18,4 @@ pub mod Points
 pub mod Outline
 pub mod Decide
 pub mod Held
+pub mod SixteenBits

@@ -26,7 +26,7 @@ use Rattle.meaning.proofs.KeywordPlaces.{times}
 use Rattle.meaning.proofs.KeywordCounts.{try-count, method-count, not-monitor}
 use Rattle.variables.specs.Bounded.{Bounded}
 use Rattle.variables.specs.declared.Bounds.{Bounds}
-use Rattle.variables.proofs.Indices.{elem-left}
+use Rattle.logic.proofs.Indices.{elem-left}
 use Rattle.variables.proofs.Walk.{starts-at}
 use Rattle.layout.specs.Laid.{Laid}
 use Rattle.layout.specs.declared.Layout.{Layout}

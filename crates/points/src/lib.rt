@@ -42,7 +42,7 @@ fn write_point(
     let run = going.run;
     let lost = going.lost;
     let threads = run.threads;
-    let values = variables::values_of(bounds, run.state as usize);
+    let values = variables::values_of(bounds, run.state);
     let bytes = point::place_bytes(threads);
     let holding = sets::below(holds[(run.state % machine::STATE_END) as usize], guards);
     let told = sets::minus(run.plain, plain);

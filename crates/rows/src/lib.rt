@@ -2,12 +2,12 @@
 // truth of keep, the guards and the tries that hold, and the outcome of each region's body.
 use layout::Layout;
 use layout::Tries;
+use machine::StateNumber;
 use mentions::Mentions;
 use truths::Texts;
 use variables::Bounds;
-ghost use mathlib.Core.Path.{_≡_};
 ghost use mathlib.Core.List.{List};
-ghost use Prim.Native.Nat.{ℕ, _≤_};
+ghost use Prim.Native.Nat.{_≤_};
 ghost use lib.ListN.{length};
 ghost use Rattle.machine.specs.Limits.{mostStates, mostAfter};
 ghost use Rattle.syntax.specs.Token.{Lexeme};
@@ -53,7 +53,7 @@ pub fn fill_rows(
     kept: &mut [u8],
     holds: &mut [u16],
     tried: &mut [u16],
-    after: &mut [u16],
+    after: &mut [StateNumber],
 )
     ensures { λ _.
         ⌜ ((m : Monitor) (ls : List Lexeme) → Filling m ls (now (kinds .entry)) (now (values .entry)) bounds layout tries

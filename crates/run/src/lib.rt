@@ -85,7 +85,7 @@ pub fn admit(bounds: Bounds, bytes: &[u8], start: usize, kept: &[u8; machine::ST
         → Held (model m) (now (kept .entry)) holds after guards → Admits m start (now (bytes .entry)) r) ⌝ }
     ensures { λ r. ⌜ (r .number ≡ 0 → start < mostStates) ⌝ }
 {
-    if bounds.states <= start || machine::STATES <= start {
+    if bounds.states as usize <= start || machine::STATES <= start {
         return no_start();
     }
     if kept[start] != 1 {
@@ -105,7 +105,7 @@ fn record_of(bounds: Bounds, run: Run, notified: u16) -> Record
     let threads = run.threads;
     Record {
         vars: bounds.count,
-        values: variables::values_of(bounds, run.state as usize),
+        values: variables::values_of(bounds, run.state),
         threads: threads,
         notified: notified,
         how_many: sets::count(notified),

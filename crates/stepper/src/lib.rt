@@ -1,6 +1,7 @@
 // One frame on both machines: a record of their runs by value, and of each machine the step that the rules give or the
 // refusal's number. What both have in common is held and judged once. Each promise cites the step of `machine`, for every
 // monitor that the lent slices hold, and for either machine.
+use machine::StateNumber;
 ghost use mathlib.Core.Path.{_≡_};
 ghost use mathlib.Core.Bool.{Bool, true, false, not, _&&_, _||_};
 ghost use mathlib.Core.List.{List, []};
@@ -11,11 +12,11 @@ ghost use Rattle.machine.specs.Monitor.{SameThreads, Threads, Monitor, Config, 
 ghost use Rattle.logic.specs.Tests.{any};
 ghost use Rattle.machine.specs.Decide.Step.{Told, isDue, isWaiting, mayBeAt, onGuard, waitsOn, firstNotified};
 ghost use Rattle.machine.specs.Decide.Step.{put as putAt, beginWait, leave as leaveTo, ran as ranTo};
-ghost use Rattle.machine.specs.Decide.Table.{acts as actsOf, tableTold};
+ghost use Rattle.machine.specs.Decide.Table.{acts as actsOf};
 ghost use Rattle.machine.specs.Held.{Held, HeldPlaces, HeldEntries};
 ghost use Rattle.machine.proofs.Reached.{Reached};
 ghost use Rattle.stepper.specs.Shown.{ofMachine, Shows, Steps, Stays, stepBy, placeOf, placesOf, threadsOf, frameOf};
-ghost use Rattle.stepper.specs.Slices.{guardAt, holdsAt, followsAt, entryBy, entryAt, slices, guardsOnly, truths};
+ghost use Rattle.stepper.specs.Slices.{guardAt, holdsAt, followsAt, entryBy, slices, guardsOnly};
 ghost use Rattle.stepper.specs.Slices.{toldAt, ownIn, toldBehind, configOf};
 ghost use Rattle.stepper.specs.Parts.{verdict, verdictOf, nextBy};
 
@@ -33,7 +34,7 @@ pub struct Thread {
 // The record of both machines' runs: the state's number, the place of each of sixteen threads, and each machine's
 // notified set.
 pub struct Run {
-    pub state: u16,
+    pub state: StateNumber,
     pub threads: [Thread; machine::THREADS],
     pub plain: u16,
     pub table: u16,
@@ -72,7 +73,7 @@ const MISPLACED: u8 = 13;
 const NOT_ALLOWED: u8 = 14;
 
 // A run at its start: all idle, none notified.
-pub fn start(state: u16) -> Run
+pub fn start(state: StateNumber) -> Run
     ensures { λ r. ⌜ ((w : Bool) → Shows w r (allIdle state)) ⌝ }
 {
     Run {
@@ -90,7 +91,7 @@ fn guard_at(guard_of: &[u8; machine::REGIONS], region: u8) -> u8
     guard_of[(region % machine::REGION_END) as usize] % machine::REGION_END
 }
 
-fn holds_at(holds: &[u16; machine::STATES], guard: u8, state: u16) -> bool
+fn holds_at(holds: &[u16; machine::STATES], guard: u8, state: StateNumber) -> bool
     ensures { λ r. ⌜ r ≡ holdsAt (now (holds .entry)) guard state ⌝ }
 {
     sets::has(holds[(state % machine::STATE_END) as usize], guard as u32)
@@ -272,7 +273,7 @@ fn told(
     threads: [Thread; machine::THREADS],
     guard_of: &[u8; machine::REGIONS],
     holds: &[u16; machine::STATES],
-    state: u16,
+    state: StateNumber,
     entries: &[u8; machine::ENTRIES],
     region: u8,
 ) -> Notices
@@ -401,7 +402,7 @@ fn ran(
     run: Run,
     frame: Frame,
     holds: &[u16; machine::STATES],
-    after: &[u16; machine::AFTER],
+    after: &[StateNumber; machine::AFTER],
     guard_of: &[u8; machine::REGIONS],
     goes_on: &[u8; machine::REGIONS],
     entries: &[u8; machine::ENTRIES],
@@ -461,7 +462,7 @@ pub fn step(
     run: Run,
     frame: Frame,
     holds: &[u16; machine::STATES],
-    after: &[u16; machine::AFTER],
+    after: &[StateNumber; machine::AFTER],
     guard_of: &[u8; machine::REGIONS],
     begins: &[u8; machine::REGIONS],
     goes_on: &[u8; machine::REGIONS],

@@ -1,17 +1,16 @@
 // The truth of conditions at every state of a file, sixteen states at a time, into lent slices. A condition is evaluated
 // anew only where a variable that it names has changed since the last sixteen states.
+use machine::StateNumber;
 use variables::Bounds;
 ghost use mathlib.Core.Path.{_≡_};
-ghost use mathlib.Core.Bool.{Bool, true, false};
 ghost use mathlib.Core.List.{List};
-ghost use Prim.Native.Nat.{ℕ, _+_, _*_, _<_, _≤_};
-ghost use lib.ListN.{length, getD};
+ghost use Prim.Native.Nat.{ℕ, _+_, _<_, _≤_};
+ghost use lib.ListN.{length};
 ghost use Rattle.machine.specs.Limits.{mostRegions, mostStates};
 ghost use Rattle.sets.specs.Set.{member};
-ghost use Rattle.syntax.specs.Tree.{Var, Cond, spellCond};
+ghost use Rattle.syntax.specs.Tree.{Var, Cond};
 ghost use Rattle.logic.specs.Tests.{bit};
 ghost use Rattle.meaning.specs.Value.{truth};
-ghost use Rattle.evaluator.specs.Coding.{Covers};
 ghost use Rattle.lanes.specs.Promises.{Sixteen, Values};
 ghost use Rattle.states.specs.Rows.{TruthRow, TruthSets};
 ghost use Rattle.truths.specs.Carried.{Condition, Conditions, Truth, Truths, Carried, CarriedAll};
@@ -76,13 +75,13 @@ fn truths_from(
 }
 
 // Sixteen sets into a slice.
-fn put_sets(sets: &[u16], from: usize, row: &mut [u16])
+fn put_sets(sets: &[u16], from: StateNumber, row: &mut [u16])
     requires { ⌜ (length (now sets) ≡ 16) × (from + 16 ≤ length (now row)) ⌝ }
     ensures { λ _. ⌜ PutSets (now (sets .entry)) from (now (row .entry)) (now (row .exit)) ⌝ }
 {
     let mut j: usize = 0;
     while j < 16 {
-        row[from + j] = sets[j];
+        row[from as usize + j] = sets[j];
         j += 1;
     }
 }
@@ -95,13 +94,13 @@ fn bit_of(b: bool) -> u8
 }
 
 // The lanes of a set into a slice, 1 and 0.
-fn put_bits(known: u16, from: usize, row: &mut [u8])
+fn put_bits(known: u16, from: StateNumber, row: &mut [u8])
     requires { ⌜ from + 16 ≤ length (now row) ⌝ }
     ensures { λ _. ⌜ PutBits known from (now (row .entry)) (now (row .exit)) ⌝ }
 {
     let mut j: usize = 0;
     while j < 16 {
-        row[from + j] = bit_of(sets::has(known, j as u32));
+        row[from as usize + j] = bit_of(sets::has(known, j as u32));
         j += 1;
     }
 }
@@ -141,7 +140,7 @@ pub fn fill_sets(kinds: &[u8], values: &[u16], bounds: Bounds, texts: Texts, row
         return;
     }
     let states = bounds.states;
-    if machine::STATES < states {
+    if machine::STATE_END < states {
         return;
     }
     if row.len() < machine::STATES {
@@ -150,7 +149,7 @@ pub fn fill_sets(kinds: &[u8], values: &[u16], bounds: Bounds, texts: Texts, row
     let mut lanes = lanes::first_lanes(bounds);
     let mut changed: u16 = 0;
     let mut sets = [0u16; 16];
-    let mut s: usize = 0;
+    let mut s: StateNumber = 0;
     while s < states {
         truths_from(kinds, values, &lanes, texts, changed, s == 0, &mut sets);
         put_sets(&sets, s, row);
@@ -168,7 +167,7 @@ pub fn fill_row(kinds: &[u8], values: &[u16], bounds: Bounds, at: usize, named: 
         → mostStates ≤ length (now (row .entry)) → TruthRow vs (truth c vs) (now (row .exit))) ⌝ }
 {
     let states = bounds.states;
-    if machine::STATES < states {
+    if machine::STATE_END < states {
         return;
     }
     if row.len() < machine::STATES {
@@ -177,7 +176,7 @@ pub fn fill_row(kinds: &[u8], values: &[u16], bounds: Bounds, at: usize, named: 
     let mut lanes = lanes::first_lanes(bounds);
     let mut changed: u16 = 0;
     let mut known: u16 = 0;
-    let mut s: usize = 0;
+    let mut s: StateNumber = 0;
     while s < states {
         known = truth_from(kinds, values, &lanes, at, named, changed, s == 0, known);
         put_bits(known, s, row);

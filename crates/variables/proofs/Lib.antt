@@ -1,5 +1,3 @@
-pub mod Offsets
-pub mod Indices
 pub mod Spelled
 pub mod Slots
 pub mod States

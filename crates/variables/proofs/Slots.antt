@@ -1,24 +1,24 @@
 -- Variables in slots: none, one more, and what a good range says of the numbers that hold it.
-use Prim.Native.Nat.{ℕ, zero, suc, _+_, _-_, _*_, _<_, _≤_}
+use Prim.Native.Nat.{ℕ, _+_, _-_, _*_, _<_, _≤_}
 use native.Mathlib.Omega.{arith}
-use native.Mathlib.Nat.{mul-assoc, mul-one, one-mul, mul-comm, le-mul-of-pos-right}
-use mathlib.Core.Path.{_≡_, refl, ap, _∙_}
+use native.Mathlib.Nat.{mul-assoc, mul-one, one-mul}
+use mathlib.Core.Path.{_≡_, refl, _∙_}
 use mathlib.Core.Logic.{⊎-elim}
 use mathlib.Core.List.{List, [], _∷_, _++_}
-use mathlib.Core.Option.{some, Option·some-injective}
-use lib.ListN.{length, drop, set, getElem?, replicate, length-append, length-set}
+use mathlib.Core.Option.{some}
+use lib.ListN.{length, set, getElem?, replicate, length-append, length-set}
 use lib.IntN.{ℤ}
 use Rattle.syntax.specs.Tree.{Var}
-use Rattle.meaning.specs.Value.{intOf}
 use Rattle.meaning.specs.State.{size, count}
+use Rattle.meaning.proofs.SixteenBits.{size-is}
 use Rattle.meaning.specs.Accepted.{AtMost, GoodRange, GoodRanges, no-vars, one-var}
 use Rattle.logic.proofs.Bools.{no-some}
-use Rattle.variables.specs.Bounded.{Shifted}
-use Rattle.variables.proofs.Offsets.{shifted-le, shifted-distance, le-shifted, pos-shifted, neg-shifted, rebased}
+use Rattle.meaning.specs.Held.{Shifted}
+use Rattle.meaning.proofs.Offsets.{shifted-le, le-shifted, pos-shifted, neg-shifted, rebased}
 use Rattle.variables.specs.Promises.{TripleOf, Good, Slots, Loaded, WithVar}
 use Rattle.variables.specs.declared.Bounds.{Bounds}
 use Rattle.variables.specs.declared.Triple.{Triple}
-use Rattle.variables.proofs.Indices.{elem-inside, elem-snoc, set-each, six-at, six-at-most}
+use Rattle.logic.proofs.Indices.{elem-inside, elem-snoc, set-each, six-at, six-at-most}
 
 module _ (f : Var → ℤ) (e : ℕ) where
   pub slots-none : e ≤ 255 → Slots f e [] (replicate 6 e)
@@ -51,12 +51,6 @@ module _ (f : Var → ℤ) (e : ℕ) where
           unused = set-each (λ k x. k < 6 → length (vs ++ (v ∷ [])) ≤ k → x ≡ e) xs (length vs) n (omega arith)
               (λ _ q. absurd (omega arith)) (λ k _ l q. s .unused k l (omega arith));
         }
-
--- the size of a range
-pub size-is : (v : Var) {b l h : ℕ} → Shifted b (intOf (v .low)) l → Shifted b (intOf (v .high)) h → l ≤ h
-    → size v ≡ h - l + 1
-unfolding size
-size-is v el eh o = ap (λ (n : ℕ). n + 1) (shifted-distance el eh o)
 
 module _ (v : Var) (t : Triple) (h : TripleOf v t) where
   pub good-range : (n : ℕ) → Good n t → GoodRange v
@@ -110,23 +104,3 @@ loaded-one vs v b r t l room h g w =
           rw (w .starts i, c) (slots-one _ _ vs (b .starts) (l .starts) room v (t .start) (h .start) (omega arith)
           (omega arith));
     }
-
--- Good ranges, by index
-
-pub good-at : {vs : List Var} → GoodRanges vs → (k : ℕ) (v : Var) → getElem? vs k ≡ some v → GoodRange v
-good-at no-vars k v e = no-some e
-good-at (one-var {v = u} g gs) zero v e = rw (← Option·some-injective u v e) g
-good-at (one-var g gs) (suc k) v e = good-at gs k v e
-
-size-pos : (v : Var) → 0 < size v
-unfolding size
-size-pos v = omega arith
-
--- the states of what is left from an index
-pub count-drop : (vs : List Var) (k : ℕ) → count (drop k vs) ≤ count vs
-unfolding count
-count-drop [] zero = omega arith
-count-drop [] (suc k) = omega arith
-count-drop (v ∷ vs) zero = omega arith
-count-drop (v ∷ vs) (suc k) =
-    omega (arith, count-drop vs k, le-mul-of-pos-right (count vs) (size-pos v), mul-comm (count vs) (size v))

@@ -11,10 +11,10 @@ use Rattle.syntax.specs.Tree.{Int, plain, negated, Var, spellInt, spellVar}
 use Rattle.meaning.specs.Value.{intOf}
 use Rattle.variables.specs.Bounded.{Numbers}
 use Rattle.variables.specs.Places.{toStart, plainLong, negatedLong}
-use Rattle.variables.proofs.Offsets.{pos-shifted, neg-shifted}
+use Rattle.meaning.proofs.Offsets.{pos-shifted, neg-shifted}
 use Rattle.variables.specs.Promises.{SpelledInt, IntAt, SpelledVar}
 use Rattle.variables.specs.declared.Integer.{Integer}
-use Rattle.variables.proofs.Indices.{elem-left, drop-next, elem-map}
+use Rattle.logic.proofs.Indices.{elem-left, drop-next, elem-map}
 
 length-var : (v : Var)
     → length (spellVar v) ≡ 6 + length (spellInt (v .start)) + length (spellInt (v .low)) + length (spellInt (v .high))

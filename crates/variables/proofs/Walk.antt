@@ -25,9 +25,12 @@ use Rattle.meaning.specs.Held.{Offset, Biased, Ranges}
 use Rattle.variables.specs.Promises.{TripleAt, SpelledVar, Good, Slots, Loaded, WithVar, Weighed}
 use Rattle.variables.specs.declared.Bounds.{Bounds}
 use Rattle.variables.specs.declared.Triple.{Triple}
-use Rattle.variables.proofs.Indices.{at-index}
+use Rattle.logic.proofs.Indices.{at-index}
 use Rattle.variables.proofs.Spelled.{kind-is}
-use Rattle.variables.proofs.Slots.{size-is, good-range, range-good, good-snoc, count-snoc, loaded-one}
+use Rattle.meaning.specs.SixteenBits.{weightIn}
+use Rattle.meaning.proofs.SixteenBits.{size-is, weight-is}
+use Rattle.variables.proofs.Slots.{good-range, range-good, good-snoc, count-snoc, loaded-one}
+use Rattle.variables.proofs.States.{ranges-ordered}
 
 -- Variables that are all held
 
@@ -73,16 +76,19 @@ ranges-held vs lows highs lo hi =
 bounded-all : (vs : List Var) (b r : Bounds) → GoodRanges vs → count vs ≤ 4096 → length vs ≤ 6 → Loaded vs b
     → Weighed b r → Bounded vs r
 bounded-all vs b r good few-states few l w =
+    let ranges = ranges-held vs (b .lows) (b .highs) (l .lows) (l .highs) in
     record {
       few-vars = few;
       good = good;
       few-states = few-states;
       counted = w .counted ∙ l .counted;
       states = w .states ∙ l .states;
-      ranges = rw (w .lows, w .highs) (ranges-held vs (b .lows) (b .highs) (l .lows) (l .highs));
+      ranges = rw (w .lows, w .highs) ranges;
       start-values = rw (w .starts) (starts-held vs (b .starts) few (l .starts));
-      weigh = λ k h. w .weights .weigh vs (l .lows) (l .highs) good few-states (sym (l .counted)) k
-          (omega (arith, l .counted));
+      weigh = λ k h.
+          w .weights .weigh (rw (l .counted) (ranges-ordered ranges good)) k (omega (arith, l .counted))
+          ∙ ap (λ (n : ℕ). weightIn (b .lows) (b .highs) n (suc k)) (l .states)
+          ∙ weight-is ranges good (suc k) (omega arith);
     }
 
 -- Which tokens begin a variable

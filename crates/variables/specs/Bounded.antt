@@ -5,14 +5,16 @@ use mathlib.Core.Bool.{Bool, true, false}
 use mathlib.Core.List.{List, _∷_, map}
 use mathlib.Core.Option.{some}
 use lib.ListN.{length, getD, drop, take, getElem?}
-use lib.IntN.{ℤ, pos, _-ℤ_}
+use lib.IntN.{ℤ}
 use Rattle.syntax.specs.Limits.{mostVars}
 use Rattle.machine.specs.Limits.{mostStates}
 use Rattle.syntax.specs.Token.{Lexeme, number, key, k-var}
 use Rattle.syntax.specs.Held.Kind.{kindOf}
 use Rattle.syntax.specs.Tree.{Var, each, spellVar}
 use Rattle.meaning.specs.Held.{Biased, Ranges}
-use Rattle.meaning.specs.State.{count, starts}
+use Rattle.meaning.specs.State.{count, stateAt, numberOf, starts}
+use Rattle.meaning.specs.Runs.{State}
+use Rattle.meaning.specs.SixteenBits.{wrapped, numberIn, valueIn}
 use Rattle.meaning.specs.Accepted.{GoodRanges}
 use Rattle.meaning.specs.Refusal.{FirstIllRanged}
 use Rattle.variables.specs.declared.Bounds.{Bounds}
@@ -35,6 +37,17 @@ pub record Bounded (vs : List Var) (b : Bounds) : Type 0 where
   pub start-values : Biased vs (starts vs) (b .starts)
   pub weigh : (k : ℕ) → k < length vs → getD (b .weights) k 0 ≡ count (drop (suc k) vs)
 
+-- a state's number: worked out in sixteen bits from what is held, and of a state's values document 01's number
+pub record NumberOf (b : Bounds) (values : List ℕ) (r : ℕ) : Type 0 where
+  pub worked-out : b .count ≤ mostVars → r ≡ numberIn wrapped (b .lows) (b .weights) values (b .count)
+  pub is : (vs : List Var) (as′ : List ℤ) → Bounded vs b → Biased vs as′ values → State vs as′ → r ≡ numberOf vs as′
+
+-- and the values of the state with a number
+pub record ValuesOf (b : Bounds) (state : ℕ) (r : List ℕ) : Type 0 where
+  pub worked-out : b .count ≤ mostVars → (k : ℕ) → k < b .count
+      → getD r k 0 ≡ valueIn wrapped (b .lows) (b .weights) state k
+  pub are : (vs : List Var) → Bounded vs b → state < count vs → Biased vs (stateAt vs state) r
+
 -- what stands behind the variables is no `var`
 unfoldable pub EndsVars : List Lexeme → Type 0
 EndsVars us = (l : Lexeme) × (rest : List Lexeme) × (us ≡ l ∷ rest) × (l ≡ key k-var → ⊥)
@@ -46,7 +59,3 @@ RangedBy false vs ls us at r = (i : ℕ) × FirstIllRanged vs i × (r .token ≡
 
 unfoldable pub Ranged : List Var → List Lexeme → List Lexeme → ℕ → Declared → Type 0
 Ranged vs ls us at r = RangedBy (r .ok) vs ls us at r
-
--- a whole number, held as n with b added
-pub record Shifted (b : ℕ) (a : ℤ) (n : ℕ) : Type 0 where
-  pub is : a ≡ pos n -ℤ pos b

@@ -13,8 +13,9 @@ use Rattle.syntax.specs.Token.{Lexeme}
 use Rattle.syntax.specs.Tree.{Int, Var, spellInt, spellVar}
 use Rattle.meaning.specs.Value.{intOf}
 use Rattle.meaning.specs.State.{count}
-use Rattle.meaning.specs.Accepted.{GoodRanges}
-use Rattle.variables.specs.Bounded.{Shifted, Numbers}
+use Rattle.meaning.specs.Held.{Shifted}
+use Rattle.meaning.specs.SixteenBits.{wrapped, weightIn}
+use Rattle.variables.specs.Bounded.{Numbers}
 use Rattle.variables.specs.Places.{negatedLong}
 use Rattle.variables.specs.declared.Bounds.{Bounds}
 use Rattle.variables.specs.declared.Integer.{Integer}
@@ -88,14 +89,17 @@ pub record WithVar (b : Bounds) (t : Triple) (r : Bounds) : Type 0 where
   pub states : b .count < mostVars → r .states ≡ b .states * (t .high - t .low + 1)
 
 pub record SizeOf (low high r : ℕ) : Type 0 where
-  pub small : r ≤ 65536
-  pub ordered : low ≤ high → r ≡ high - low + 1
+  pub some : 0 < r
+  pub most : r ≤ high + 1
+  pub is : low ≤ high → high ≤ 255 → r ≡ high - low + 1
 
--- the weights of some variables
-pub record Weights (lows highs : List ℕ) (n : ℕ) (ws : List ℕ) : Type 0 where
-  pub weigh : (vs : List Var) → Slots (λ v. intOf (v .low)) 1 vs lows → Slots (λ v. intOf (v .high)) 0 vs highs
-      → GoodRanges vs
-      → count vs ≤ mostStates → length vs ≡ n → (k : ℕ) → k < n → getD ws k 0 ≡ count (drop (suc k) vs)
+-- the ranges of n variables are in order and end at 255 at most
+unfoldable pub Ordered : List ℕ → List ℕ → ℕ → Type 0
+Ordered lows highs n = (k : ℕ) → k < n → (getD lows k 0 ≤ getD highs k 0) × (getD highs k 0 ≤ 255)
+
+-- the weights of n variables
+pub record Weights (lows highs : List ℕ) (n states : ℕ) (ws : List ℕ) : Type 0 where
+  pub weigh : Ordered lows highs n → (k : ℕ) → k < n → getD ws k 0 ≡ weightIn lows highs states (suc k)
 
 -- the same bounds, with their weights
 pub record Weighed (b r : Bounds) : Type 0 where
@@ -104,13 +108,9 @@ pub record Weighed (b r : Bounds) : Type 0 where
   pub starts : r .starts ≡ b .starts
   pub counted : r .count ≡ b .count
   pub states : r .states ≡ b .states
-  pub weights : Weights (b .lows) (b .highs) (b .count) (r .weights)
+  pub weights : Weights (b .lows) (b .highs) (b .count) (b .states) (r .weights)
 
--- a value and the rest of a state's number, where the weight is not 0
+-- a value and the rest of a state's number
 pub record DigitOf (low weight rest : ℕ) (r : Digit) : Type 0 where
-  pub value : 0 < weight → low + rest / weight ≤ 255 → r .value ≡ low + rest / weight
-  pub left : 0 < weight → r .rest ≡ rest % weight
-
-pub record ShareOf (value low weight r : ℕ) : Type 0 where
-  pub small : r ≤ 4294967296
-  pub share : low ≤ value → r ≡ (value - low) * weight
+  pub value : r .value ≡ wrapped (low + rest / weight)
+  pub left : r .rest ≡ rest % weight

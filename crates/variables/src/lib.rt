@@ -1,29 +1,28 @@
 // The variables of a file: their bounds and start values from its tokens (7), and states as values and as numbers.
-// Values are held with 128 added.
+// Values are held with 128 added, states' numbers in sixteen bits.
+use machine::StateNumber;
 ghost use mathlib.Core.Path.{_≡_};
 ghost use mathlib.Core.List.{List, [], _++_};
-ghost use Prim.Native.Nat.{ℕ, _+_, _^_, _<_, _≤_};
+ghost use Prim.Native.Nat.{_+_, _-_, _*_, _^_, _<_, _≤_};
 ghost use lib.ListN.{drop, length, getD};
-ghost use lib.IntN.{ℤ};
 ghost use Rattle.syntax.specs.Limits.{mostBytes, mostVars};
 ghost use Rattle.machine.specs.Limits.{mostStates};
 ghost use Rattle.syntax.specs.Token.{Lexeme};
 ghost use Rattle.syntax.specs.Tree.{Var, each, spellVar};
-ghost use Rattle.meaning.specs.State.{stateAt, numberOf, count};
-ghost use Rattle.meaning.specs.Runs.{State};
-ghost use Rattle.variables.specs.Bounded.{Numbers, EndsVars, Ranged, Bounded};
-ghost use Rattle.meaning.specs.Held.{Biased};
+ghost use Rattle.meaning.specs.State.{count};
+ghost use Rattle.variables.specs.Bounded.{Numbers, EndsVars, Ranged, NumberOf, ValuesOf};
+ghost use Rattle.meaning.specs.SixteenBits.{wrapped, share};
 ghost use Rattle.variables.specs.Promises.{IntAt, TripleAt, Good, Fitting, WithVar, Loaded, SizeOf, Weights};
-ghost use Rattle.variables.specs.Promises.{Weighed, DigitOf, ShareOf};
+ghost use Rattle.variables.specs.Promises.{Weighed, DigitOf};
 
-// At most six variables: bounds, start values, sizes of ranges, and weights in a state's number.
+// At most six variables: bounds, start values, and weights in a state's number; and the count of states.
 pub struct Bounds {
     pub lows: [u16; syntax::VARIABLES],
     pub highs: [u16; syntax::VARIABLES],
     pub starts: [u16; syntax::VARIABLES],
     pub weights: [u16; syntax::VARIABLES],
     pub count: usize,
-    pub states: usize,
+    pub states: StateNumber,
 }
 
 // The variables, with the token behind them; or the token of the first variable with a bad range (7).
@@ -118,8 +117,7 @@ fn triple_at(kinds: &[u8], values: &[u16], at: usize) -> Triple
 }
 
 // Whether a variable's bounds and start value are good and leave at most 4,096 states.
-fn fits(states: usize, v: Triple) -> bool
-    requires { ⌜ states ≤ mostStates ⌝ }
+fn fits(states: StateNumber, v: Triple) -> bool
     ensures { λ r. ⌜ Fitting states v r ⌝ }
 {
     if v.high < v.low {
@@ -137,7 +135,7 @@ fn fits(states: usize, v: Triple) -> bool
     if v.high < v.start {
         return false;
     }
-    states * ((v.high - v.low) as usize + 1) <= machine::STATES
+    states <= machine::STATE_END / ((v.high - v.low) as u16 + 1)
 }
 
 // No variables: slots without a variable have an empty range, and 0 as their start value.
@@ -167,38 +165,39 @@ fn with_var(bounds: Bounds, v: Triple) -> Bounds
         next.highs[at] = (v.high - LOWEST) as u16;
         next.starts[at] = (v.start - LOWEST) as u16;
         next.count = at + 1;
-        next.states = bounds.states * ((v.high - v.low) as usize + 1);
+        next.states = bounds.states * ((v.high - v.low) as u16 + 1);
     }
     next
 }
 
-// How many values a range has.
-fn size_of(low: u16, high: u16) -> usize
+// How many values a range has. The remainder keeps the number small for any range.
+pub fn size_of(low: u16, high: u16) -> u16
     ensures { λ r. ⌜ SizeOf low high r ⌝ }
 {
     if low <= high {
-        (high - low) as usize + 1
+        (high - low) % 4096 + 1
     } else {
-        0
+        1
     }
 }
 
-// The weights of the variables, the last one weighing 1. The remainder keeps the product small for any bounds.
+// The weights of the variables: the count of states, divided by the size of each range in turn.
 fn weights_of(
     lows: [u16; syntax::VARIABLES],
     highs: [u16; syntax::VARIABLES],
     count: usize,
+    states: StateNumber,
 ) -> [u16; syntax::VARIABLES]
     requires { ⌜ count ≤ mostVars ⌝ }
-    ensures { λ r. ⌜ Weights lows highs count r ⌝ }
+    ensures { λ r. ⌜ Weights lows highs count states r ⌝ }
 {
     let mut weights = [1u16; syntax::VARIABLES];
-    let mut weight: usize = 1;
-    let mut k = count;
-    while 0 < k {
-        k -= 1;
-        weights[k] = weight as u16;
-        weight = weight * size_of(lows[k], highs[k]) % 65536;
+    let mut weight = states;
+    let mut k: usize = 0;
+    while k < count {
+        weight = weight / size_of(lows[k], highs[k]);
+        weights[k] = weight;
+        k += 1;
     }
     weights
 }
@@ -211,7 +210,7 @@ fn weighed(bounds: Bounds) -> Bounds
     let mut next = bounds;
     let lows = bounds.lows;
     let highs = bounds.highs;
-    let weights = weights_of(lows, highs, bounds.count);
+    let weights = weights_of(lows, highs, bounds.count, bounds.states);
     next.weights = weights;
     next
 }
@@ -244,14 +243,28 @@ pub fn read(kinds: &[u8], values: &[u16], at: usize) -> Declared
     }
 }
 
+// What sixteen bits keep of a sum.
+pub fn plus(a: u16, b: u16) -> u16
+    ensures { λ r. ⌜ r ≡ wrapped (a + b) ⌝ }
+{
+    std::num::wrapping_add_u16(a, b)
+}
+
+// And of a product: the language has no wrapping one, so the wide one is cut at once.
+fn times(a: u16, b: u16) -> u16
+    ensures { λ r. ⌜ r ≡ wrapped (a * b) ⌝ }
+{
+    (a as u32 * b as u32 % 65536) as u16
+}
+
 // A value, and the number that is left for the variables behind it.
 struct Digit {
     value: u16,
-    rest: usize,
+    rest: StateNumber,
 }
 
-// The value that a number says at a weight. The remainders keep the sum small for any number.
-fn digit_of(low: u16, weight: u16, rest: usize) -> Digit
+// The value that a number says at a weight.
+fn digit_of(low: u16, weight: u16, rest: StateNumber) -> Digit
     ensures { λ r. ⌜ DigitOf low weight rest r ⌝ }
 {
     if weight == 0 {
@@ -260,16 +273,15 @@ fn digit_of(low: u16, weight: u16, rest: usize) -> Digit
             rest: rest,
         };
     }
-    let w = weight as usize;
     Digit {
-        value: ((low as usize + rest / w % 65536) % 65536) as u16,
-        rest: rest % w,
+        value: plus(low, rest / weight),
+        rest: rest % weight,
     }
 }
 
 // The values of the state with a number.
-pub fn values_of(bounds: Bounds, state: usize) -> [u16; syntax::VARIABLES]
-    ensures { λ r. ⌜ ((vs : List Var) → Bounded vs bounds → state < count vs → Biased vs (stateAt vs state) r) ⌝ }
+pub fn values_of(bounds: Bounds, state: StateNumber) -> [u16; syntax::VARIABLES]
+    ensures { λ r. ⌜ ValuesOf bounds state r ⌝ }
 {
     let mut values = [128u16; syntax::VARIABLES];
     let mut rest = state;
@@ -286,29 +298,32 @@ pub fn values_of(bounds: Bounds, state: usize) -> [u16; syntax::VARIABLES]
     values
 }
 
-// What a value adds to a state's number.
-fn share_of(value: u16, low: u16, weight: u16) -> usize
-    ensures { λ r. ⌜ ShareOf value low weight r ⌝ }
+// How far a value is above a lowest one, 0 below it.
+fn above(value: u16, low: u16) -> u16
+    ensures { λ r. ⌜ r ≡ value - low ⌝ }
 {
-    if low <= value {
-        (value - low) as usize * weight as usize
-    } else {
-        0
-    }
+    if low <= value { value - low } else { 0 }
+}
+
+// What a value adds to a state's number: how far it is above its lowest, as often as it weighs.
+pub fn share_of(value: u16, low: u16, weight: u16) -> StateNumber
+    ensures { λ r. ⌜ r ≡ share wrapped value low weight ⌝ }
+{
+    times(above(value, low), weight)
 }
 
 // The number of the state with some values.
-pub fn number_of(bounds: Bounds, values: [u16; syntax::VARIABLES]) -> usize
-    ensures { λ r. ⌜ ((vs : List Var) (as′ : List ℤ) → Bounded vs bounds → Biased vs as′ values → State vs as′
-        → r ≡ numberOf vs as′) ⌝ }
+pub fn number_of(bounds: Bounds, values: [u16; syntax::VARIABLES]) -> StateNumber
+    ensures { λ r. ⌜ NumberOf bounds values r ⌝ }
 {
-    let mut number: usize = 0;
+    let mut number: StateNumber = 0;
     let mut k = 0;
     while k < syntax::VARIABLES {
         if bounds.count <= k {
             return number;
         }
-        number += share_of(values[k], bounds.lows[k], bounds.weights[k]);
+        let more = share_of(values[k], bounds.lows[k], bounds.weights[k]);
+        number = plus(number, more);
         k += 1;
     }
     number

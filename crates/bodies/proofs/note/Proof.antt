@@ -35,12 +35,13 @@ loop-again c =
 returns : tie.Need-returns Inv-loop μ-loop
 returns c =
     let to = c .before .before .numbers in
-    stretch-map (λ j x l h. noted (getD (to .result) j 0) (λ vs as′. to .ensures vs as′ j l) h)
+    stretch-map (λ j x l h. noted (getD (to .result) j 0) (to .ensures j l .is) h)
     (stretch-is (c .before .loop .inv .1) (omega arith) (omega arith))
 
 pub note-spec : {M : Type 1} → statement M
 note-spec =
     tie.close
     (tie.spec Inv-loop μ-loop (λ c κs. tt) loop-holds (λ c. omega arith) (λ c κs. tt) (λ c. omega arith)
-    (λ c. omega arith) (λ c. omega arith) (λ c κs. omega arith) (λ c. omega arith) (λ c. omega arith) (λ c. omega arith)
-    (λ c. omega arith) (λ c. omega arith) (λ c. omega arith) loop-again (λ c. c .before .loop .inv .1 .long) returns)
+    (λ c. omega arith) (λ c. omega arith) (λ c. omega arith) (λ c κs. omega arith) (λ c. omega arith) (λ c. omega arith)
+    (λ c. omega arith) (λ c. omega arith) (λ c. omega arith) (λ c. omega arith) loop-again
+    (λ c. c .before .loop .inv .1 .long) returns)

@@ -21,4 +21,4 @@ returns-2 c =
 pub shift-of-spec : {M : Type 1} → statement M
 shift-of-spec =
     tie.close
-    (tie.spec returns (λ c. search needs) (λ c. search needs) (λ c. search needs) (λ c. search needs) returns-2)
+    (tie.spec returns (λ c. search needs) (λ c. search needs) returns-2)

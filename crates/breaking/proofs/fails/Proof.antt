@@ -1,10 +1,8 @@
 -- `breaking::fails` meets its contract: the mark of a fault, or what is held of the kept condition there.
 use Prim.Native.Nat.{ℕ}
-use mathlib.Core.Path.{ap, _∙_}
+use mathlib.Core.Path.{ap}
 use mathlib.Core.Bool.{not}
-use lib.ListN.{getD}
 use lib.Dec.{eqb}
-use denote.Ref.{now}
 use borrow.Author.Needs.{needs}
 use borrow.Author.Tests.{eq-eqb, ne-eqb}
 use Rattle.breaking.specs.Broken.{failsBy}
@@ -18,10 +16,8 @@ returns c = rw (eq-eqb _ 4096 (c .if1 .taken))
 returns-2 : tie.Need-returns-2
 unfolding failsBy
 returns-2 c =
-    let w = c .before in
-    let a = w .before .before .before .args in
-    rw (ne-eqb (a .to) 4096 (w .before .if1 .left))
-    (ap (λ (n : ℕ). not (eqb n 1)) (c .byte-at .ensures ∙ ap (λ (i : ℕ). getD (now (a .kept)) i 0) (w .wide .ensures)))
+    rw (ne-eqb (c .before .before .before .args .to) 4096 (c .before .if1 .left))
+    (ap (λ (n : ℕ). not (eqb n 1)) (c .byte-at .ensures))
 
 pub fails-spec : {M : Type 1} → statement M
-fails-spec = tie.close (tie.spec returns (λ c κs. search needs) (λ c κs. search needs) returns-2)
+fails-spec = tie.close (tie.spec returns (λ c κs. search needs) returns-2)

@@ -10,7 +10,7 @@ returns c file kept holds after loads = no-start loads (c .if1 .taken)
 
 returns-2 : tie.Need-returns-2
 returns-2 c file kept holds after loads =
-    start-at loads (c .before .before .before .if1 .left) _ (c .number-of .ensures)
+    start-at loads (c .before .before .before .if1 .left) _ (c .number-of .ensures .is)
 
 pub start-of-spec : {M : Type 1} → statement M
-start-of-spec = tie.close (tie.spec returns (λ c κs. search needs) returns-2)
+start-of-spec = tie.close (tie.spec returns (λ c κs. search needs) (λ c. search needs) returns-2)

@@ -1,11 +1,10 @@
 -- `choice::drop_pass` meets its contract. The loop's invariant: each try's slot is as the regions below r leave it.
 use Prim.Native.Nat.{ℕ, _+_, _-_, _*_, _≤_, _<_}
 use native.Mathlib.Omega.{arith}
-use mathlib.Core.Path.{_≡_, refl, sym, _∙_}
+use mathlib.Core.Path.{_≡_, sym, _∙_}
 use denote.Ref.{now}
-use Rattle.states.proofs.Regions.{part-at}
 use Rattle.choice.specs.Slots.{breaksBy, slotOf, rowsSlot}
-use Rattle.choice.proofs.Binding.{rows-none, rows-next, rows-same, row-of}
+use Rattle.choice.proofs.Binding.{rows-none, rows-next, rows-same}
 use Rattle.choice.proofs.drop_pass.Statement.{statement}
 use Rattle.choice.proofs.drop_pass.Tie as tie
 
@@ -26,11 +25,9 @@ loop-again c =
     let i = c .before .before .before .loop in
     let a = c .before .before .before .before .before .before .before .before .args in (
       omega arith,
-      λ u low. rows-next (i .r) (a .states) (breaksBy (now (a .after)) (a .t3) (now (a .keep)) (now (a .holds))
-          (now (a .tried)) (a .set) u) (a .pass) (slotOf (a .before) u) (slotOf (i .choice) u) _ _ (i .inv .1 u low)
-          (c .drop-row .ensures u low)
-          (λ s few. row-of (now (a .after)) (a .t3) (now (a .keep)) (now (a .holds)) (now (a .tried)) _ _ (a .set) u
-          (i .r) s refl (part-at (now (a .after)) (i .r) (i .r * 4096 + 4096 - i .r * 4096) s (omega arith) (omega arith))),
+      λ u low. rows-next (now (a .after)) (a .t3) (now (a .keep)) (now (a .holds)) (now (a .tried)) (a .set) u (i .r)
+          (a .states) (i .r * 4096 + 4096 - i .r * 4096) (a .pass) (slotOf (a .before) u) (slotOf (i .choice) u) _
+          (i .inv .1 u low) (c .drop-row .ensures u low) (omega arith) (omega arith),
     )
 
 returns : tie.Need-returns Inv-loop μ-loop

@@ -9,7 +9,7 @@ use borrow.Author.Needs.{needs}
 use Rattle.sets.specs.Set.{member}
 use Rattle.sets.proofs.SetLaws.{member-none}
 use Rattle.choice.specs.Slots.{breaksRow, slotOf, rowSlot}
-use Rattle.choice.proofs.Binding.{row-none, next-slot, row-same, broken-bit, unbroken-bit, lost-bit, mark-off}
+use Rattle.choice.proofs.Binding.{row-none, next-slot, row-same, broken-bit, unbroken-bit, mark-off}
 use Rattle.choice.proofs.drop_row.Statement.{statement}
 use Rattle.choice.proofs.drop_row.Tie as tie
 
@@ -34,21 +34,19 @@ loop-again c =
     let to = b .before .number-at in (
       omega arith,
       λ u low. ⊎-elim
-          (λ w. next-slot (i .s) _ (a .pass) (a .region) _ (slotOf (i .choice) u) _ (member (w .3 .result) u)
+          (λ w. next-slot (i .s) _ (a .pass) (a .region) _ (slotOf (i .choice) u) _ (member (w .2 .result) u)
           (i .inv .1 u low)
           (broken-bit (now (a .row)) (now (a .keep)) (now (a .holds)) (now (a .tried)) (a .guard) (a .set) u (i .s)
-          (to .result) (to .ensures) (member (i .choice .chosen) u) (sym (b .binds .ensures) ∙ w .0 .taken)
-          ∙ lost-bit (now (a .tried)) (i .choice .chosen) u (w .2 .result) (w .1 .result) (to .result)
-          (w .3 .result) (w .2 .ensures) (w .1 .ensures) (w .3 .ensures u))
-          (rw (w .6) (w .5 .ensures u low)))
+          (to .result) (to .ensures) (i .choice .chosen) (w .1 .result) (w .2 .result)
+          (sym (b .binds .ensures) ∙ w .0 .taken) (w .1 .ensures) (w .2 .ensures u))
+          (rw (w .5) (w .4 .ensures u low)))
           (⊎-elim
           (λ w. next-slot (i .s) _ (a .pass) (a .region) _ (slotOf (i .choice) u) _ false (i .inv .1 u low)
           (broken-bit (now (a .row)) (now (a .keep)) (now (a .holds)) (now (a .tried)) (a .guard) (a .set) u (i .s)
-          (to .result) (to .ensures) (member (i .choice .chosen) u) (sym (b .binds .ensures) ∙ w .0 .taken)
-          ∙ lost-bit (now (a .tried)) (i .choice .chosen) u (w .2 .result) (w .1 .result) (to .result)
-          (w .3 .result) (w .2 .ensures) (w .1 .ensures) (w .3 .ensures u)
-          ∙ ap (λ (x : ℕ). member x u) (w .4 .left) ∙ member-none u)
-          (rw (w .5) (sym (mark-off _ _ _ _ refl))))
+          (to .result) (to .ensures) (i .choice .chosen) (w .1 .result) (w .2 .result)
+          (sym (b .binds .ensures) ∙ w .0 .taken) (w .1 .ensures) (w .2 .ensures u)
+          ∙ ap (λ (x : ℕ). member x u) (w .3 .left) ∙ member-none u)
+          (rw (w .4) (sym (mark-off _ _ _ _ refl))))
           (λ w. next-slot (i .s) _ (a .pass) (a .region) _ (slotOf (i .choice) u) _ false (i .inv .1 u low)
           (unbroken-bit (now (a .row)) (now (a .keep)) (now (a .holds)) (now (a .tried)) (a .guard) (a .set) u (i .s)
           (to .result) (to .ensures) (member (i .choice .chosen) u) (sym (b .binds .ensures) ∙ w .0 .left))
@@ -62,5 +60,4 @@ pub drop-row-spec : {M : Type 1} → statement M
 drop-row-spec =
     tie.close
     (tie.spec Inv-loop μ-loop loop-holds (λ c κs. search needs) (λ c κs. search needs) (λ c κs. search needs)
-    (λ c κs. search needs) (λ c κs. search needs) (λ c. omega arith) (λ c κs. search needs)
-    (λ c. omega arith) (λ c. omega arith) loop-again returns)
+    (λ c κs. search needs) (λ c κs. search needs) (λ c. omega arith) (λ c. omega arith) loop-again returns)

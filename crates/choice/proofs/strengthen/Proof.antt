@@ -96,4 +96,4 @@ pub strengthen-spec : {M : Type 1} → statement M
 strengthen-spec =
     tie.close
     (tie.spec Inv-loop μ-loop returns returns-2 loop-holds (λ c κs. search needs) (λ c κs. search needs) (λ c. omega arith)
-    (λ c. omega arith) (λ c. omega arith) loop-again same-length returns-3)
+    (λ c. omega arith) (λ c. omega arith) (λ c. omega arith) loop-again same-length returns-3)

@@ -36,4 +36,4 @@ visit-spec =
     tie.close
     (tie.spec (λ c κs. search needs) returns (λ c. search needs) (λ c. search needs) (λ c. search needs)
     (λ c. search needs) (λ c. search needs) (λ c. search needs) (λ c κs. search needs) (λ c. search needs)
-    (λ c. search needs) returns-2)
+    (λ c. search needs) (λ c. search needs) returns-2)

@@ -99,7 +99,7 @@ module _ (c : At) {m : Monitor} {ls : List Lexeme} (f : Given c m ls) (named : M
         tries-counted = f .tries-laid .count;
         few-tries = omega (arith, f .tries-laid .count, f .few-tries);
         starts =
-            start-at c .number-of .ensures (vars m) (starts (vars m)) (f .bounded) (f .bounded .start-values)
+            start-at c .number-of .ensures .is (vars m) (starts (vars m)) (f .bounded) (f .bounded .start-values)
             (starts-state (f .bounded .good));
         long = after-long;
         by-number = numbers-of f;
@@ -158,8 +158,8 @@ pub fill-states-spec : {M : Type 1} → statement M
 fill-states-spec =
     tie.close
     (tie.spec (λ c κs. search needs) (λ c κs. search needs) (λ c κs. search needs) (λ c κs. search needs)
-    (λ c κs. search needs) (λ c. search needs) (λ c κs. search needs) (λ c κs. search needs) (λ c. search needs)
-    (λ c κs. search needs) (λ c κs. search needs) (λ c. long (c .before .before .before .before .before) .0)
+    (λ c κs. search needs) (λ c. search needs) (λ c. search needs) (λ c κs. search needs) (λ c κs. search needs)
+    (λ c. search needs) (λ c κs. search needs) (λ c κs. search needs) (λ c. long (c .before .before .before .before .before) .0)
     (λ c. long (c .before .before .before .before .before) .1) (λ c. long (c .before .before .before .before .before) .2)
     (λ c. tried-long (c .before .before .before .before .before)) returns (λ c. long (c .before .before .before .before) .0)
     (λ c. long (c .before .before .before .before) .1) (λ c. long (c .before .before .before .before) .2)

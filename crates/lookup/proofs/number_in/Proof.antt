@@ -31,7 +31,7 @@ returns-2 c =
           record {
             told = λ _. (
               refl,
-              c .number-of .ensures vs _ b (trimmed-biased vs _ b _ (omega arith) _ (rw (b .counted) at (t .trimmed .ensures)) s) s,
+              c .number-of .ensures .is vs _ b (trimmed-biased vs _ b _ (omega arith) _ (rw (b .counted) at (t .trimmed .ensures)) s) s,
             );
             untold = λ n. absurd (n s);
           },
@@ -41,4 +41,4 @@ pub number-in-spec : {M : Type 1} → statement M
 number-in-spec =
     tie.close
     (tie.spec (λ c κs. search needs) (λ c κs. search needs) returns (λ c κs. search needs) (λ c κs. search needs)
-    returns-2)
+    (λ c. search needs) returns-2)

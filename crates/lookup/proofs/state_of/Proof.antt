@@ -42,7 +42,7 @@ returns-3 c =
               known = refl;
               is-kept = on;
               var-count = k .bounded .counted;
-              values = v .values-of .ensures (vars m) (k .bounded) low;
+              values = v .values-of .ensures .are (vars m) (k .bounded) low;
               guards = holding;
               after = λ q h. c .moves .ensures q h
                   ∙ ap (λ (x : Bool). moveIn (a .layout .regions) (a .layout .«guard_of») x (b .below .result) (now (a .after)) (a .number) q) on
@@ -55,5 +55,6 @@ returns-3 c =
 pub state-of-spec : {M : Type 1} → statement M
 state-of-spec =
     tie.close
-    (tie.spec (λ c κs. search needs) returns (λ c κs. search needs) returns-2 (λ c. search needs) (λ c. search needs)
-    (λ c. search needs) (λ c κs. search needs) (λ c κs. search needs) (λ c κs. search needs) returns-3)
+    (tie.spec (λ c. search needs) (λ c κs. search needs) returns (λ c κs. search needs) returns-2 (λ c. search needs)
+    (λ c. search needs) (λ c. search needs) (λ c κs. search needs) (λ c. search needs) (λ c κs. search needs)
+    (λ c κs. search needs) returns-3)

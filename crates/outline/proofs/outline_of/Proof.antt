@@ -21,25 +21,25 @@ returns c =
       λ file ts m words spelt few-tries few bounded laid.
           outlines (record {
             vars = refl;
-            tries = named .before .before .before .before .before .count-before .ensures;
-            methods = named .before .before .before .before .count-before2 .ensures;
+            tries = named .before .before .before .before .before .before .count-before .ensures;
+            methods = named .before .before .before .before .before .count-before2 .ensures;
             regions = refl;
             guards = refl;
             states = refl;
-            start = named .before .number-of .ensures;
+            start = named .before .number-of .ensures .is;
             title = named .name-at .ensures;
             keep = c .before .before .before .before .condition-at .ensures;
             each-variable = c .before .before .before .variables-of .ensures;
             each-try = c .before .before .tries-of .ensures;
             each-method = c .before .methods-of .ensures;
             each-region = c .regions-of .ensures;
-            slots = slots (named .before .before .before .before .before .before .before .before .before);
+            slots = slots (named .before .before .before .before .before .before .before .before .before .before);
           }) words m (sym spelt) few-tries few bounded laid,
     )
 
 pub outline-of-spec : {M : Type 1} → statement M
 outline-of-spec =
     tie.close
-    (tie.spec (λ c κs. search needs) (λ c κs. search needs) (λ c κs. search needs) (λ c κs. search needs)
+    (tie.spec (λ c κs. search needs) (λ c κs. search needs) (λ c. search needs) (λ c κs. search needs) (λ c. search needs)
     (λ c κs. search needs) (λ c κs. search needs) (λ c κs. search needs) (λ c κs. search needs) (λ c κs. search needs)
-    returns)
+    (λ c κs. search needs) returns)

@@ -8,9 +8,6 @@ use Rattle.run.proofs.Records.{recorded}
 use Rattle.run.proofs.record_of.Statement.{statement}
 use Rattle.run.proofs.record_of.Tie as tie
 
-cast-values-of : tie.Need-cast-values-of
-cast-values-of c = search needs
-
 values-of-requires : tie.Need-values-of-requires
 values-of-requires c κs = search needs
 
@@ -19,12 +16,11 @@ count-requires c κs = search needs
 
 returns : tie.Need-returns
 returns c m w d b own s l =
-    let g = c .before .before .struct-known .given in
-    let long = c .before .before .before .before .good .1 .0 .1 .1 .1 .0 .1 .0 .1 in
+    let long = c .before .before .before .good .1 .0 .1 .1 .1 .0 .1 .0 .1 in
     let same = s .state in
     recorded m w d _ _ _ _ _ own s (simp length-map at long) (omega arith) (b .counted)
-    (c .before .values-of .ensures (vars m) b (omega arith))
+    (c .before .values-of .ensures .are (vars m) b (omega arith))
     (c .count .ensures)
 
 pub record-of-spec : {M : Type 1} → statement M
-record-of-spec = tie.close (tie.spec cast-values-of values-of-requires count-requires returns)
+record-of-spec = tie.close (tie.spec values-of-requires count-requires returns)

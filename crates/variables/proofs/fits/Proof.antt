@@ -1,14 +1,13 @@
 -- `variables::fits` meets its contract. Each refusal breaks one part of `Good`, and what passes all tests has them all;
--- the product of at most 4,096 and 256 fits.
-use Prim.Native.Nat.{ℕ, _+_, _-_}
-use native.Mathlib.Nat.{not-le-of-lt}
+-- a product is at most 4,096 exactly when one factor is at most 4,096 divided by the other.
+use Prim.Native.Nat.{ℕ, _+_, _-_, _<_}
+use native.Mathlib.Nat.{not-le-of-lt, le-div-iff-mul-le}
 use native.Mathlib.Omega.{arith}
 use mathlib.Core.Bool.{false, false≢true}
 use borrow.Author.Tests.{leb-true, leb-false}
 use borrow.Author.Needs.{needs}
 use Rattle.variables.specs.Promises.{Good, Fitting}
 use Rattle.variables.specs.declared.Triple.{Triple}
-use Rattle.variables.proofs.Indices.{mul-at-most}
 use Rattle.variables.proofs.fits.Statement.{statement}
 use Rattle.variables.proofs.fits.Tie as tie
 
@@ -36,13 +35,10 @@ cast-result c = search needs
 add-result : tie.Need-add-result
 add-result c = search needs
 
-mul-result : tie.Need-mul-result
-mul-result c =
-    let a = c .before .before .before .before .before .before .before .before .before .before .before .args in
-    omega (arith, mul-at-most (a .states) (a .v .high - a .v .low + 1) 4096 256 (omega arith) (omega arith))
-
 returns-6 : tie.Need-returns-6
 returns-6 c =
+    let v = c .before .before .before .before .before .before .before .before .before .before .before .args .v in
+    let some : 0 < v .high - v .low + 1 = omega arith in
     record {
       yes = λ e.
           record {
@@ -51,12 +47,12 @@ returns-6 c =
             high-bound = omega arith;
             start-above = omega arith;
             start-below = omega arith;
-            few = leb-true _ _ e;
+            few = le-div-iff-mul-le some .0 (leb-true _ _ e);
           };
-      no = λ e g. not-le-of-lt (leb-false _ _ e) (g .few);
+      no = λ e g. not-le-of-lt (leb-false _ _ e) (le-div-iff-mul-le some .1 (g .few));
     }
 
 pub fits-spec : {M : Type 1} → statement M
 fits-spec =
     tie.close
-    (tie.spec returns returns-2 returns-3 returns-4 returns-5 cast-result add-result mul-result returns-6)
+    (tie.spec returns returns-2 returns-3 returns-4 returns-5 cast-result add-result (λ c. search needs) returns-6)

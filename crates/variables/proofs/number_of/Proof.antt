@@ -1,89 +1,60 @@
--- `variables::number_of` meets its contract. The loop's invariant: the number so far and the number of what is left
--- from k on make up the whole; each share is at most 2 ^ 32.
-use Prim.Native.Nat.{_+_, _-_, _*_, _≤_}
-use native.Mathlib.Nat.{zero-add}
+-- `variables::number_of` meets its contract. The loop's invariant: the number is the one that the first k variables make.
+use Prim.Native.Nat.{ℕ, _+_, _-_, _≤_}
 use native.Mathlib.Omega.{arith}
-use mathlib.Core.Path.{_≡_}
-use mathlib.Core.List.{List}
-use lib.ListN.{drop}
-use lib.IntN.{ℤ}
+use mathlib.Core.Path.{_≡_, refl, sym, ap, ap₂, _∙_}
 use borrow.Author.Needs.{needs}
-use Rattle.syntax.specs.Tree.{Var}
-use Rattle.meaning.specs.State.{numberOf}
-use Rattle.meaning.specs.Runs.{State}
-use Rattle.variables.specs.Bounded.{Bounded}
-use Rattle.meaning.specs.Held.{Biased}
-use Rattle.variables.proofs.States.{number-more, number-end}
+use Rattle.meaning.specs.SixteenBits.{wrapped, numberIn}
+use Rattle.meaning.proofs.SixteenBits.{number-more}
+use Rattle.variables.proofs.States.{number-from}
 use Rattle.variables.proofs.number_of.Statement.{statement}
 use Rattle.variables.proofs.number_of.Tie as tie
 
 abbrev Inv-loop : tie.InvT-loop
 Inv-loop bounds values number₀ k₀ number k =
-    (k ≤ 6) × (number ≤ k * 4294967296)
-    × ((vs : List Var) (as′ : List ℤ) → Bounded vs bounds → Biased vs as′ values → State vs as′
-    → number + numberOf (drop k vs) (drop k as′) ≡ numberOf vs as′)
+    (k ≤ 6) × (k ≤ bounds .count) × (number ≡ numberIn wrapped (bounds .lows) (bounds .weights) values k)
 
 abbrev μ-loop : tie.MeasureT-loop
 μ-loop bounds values number₀ k₀ number k = 6 - k
 
 loop-holds : tie.Need-loop-holds Inv-loop μ-loop
-loop-holds c = (omega arith, omega arith, λ vs as′ b v s. zero-add _)
+unfolding numberIn
+loop-holds c = (omega arith, omega arith, refl)
 
 returns : tie.Need-returns Inv-loop μ-loop
-returns c vs as′ b x s =
+returns c =
     let g = c .before .before in
-    omega (
-      arith,
-      g .loop .inv .2 vs as′ b x s,
-      number-end vs (drop (g .loop .k) as′) (g .loop .k) (omega (arith, b .counted, c .if1 .taken)),
-    )
-
-mul-share-of-2 : tie.Need-mul-share-of-2 Inv-loop μ-loop
-mul-share-of-2 c = search needs
-
-element-copy-out-share-of : tie.Need-element-copy-out-share-of Inv-loop μ-loop
-element-copy-out-share-of c = search needs
-
-mul-share-of-3 : tie.Need-mul-share-of-3 Inv-loop μ-loop
-mul-share-of-3 c = search needs
-
-element-copy-out-share-of-2 : tie.Need-element-copy-out-share-of-2 Inv-loop μ-loop
-element-copy-out-share-of-2 c = search needs
+    let a = g .before .args in
+    number-from (a .t1) (a .t2)
+    (λ _. g .loop .inv .2 ∙ ap (numberIn wrapped _ _ _) (omega (arith, c .if1 .taken, g .loop .inv .1)))
 
 share-of-requires : tie.Need-share-of-requires Inv-loop μ-loop
 share-of-requires c κs = search needs
 
-add-number : tie.Need-add-number Inv-loop μ-loop
-add-number c = search needs
-
-add-k : tie.Need-add-k Inv-loop μ-loop
-add-k c = search needs
+plus-requires : tie.Need-plus-requires Inv-loop μ-loop
+plus-requires c κs = search needs
 
 loop-again : tie.Need-loop-again Inv-loop μ-loop
 loop-again c =
-    let g = c .before .before .before .before .before in
+    let g = c .before .before .before .before .before .before in
     let a = g .before .args in
-    let inside = c .before .before .before .if1 .left in (
+    let inside = c .before .before .before .before .if1 .left in (
       omega arith,
-      omega (arith, c .share-of .ensures .small),
-      λ vs as′ b x s.
-          number-more vs as′ (a .t1) (a .t2) b x s (g .loop .k) (c .share-of .result) (g .loop .number)
-          (omega (arith, b .counted))
-          (c .share-of .ensures) (g .loop .inv .2 vs as′ b x s),
+      omega arith,
+      c .plus .ensures
+          ∙ ap₂ (λ (a b : ℕ). wrapped (a + b)) (g .loop .inv .2) (c .before .share-of .ensures)
+          ∙ sym (number-more wrapped (a .t1 .lows) (a .t1 .weights) (a .t2) (g .loop .k)),
     )
 
 returns-2 : tie.Need-returns-2 Inv-loop μ-loop
-returns-2 c vs as′ b x s =
+returns-2 c =
     let g = c .before in
-    omega (
-      arith,
-      g .loop .inv .2 vs as′ b x s,
-      number-end vs (drop (g .loop .k) as′) (g .loop .k) (omega (arith, b .few-vars, c .loop-test .left)),
-    )
+    let a = g .before .args in
+    number-from (a .t1) (a .t2)
+    (λ few. g .loop .inv .2 ∙ ap (numberIn wrapped _ _ _) (omega (arith, few, c .loop-test .left, g .loop .inv .1)))
 
 pub number-of-spec : {M : Type 1} → statement M
 number-of-spec =
     tie.close
-    (tie.spec Inv-loop μ-loop loop-holds returns (λ c. search needs) (λ c. search needs) mul-share-of-2
-    element-copy-out-share-of mul-share-of-3 element-copy-out-share-of-2 share-of-requires add-number add-k
+    (tie.spec Inv-loop μ-loop loop-holds returns (λ c. search needs) (λ c. search needs) (λ c. search needs)
+    (λ c. search needs) (λ c. search needs) (λ c. search needs) share-of-requires plus-requires (λ c. search needs)
     (λ c. search needs) loop-again returns-2)

@@ -13,7 +13,7 @@ use Rattle.syntax.specs.Token.{key, k-var}
 use Rattle.syntax.specs.Decide.Lexeme.{keywordNumber}
 use Rattle.syntax.specs.Held.Kind.{kindOf}
 use Rattle.meaning.specs.State.{count}
-use Rattle.variables.proofs.Indices.{inside}
+use Rattle.logic.proofs.Indices.{inside}
 use Rattle.variables.proofs.Walk.{Walk, walk-start, walk-more, walk-bad, walk-end}
 use Rattle.variables.proofs.read.Statement.{statement}
 use Rattle.variables.proofs.read.Tie as tie

@@ -1,35 +1,37 @@
--- `variables::values_of` meets its contract. The loop's invariant: the values below k stand, and what is left of the
--- state is the state of the rest among the variables from k on.
-use Prim.Native.Nat.{_-_, _≤_, _<_}
+-- `variables::values_of` meets its contract. The loop's invariant: the values below k are those of the number, and the rest is
+-- what the first k variables leave of it.
+use Prim.Native.Nat.{ℕ, _+_, _-_, _/_, _%_, _≤_, _<_}
 use native.Mathlib.Omega.{arith}
-use mathlib.Core.Path.{_≡_, refl}
-use mathlib.Core.List.{List}
-use lib.ListN.{length, length-set}
+use mathlib.Core.Path.{_≡_, refl, sym, ap, _∙_}
+use lib.ListN.{length, getD, length-set}
 use borrow.Author.Needs.{needs}
-use Rattle.syntax.specs.Tree.{Var}
-use Rattle.meaning.specs.State.{count}
-use Rattle.variables.specs.Bounded.{Bounded}
-use Rattle.variables.proofs.States.{Filled, filled-start, filled-more, filled-all}
+use Rattle.logic.proofs.Indices.{set-each, six-at}
+use Rattle.meaning.specs.SixteenBits.{wrapped, restIn, valueIn}
+use Rattle.meaning.proofs.SixteenBits.{rest-more}
+use Rattle.variables.proofs.States.{values-from}
 use Rattle.variables.proofs.values_of.Statement.{statement}
 use Rattle.variables.proofs.values_of.Tie as tie
 
 abbrev Inv-loop : tie.InvT-loop
 Inv-loop state bounds values₀ rest₀ k₀ values rest k =
-    (k ≤ 6) × (length values ≡ 6)
-    × ((vs : List Var) → Bounded vs bounds → state < count vs → Filled vs state values rest k)
+    (k ≤ 6) × (k ≤ bounds .count) × (length values ≡ 6) × (rest ≡ restIn (bounds .weights) state k)
+    × ((j : ℕ) → j < k → getD values j 0 ≡ valueIn wrapped (bounds .lows) (bounds .weights) state j)
+    × ((j : ℕ) → j < 6 → k ≤ j → getD values j 0 ≡ 128)
 
 abbrev μ-loop : tie.MeasureT-loop
 μ-loop state bounds values₀ rest₀ k₀ values rest k = 6 - k
 
 loop-holds : tie.Need-loop-holds Inv-loop μ-loop
-loop-holds c = (omega arith, refl, λ vs b h. filled-start vs _ h)
+unfolding restIn
+loop-holds c = (omega arith, omega arith, refl, refl, λ j l. absurd (omega arith), λ j l _. six-at 128 j l)
 
 returns : tie.Need-returns Inv-loop μ-loop
-returns c vs b h =
+returns c =
     let g = c .before .before in
-    filled-all vs (g .before .args .t1) (g .before .args .state) (g .loop .values) (g .loop .rest) (g .loop .k) b
-    (g .loop .inv .1)
-    (omega (arith, b .counted, c .if1 .taken)) (g .loop .inv .2 vs b h)
+    let a = g .before .args in
+    let i = g .loop .inv in
+    values-from (a .t1) (a .state) (i .2) (λ _ j l. i .4 j (omega (arith, c .if1 .taken)))
+    (λ _ j l m. i .5 j l (omega (arith, i .1)))
 
 element-copy-out-digit-of-2 : tie.Need-element-copy-out-digit-of-2 Inv-loop μ-loop
 element-copy-out-digit-of-2 c = search needs
@@ -50,24 +52,34 @@ loop-less : tie.Need-loop-less Inv-loop μ-loop
 loop-less c = search needs
 
 loop-again : tie.Need-loop-again Inv-loop μ-loop
+unfolding valueIn
 loop-again c =
     let g = c .before .before .before .before .before in
     let a = g .before .args in
+    let i = g .loop .inv in
+    let k = g .loop .k in
+    let d = c .digit-of .ensures in
+    let weight = getD (a .t1 .weights) k 0 in
+    let here : c .digit-of .result .value ≡ valueIn wrapped (a .t1 .lows) (a .t1 .weights) (a .state) k =
+    d .value ∙ ap (λ (x : ℕ). wrapped (getD (a .t1 .lows) k 0 + x / weight)) (i .3) in
     let inside = c .before .before .before .if1 .left in (
       omega arith,
-      simp length-set (g .loop .inv .1),
-      λ vs b h.
-          filled-more vs (a .t1) b (a .state) (g .loop .rest) (g .loop .k) (g .loop .values) (c .digit-of .result)
-          (omega (arith, b .counted))
-          (g .loop .inv .1) (c .digit-of .ensures) (g .loop .inv .2 vs b h),
+      omega arith,
+      simp length-set (i .2),
+      d .left ∙ ap (λ (x : ℕ). x % weight) (i .3) ∙ sym (rest-more (a .t1 .weights) (a .state) k),
+      set-each (λ j x. j < k + 1 → x ≡ valueIn wrapped (a .t1 .lows) (a .t1 .weights) (a .state) j) (g .loop .values) k _
+          (omega arith) (λ _. here) (λ j q l. i .4 j (omega arith)),
+      set-each (λ j x. j < 6 → k + 1 ≤ j → x ≡ 128) (g .loop .values) k _ (omega arith) (λ _ l. absurd (omega arith))
+          (λ j q l m. i .5 j l (omega arith)),
     )
 
 returns-2 : tie.Need-returns-2 Inv-loop μ-loop
-returns-2 c vs b h =
+returns-2 c =
     let g = c .before in
-    filled-all vs (g .before .args .t1) (g .before .args .state) (g .loop .values) (g .loop .rest) (g .loop .k) b
-    (g .loop .inv .1)
-    (omega (arith, b .few-vars, c .loop-test .left)) (g .loop .inv .2 vs b h)
+    let a = g .before .args in
+    let i = g .loop .inv in
+    values-from (a .t1) (a .state) (i .2) (λ few j l. i .4 j (omega (arith, few, c .loop-test .left)))
+    (λ few j l m. i .5 j l (omega (arith, i .1)))
 
 pub values-of-spec : {M : Type 1} → statement M
 values-of-spec =

@@ -7,10 +7,10 @@ use lib.Dec.{ltb}
 use lib.IntN.{ℤ, pos, negℤ, natAbs, _+ℤ_, _-ℤ_, +ℤ-assoc, +ℤ-comm, +ℤ-invr, +ℤ-idl, +ℤ-negℤ-cancel, -ℤ-+ℤ-cancel}
 use lib.IntN.{negℤ-+ℤ, pos-+ℤ-pos}
 use borrow.Author.Tests.{ltb-true, ltb-false}
 use Rattle.meaning.specs.Value.{less}
 use Rattle.logic.proofs.Bools.{split, clash}
 use Rattle.meaning.proofs.Integers.{up-distance, less-iff, not-less-iff}
-use Rattle.variables.specs.Bounded.{Shifted}
+use Rattle.meaning.specs.Held.{Shifted}
 
 module _ {b : ℕ} {a : ℤ} {n : ℕ} (e : Shifted b a n) where
   up : (k : ℕ) → a +ℤ pos k ≡ pos (n + k) -ℤ pos b
