@@ -9,6 +9,7 @@ use std::str::FromStr;
 
 use reference::cases::counted::{self, counted};
 use reference::cases::made::{made, small_list};
+use reference::cases::numbered::{self, numbered};
 use reference::cases::{write_cases, Size};
 use reference::hostile::compare::{compare, Plan};
 use reference::hostile::Bases;
@@ -24,6 +25,7 @@ const USAGE: &str = "usage:
   reference cases SEED COUNT DIR [small]
   reference tries-cases [DIR]
   reference pairs-cases [DIR]
+  reference numbers-cases [DIR]
   reference tally DIR
   reference hostile-cases SEED COUNT DIR
   reference hostile SEED COUNT WORKERS PROGRAMS KEPT [UNDER..]";
@@ -44,6 +46,8 @@ fn main() -> ExitCode {
         ["tries-cases", directory] => tries_cases(Path::new(directory)),
         ["pairs-cases"] => io::stdout().write_all(counted::small_list().as_bytes()),
         ["pairs-cases", directory] => pairs_cases(Path::new(directory)),
+        ["numbers-cases"] => io::stdout().write_all(numbered::list().as_bytes()),
+        ["numbers-cases", directory] => numbers_cases(Path::new(directory)),
         ["tally", directory] => tally(Path::new(directory)),
         ["hostile-cases", seed, count, directory] => hostile_cases(seed, count, directory),
         ["hostile", seed, count, workers, programs, kept, ref under @ ..] => {
@@ -98,6 +102,11 @@ fn tries_cases(directory: &Path) -> io::Result<()> {
 /// Writes all cases whose touched pairs are counted by hand.
 fn pairs_cases(directory: &Path) -> io::Result<()> {
     counted().iter().enumerate().try_for_each(|(number, one)| one.case.write(directory, number))
+}
+
+/// Writes all cases whose states' numbers are worked out by hand.
+fn numbers_cases(directory: &Path) -> io::Result<()> {
+    numbered().iter().enumerate().try_for_each(|(number, one)| one.case.write(directory, number))
 }
 
 fn tally(directory: &Path) -> io::Result<()> {

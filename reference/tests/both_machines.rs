@@ -93,7 +93,7 @@ fn small_monitors_from_every_kept_state() {
 
 #[test]
 fn large_monitors() {
-    let ends = property(4, 150, Size::FULL, 12);
+    let ends = property(4, 300, Size::FULL, 12);
     assert!(ends.accepted > 200 && ends.refused_alike > 200 && ends.parted > 20, "{ends:?}");
 }
 

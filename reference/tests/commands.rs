@@ -154,6 +154,28 @@ fn cases_counted_by_hand_are_listed_and_written() {
 }
 
 #[test]
+fn cases_for_numbers_are_listed_and_written() {
+    let list = command(&["numbers-cases"], b"");
+    let first = list.split("\n\n").next().unwrap();
+    let file = "monitor m { var a = 0 in 0..63; var b = 0 in 0..63; keep true; \
+                method m0 { waituntil (true) { } } \
+                method m1 { waituntil (a == 63 && b == 63) { a := 64; } } }";
+    let lines = [
+        "case 0: 4,095 of 64 by 64",
+        &format!("file: {file}"),
+        "states: 0 1 63 64 65 255 256 257 4031 4032 4094 4095",
+        "told: 00008080 00018081 003F80BF 00408180 00418181 00FF83BF 01008480 01018481 \
+         0FBFBEBF 0FC0BF80 0FFEBFBE 0FFFBFBF",
+    ];
+    assert_eq!(first.lines().collect::<Vec<&str>>(), lines);
+    let at = directory("numbered");
+    command(&["numbers-cases", at.to_str().unwrap()], b"");
+    assert!(fs::read_dir(&at).unwrap().count() >= 30);
+    assert_eq!(fs::read(at.join("00000/monitor.txt")).unwrap(), file.as_bytes());
+    assert_eq!(fs::read(at.join("00000/placer.txt")).unwrap(), b"0900010FFF\n");
+}
+
+#[test]
 fn cases_hold_what_the_programs_print() {
     let at = directory("cases");
     command(&["cases", "1", "40", at.to_str().unwrap(), "small"], b"");

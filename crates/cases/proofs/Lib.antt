@@ -13,3 +13,4 @@ pub mod Cases11
 pub mod Points
 pub mod Tries
 pub mod Pairs
+pub mod Numbers

@@ -33,8 +33,8 @@ use Rattle.meaning.specs.Accepted.{Keeps, Meets, Sound, GoodRanges, Accepted}
 use Rattle.meaning.specs.Runs.{State, BlockRuns}
 use Rattle.meaning.specs.Held.{Offset, Biased}
 use Rattle.meaning.specs.SixteenBits.{wrapped, unlimited, weightIn, numberIn}
-use Rattle.meaning.proofs.SixteenBits.{Weighing, Standing, weight-is, below, sum-so-far, share-kept, number-kept, held-up}
-use Rattle.meaning.proofs.SixteenBits.{product-is, product-kept, value-is, wrapped-keeps, unlimited-keeps}
+use Rattle.meaning.proofs.SixteenBits.{Weighing, Standing, weight-is, below, sum-so-far, share-kept, number-kept}
+use Rattle.meaning.proofs.SixteenBits.{held-up, product-is, product-kept, value-is, wrapped-keeps, unlimited-keeps}
 use Rattle.meaning.proofs.StateLaws.{state-at, number-below, state-at-number, number-of-state-at, earlier-iff}
 use Rattle.meaning.proofs.ModelLaws.{kept-below, keeps, outside, leaves, follows-below, region-numbered, holds-guard}
 use Rattle.meaning.proofs.ModelLaws.{startable-iff, holds-region, holds-below, guard-below, each-guard}
@@ -52,8 +52,8 @@ use Rattle.meaning.proofs.Touching.{touched-iff, leaves-guard, no-entry, pairs}
 use lib.IntN.{ℤ}
 use Rattle.meaning.proofs.BodyLaws.{outcome-of-runs, block-runs-state}
 use Rattle.demands.specs.Demand2.{IsEntry, IsTable, FollowsRules, Demand2, Moves, truthOf, Makes, ByValues}
-use Rattle.demands.specs.Demand2.{valued, noticesByValues, FollowsByValues, StatesNumbered, NumberHeld, StatesHeld}
-use Rattle.demands.specs.Demand2.{GuardsNumbered, Untouched}
+use Rattle.demands.specs.Demand2.{valued, noticesByValues, FollowsByValues, StatesNumbered, NumberHeld}
+use Rattle.demands.specs.Demand2.{StatesHeld, GuardsNumbered, Untouched}
 
 states-numbered : {vs : List Var} → GoodRanges vs → StatesNumbered vs
 states-numbered {vs} g =

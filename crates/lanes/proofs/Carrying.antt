@@ -228,7 +228,8 @@ module _ {b : Bounds} {lanes values : List ℕ} {changed : ℕ} {carry : List �
             let held = s .each j h (omega arith) in
             let a = g .added vs j n bounded h less held in
             rw sum
-            (digits-held (bounded .ranges) (bounded .good) (n + 16) less (lane values j) (bounded .few-vars) (length-lane values j)
+            (digits-held (bounded .ranges) (bounded .good) (n + 16) less (lane values j) (bounded .few-vars)
+            (length-lane values j)
             (λ i l.
             lane-at values j i (omega (arith, bounded .few-vars))
             ∙ split (ltb i k)

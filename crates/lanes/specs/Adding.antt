@@ -1,4 +1,5 @@
--- What the functions that add to values in lanes promise to each other: what is added to a variable, a sum brought back into its range with its carry, and the row of a variable's sixteen values.
+-- What the functions that add to values in lanes promise to each other: what is added to a variable, a sum brought back
+-- into its range with its carry, and the row of a variable's sixteen values.
 use Prim.Native.Nat.{ℕ, _+_, _-_, _*_, _%_, _≤_, _<_}
 use mathlib.Core.Path.{_≡_}
 use mathlib.Core.Bool.{Bool, false}

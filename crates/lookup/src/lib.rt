@@ -130,15 +130,15 @@ pub fn state_of(
     ensures { λ r. ⌜ ((m : Monitor) → Looked m bounds layout (now (kept .entry)) (now (holds .entry)) (now (after .entry))
         → StateIs m number r) ⌝ }
 {
-    if bounds.states as usize <= number {
+    if machine::STATES <= number {
         return no_state(answer);
     }
-    if machine::STATES <= number {
+    let s = number as StateNumber;
+    if bounds.states <= s {
         return no_state(answer);
     }
     let is_kept = kept[number] == 1;
     let holding = sets::below(holds[number], layout.guards);
-    let s = number as StateNumber;
     State {
         answer: answer,
         known: true,

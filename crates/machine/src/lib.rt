@@ -14,7 +14,7 @@ pub const REGION_END: u8 = 16;
 
 pub const STATE_END: StateNumber = 4096;
 
-// A state, by its number; also a count of states, and the outcome of a body that has none.
+// A state's number; also a count of states, and what a body ends with: a state's number, or STATE_END for a fault.
 pub type StateNumber = u16;
 
 // The states after bodies, of all regions at all states.

@@ -47,7 +47,8 @@ use Rattle.syntax.specs.Decide.Reading.{readComparison, readCond, readConj, rea
 use Rattle.syntax.specs.Decide.Reading.{readMethod, readVar, readTry, atEnd, readMonitor, read, got, stuck}
 use Rattle.syntax.specs.Token.{keywords, marks, lexemes}
 use Rattle.syntax.specs.Decide.Lexeme.{markNumber, keywordNumber, isMark, isKey, isName}
-use Rattle.syntax.specs.Decide.Scan.{wordOf, atMost, markOf, scan, prepend as token-prepend, tokensFrom, tokenize, tokens, none-at}
+use Rattle.syntax.specs.Decide.Scan.{wordOf, atMost, markOf, scan, prepend as token-prepend, tokensFrom, tokenize}
+use Rattle.syntax.specs.Decide.Scan.{tokens, none-at}
 use Rattle.syntax.specs.Tree.{spellInt, spellAtom, signMark, spellTerm, each, spellExpr, comparisonMark, spellConstant}
 use Rattle.syntax.specs.Tree.{spellCond, spellConj, spellSimple, spellBlock, spellStmt, spellRegion, spellMethod}
 use Rattle.syntax.specs.Tree.{spellVar, spellTry, spell, InGrammar, Viable, Var, all}
@@ -61,8 +62,8 @@ use lib.ListN.{length, replicate, getD}
 use mathlib.Core.List.{List, [], _∷_, _++_, map}
 
 -- What is run: `placer` on a file, `runner` on a file and a trace, one behind the other, the points of a trace from a
--- state in a buffer of so many bytes, the choice among a file's tries, how many of its pairs are touched, or some of its
--- states by their numbers
+-- state in a buffer of so many bytes, the choice among a file's tries, how many of its pairs are touched, or some of
+-- its states by their numbers
 pub data Case : Type 0 where
   placing : List ℕ → Case
   running-of : List ℕ → List ℕ → Case
@@ -105,8 +106,9 @@ stateLines vs (n ∷ ns) =
     let highs = map (λ v. heldAs (intOf (v .high))) vs in
     let weights = forEach k 0 (λ i. weightIn lows highs (count vs) (suc i) ∷ []) in
     let values = forEach k 0 (λ i. valueIn wrapped lows weights n i ∷ []) in
+    let digits = forEach k 0 (λ i. hex2 (getD values i 0)) in
     stateLine (numberOf vs (stateAt vs n)) (valueDigits (stateAt vs n))
-    ++ (stateLine (numberIn wrapped lows weights values k) (forEach k 0 (λ i. hex2 (getD values i 0))) ++ stateLines vs ns)
+    ++ (stateLine (numberIn wrapped lows weights values k) digits ++ stateLines vs ns)
 
 unfoldable pub numbersLines : List ℕ → List ℕ → List ℕ
 numbersLines file ns =

@@ -1,11 +1,12 @@
 -- A state's number in sixteen bits: the product of all sizes is the count of states, the weights are the counts of the
--- variables behind, the sums and products on the way to a number and back are below 65,536, and so each is what it would
--- be without the limit. By index, a variable at a time.
+-- variables behind, the sums and products on the way to a number and back are below 65,536, and so each is what it
+-- would be without the limit. By index, a variable at a time.
 use Prim.Native.Nat.{ℕ, zero, suc, _+_, _-_, _*_, _/_, _%_, _<_, _≤_, _∣_}
 use native.Mathlib.Omega.{arith}
 use native.Mathlib.Numerals.{add-one}
 use native.Mathlib.Nat.{mod-lt, mod-eq-of-lt, mod-mod-of-dvd, div-lt-iff-lt-mul, mul-pos, mul-div-right}
-use native.Mathlib.Nat.{mul-assoc, mul-one, one-mul, le-mul-of-pos-right, zero-add, dvd-refl, dvd-mul-left, dvd-mul-left-of-dvd}
+use native.Mathlib.Nat.{mul-assoc, mul-one, one-mul, le-mul-of-pos-right}
+use native.Mathlib.Nat.{zero-add, dvd-refl, dvd-mul-left, dvd-mul-left-of-dvd}
 use mathlib.Core.Path.{_≡_, refl, sym, ap, ap₂, _∙_}
 use mathlib.Core.Bool.{true}
 use mathlib.Core.List.{List, [], _∷_}
@@ -22,7 +23,8 @@ use Rattle.meaning.specs.State.{size, count, stateAt, numberOf}
 use Rattle.meaning.specs.Accepted.{AtMost, GoodRange, GoodRanges, no-vars, one-var}
 use Rattle.meaning.specs.Runs.{State, no-values, one-value}
 use Rattle.meaning.specs.Held.{Shifted, Offset, Biased, Ranges}
-use Rattle.meaning.specs.SixteenBits.{wrapped, unlimited, sizeIn, countIn, weightIn, share, numberIn, restIn, valueIn}
+use Rattle.meaning.specs.SixteenBits.{wrapped, unlimited, sizeIn, countIn, weightIn}
+use Rattle.meaning.specs.SixteenBits.{share, numberIn, restIn, valueIn}
 use Rattle.meaning.proofs.Integers.{in-range-iff, not-less-iff}
 use Rattle.meaning.proofs.Offsets.{shifted-up, shifted-distance, le-shifted}
 use Rattle.meaning.proofs.StateLaws.{size-pos, count-pos, number-below}
@@ -99,8 +101,8 @@ module _ {vs : List Var} {lows highs : List ℕ} (ranges : Ranges vs lows highs)
       let behind = count (drop (suc k) vs) in
       let makes : c * sizeIn lows highs k * behind ≡ count vs =
       mul-assoc c (sizeIn lows highs k) behind
-      ∙ ap (λ (x : ℕ). c * (x * behind)) (sym (p .sized)) ∙ ap (λ (x : ℕ). c * x) (sym (count-at vs k (p .var) (p .left)))
-      ∙ so-far in
+      ∙ ap (λ (x : ℕ). c * (x * behind)) (sym (p .sized))
+      ∙ ap (λ (x : ℕ). c * x) (sym (count-at vs k (p .var) (p .left))) ∙ so-far in
       let small : c * sizeIn lows highs k ≤ c * sizeIn lows highs k * behind =
       le-mul-of-pos-right (c * sizeIn lows highs k) (count-pos (drop (suc k) vs)) in
       record { kept = keeps (c * sizeIn lows highs k) (omega (arith, small, makes, few)); makes = makes }

@@ -15,7 +15,7 @@ use Rattle.meaning.specs.Value.{intOf}
 pub record Shifted (b : ℕ) (a : ℤ) (n : ℕ) : Type 0 where
   pub is : a ≡ pos n -ℤ pos b
 
--- a value with 128 added
+-- a value with 128 added: what `Shifted 128` says
 unfoldable pub Offset : ℤ → ℕ → Type 0
 Offset a n = a ≡ pos n -ℤ pos 128
 

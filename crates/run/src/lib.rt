@@ -5,6 +5,7 @@ pub mod frames;
 use answers::Answer;
 use frames::Stop;
 use layout::Layout;
+use machine::StateNumber;
 use stepper::Place;
 use stepper::Run;
 use stepper::Thread;
@@ -85,7 +86,7 @@ pub fn admit(bounds: Bounds, bytes: &[u8], start: usize, kept: &[u8; machine::ST
         → Held (model m) (now (kept .entry)) holds after guards → Admits m start (now (bytes .entry)) r) ⌝ }
     ensures { λ r. ⌜ (r .number ≡ 0 → start < mostStates) ⌝ }
 {
-    if bounds.states as usize <= start || machine::STATES <= start {
+    if machine::STATES <= start || bounds.states <= start as StateNumber {
         return no_start();
     }
     if kept[start] != 1 {

@@ -88,6 +88,7 @@ pub record WithVar (b : Bounds) (t : Triple) (r : Bounds) : Type 0 where
   pub counted : b .count < mostVars → r .count ≡ b .count + 1
   pub states : b .count < mostVars → r .states ≡ b .states * (t .high - t .low + 1)
 
+-- how many values a range has; small and above 0 for any range
 pub record SizeOf (low high r : ℕ) : Type 0 where
   pub some : 0 < r
   pub most : r ≤ high + 1
@@ -110,7 +111,7 @@ pub record Weighed (b r : Bounds) : Type 0 where
   pub states : r .states ≡ b .states
   pub weights : Weights (b .lows) (b .highs) (b .count) (b .states) (r .weights)
 
--- a value and the rest of a state's number
+-- a value and the rest of a state's number; a weight of 0, which no variable has, leaves the rest and adds nothing
 pub record DigitOf (low weight rest : ℕ) (r : Digit) : Type 0 where
   pub value : r .value ≡ wrapped (low + rest / weight)
   pub left : r .rest ≡ rest % weight

@@ -10,6 +10,7 @@ pub mod tries;
 pub mod pairs;
 pub mod made;
 pub mod counted;
+pub mod numbered;
 pub mod exact;
 pub mod damage;
 pub mod refused;

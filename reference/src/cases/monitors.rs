@@ -1,5 +1,7 @@
 //! Monitors that the check accepts, of many shapes.
 
+use std::slice::from_ref;
+
 use super::draws::Draws;
 use super::pairs::{any_touching, set_apart, wide, wide_counts};
 use super::tries::add_tries;
@@ -7,6 +9,7 @@ use super::words::{integer, laid_out_to_fit, respelled_words, words, Words};
 use super::Size;
 use crate::check::check;
 use crate::machines::Machines;
+use crate::ranges::{HIGHEST, LOWEST, MOST_STATES};
 
 /// A monitor before it is laid out as a file.
 #[derive(Clone)]
@@ -115,8 +118,87 @@ pub fn any_accepted(draws: &mut Draws, size: Size) -> Accepted {
         let counts = wide_counts(draws, size);
         return wide(draws, size, &counts);
     }
+    if size.states == MOST_STATES && draws.chance(25) {
+        return many_states(draws, size);
+    }
     let counts = Counts::any(draws, size);
     accepted(draws, size, &counts, |_, _| ())
+}
+
+/// A monitor with more than 256 states, so that their numbers need more than eight bits; one of
+/// three such has as many as there may be.
+fn many_states(draws: &mut Draws, size: Size) -> Accepted {
+    let ranges = match draws.below(6) {
+        0 | 1 => draws.pick(&ALL_STATES).to_vec(),
+        2 => draws.pick(&ONE_STATE_FEWER).to_vec(),
+        _ => any_ranges(draws, size),
+    };
+    let methods = draws.count(1, 4);
+    let counts = Counts { variables: ranges.len(), methods, regions: draws.count(methods, 6) };
+    let variables = |draws: &mut Draws| ranged_variables(draws, size, &ranges);
+    let touches_one = draws.chance(50);
+    accepted_with(draws, size, &counts, variables, |draws, sketch| {
+        // All regions about one variable, so that they wake each other.
+        if touches_one {
+            let variable = draws.pick(&sketch.variables);
+            for region in sketch.methods.iter_mut().flat_map(|method| &mut method.regions) {
+                *region = matched_region(draws, from_ref(&variable));
+            }
+        }
+    })
+}
+
+/// Sizes of ranges that make 4,096, and 4,095.
+const ALL_STATES: [&[i64]; 10] = [
+    &[64, 64],
+    &[256, 16],
+    &[16, 256],
+    &[16, 16, 16],
+    &[2, 32, 64],
+    &[64, 1, 64],
+    &[8, 8, 8, 8],
+    &[8, 2, 16, 4, 4],
+    &[4, 4, 4, 4, 4, 4],
+    &[2, 2, 4, 4, 8, 8],
+];
+const ONE_STATE_FEWER: [&[i64]; 4] = [&[63, 65], &[195, 21], &[7, 9, 13, 5], &[3, 3, 5, 7, 13]];
+
+/// Sizes of ranges that make more than 256, and no more than there may be.
+fn any_ranges(draws: &mut Draws, size: Size) -> Vec<i64> {
+    loop {
+        let count = draws.count(2, size.variables);
+        let ranges: Vec<i64> = (0..count)
+            .map(|_| match draws.below(8) {
+                0 => draws.between(1, HIGHEST - LOWEST + 1),
+                1 | 2 => draws.between(1, 40),
+                _ => draws.between(1, 7),
+            })
+            .collect();
+        let states: i64 = ranges.iter().product();
+        if 256 < states && states <= size.states as i64 {
+            return ranges;
+        }
+    }
+}
+
+/// Variables with ranges of these sizes, wherever they begin; in some files all start at their
+/// highest.
+fn ranged_variables(draws: &mut Draws, size: Size, ranges: &[i64]) -> Vec<Variable> {
+    let all_highest = draws.chance(25);
+    let mut variables = Vec::new();
+    for (number, range) in ranges.iter().enumerate() {
+        let lowest = match draws.below(4) {
+            0 => LOWEST,
+            1 => draws.between(LOWEST, HIGHEST + 1 - range),
+            2 => -(range / 2),
+            _ => 0.min(HIGHEST + 1 - range),
+        };
+        let highest = lowest + range - 1;
+        let start = if all_highest { highest } else { draws.between(lowest, highest) };
+        let name = any_name(draws, size, "var", number);
+        variables.push(Variable { name, start, lowest, highest });
+    }
+    variables
 }
 
 /// An accepted monitor of these counts, its sketch changed by `change` before it
@@ -127,8 +209,21 @@ pub fn accepted(
     counts: &Counts,
     change: impl Fn(&mut Draws, &mut Sketch),
 ) -> Accepted {
+    let variables = |draws: &mut Draws| any_variables(draws, size, counts.variables);
+    accepted_with(draws, size, counts, variables, change)
+}
+
+/// The same, with variables that are drawn otherwise.
+fn accepted_with(
+    draws: &mut Draws,
+    size: Size,
+    counts: &Counts,
+    variables: impl Fn(&mut Draws) -> Vec<Variable>,
+    change: impl Fn(&mut Draws, &mut Sketch),
+) -> Accepted {
     loop {
-        let mut sketch = any_sketch(draws, size, counts);
+        let variables = variables(draws);
+        let mut sketch = any_sketch(draws, size, counts, variables);
         change(draws, &mut sketch);
         if let Some(accepted) = settled(draws, size, sketch) {
             return accepted;
@@ -163,8 +258,7 @@ fn settled(draws: &mut Draws, size: Size, mut sketch: Sketch) -> Option<Accepted
     }
 }
 
-fn any_sketch(draws: &mut Draws, size: Size, counts: &Counts) -> Sketch {
-    let variables = any_variables(draws, size, counts.variables);
+fn any_sketch(draws: &mut Draws, size: Size, counts: &Counts, variables: Vec<Variable>) -> Sketch {
     let keep = any_keep(draws, &variables);
     let mut guards: Vec<Words> = Vec::new();
     let mut methods: Vec<Method> = Vec::new();

@@ -2,7 +2,7 @@
 
 use super::damage::{any_bytes, damage_tokens};
 use super::draws::Draws;
-use super::monitors::{any_accepted, any_condition, Method, Region, Sketch, Variable};
+use super::monitors::{any_accepted, any_condition, any_value, Method, Region, Sketch, Variable};
 use super::tries::any_try;
 use super::words::{any_token, blanks, integer, laid_out_to_fit, words, Words};
 use super::Size;
@@ -284,6 +284,10 @@ fn start_not_kept(draws: &mut Draws, sketch: &mut Sketch) {
 
 /// For 9: a body that leaves a range, if only for a moment, or ends unkept.
 fn leaving_body(draws: &mut Draws, sketch: &mut Sketch) {
+    let ranges = sketch.variables.iter().map(|variable| variable.highest - variable.lowest + 1);
+    if ranges.product::<i64>() > 256 && draws.chance(60) {
+        return leaving_from_one_state(draws, sketch);
+    }
     let variable = draws.pick(&sketch.variables);
     let name = &variable.name;
     let highest = integer(draws, variable.highest).join(" ");
@@ -305,5 +309,22 @@ fn leaving_body(draws: &mut Draws, sketch: &mut Sketch) {
         body.splice(0..0, words(&offence));
     } else {
         body.extend(words(&offence));
+    }
+}
+
+/// The same from one state alone, so that of many states a high one is told too.
+fn leaving_from_one_state(draws: &mut Draws, sketch: &mut Sketch) {
+    let mut state = Vec::new();
+    for variable in &sketch.variables {
+        let value = any_value(draws, variable);
+        state.push(format!("{} == {}", variable.name, integer(draws, value).join(" ")));
+    }
+    let Variable { name, highest, .. } = draws.pick(&sketch.variables);
+    let highest = integer(draws, highest).join(" ");
+    let offence = format!("if ( {} ) {{ {name} := {highest} + 1 ; }}", state.join(" && "));
+    let region = sketch.any_region(draws);
+    region.body.splice(0..0, words(&offence));
+    if draws.chance(50) {
+        region.guard = words("true");
     }
 }

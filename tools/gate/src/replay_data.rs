@@ -1,6 +1,6 @@
 //! Makes what the program `replay` is run on: the bench examples of document 01, the second
-//! program's cases for tries and for touched pairs, made by hand, its drawn cases, and hostile
-//! input.
+//! program's cases for tries, for touched pairs and for states' numbers, made by hand, its drawn
+//! cases, and hostile input.
 //!
 //! TO/data/cases.bin has for each case the lengths of a monitor file and a trace, four bytes each,
 //! the lowest first, then both; TO/stdout what the second program prints for each as placer, then
@@ -63,7 +63,7 @@ pub fn replay_data(root: &Path, arguments: &[&str]) -> io::Result<bool> {
     let to = given.get(3).map_or(root.join("crates/replay"), PathBuf::from);
     clean_up_first();
     let second = Second::built(root)?;
-    let made = Made::by(&second, or(0, "31"), or(1, "300"), or(2, "600"))?;
+    let made = Made::by(&second, or(0, "31"), or(1, "300"), or(2, "510"))?;
     for (name, bytes) in [("data/cases.bin", &made.data), ("stdout", &made.told)] {
         let path = to.join(name);
         if !is_check {
@@ -87,21 +87,23 @@ struct Made {
 }
 
 impl Made {
-    /// From the bench examples, the cases for tries and for pairs and so many drawn ones, or none of them if there
-    /// are to be 0, and from the first hostile inputs.
+    /// From the bench examples, the cases for tries, for pairs and for numbers and so many drawn ones, or none of them
+    /// if there are to be 0, and from the first hostile inputs.
     fn by(second: &Second, seed: &str, count: &str, hostile: &str) -> io::Result<Made> {
         let scratch = Scratch::new()?;
-        let [bench, tries, pairs, drawn, damaged] =
-            ["bench", "tries", "pairs", "cases", "hostile"].map(|name| scratch.at.join(name));
+        let [bench, tries, pairs, numbers, drawn, damaged] =
+            ["bench", "tries", "pairs", "numbers", "cases", "hostile"]
+                .map(|name| scratch.at.join(name));
         if count != "0" {
             write_bench(second, &bench)?;
             told(second, "tries-cases", &tries)?;
             told(second, "pairs-cases", &pairs)?;
+            told(second, "numbers-cases", &numbers)?;
         }
         second.write("cases", seed, count, &drawn)?;
         second.write("hostile-cases", seed, hostile, &damaged)?;
         let mut cases = Vec::new();
-        for directory in [&bench, &tries, &pairs, &drawn] {
+        for directory in [&bench, &tries, &pairs, &numbers, &drawn] {
             cases.extend(children(directory)?);
         }
         cases.extend(few_long(&damaged)?);

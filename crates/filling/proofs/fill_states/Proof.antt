@@ -159,7 +159,8 @@ fill-states-spec =
     tie.close
     (tie.spec (λ c κs. search needs) (λ c κs. search needs) (λ c κs. search needs) (λ c κs. search needs)
     (λ c κs. search needs) (λ c. search needs) (λ c. search needs) (λ c κs. search needs) (λ c κs. search needs)
-    (λ c. search needs) (λ c κs. search needs) (λ c κs. search needs) (λ c. long (c .before .before .before .before .before) .0)
+    (λ c. search needs) (λ c κs. search needs) (λ c κs. search needs)
+    (λ c. long (c .before .before .before .before .before) .0)
     (λ c. long (c .before .before .before .before .before) .1) (λ c. long (c .before .before .before .before .before) .2)
     (λ c. tried-long (c .before .before .before .before .before)) returns (λ c. long (c .before .before .before .before) .0)
     (λ c. long (c .before .before .before .before) .1) (λ c. long (c .before .before .before .before) .2)

@@ -1,4 +1,5 @@
--- `lanes::first_lanes` meets its contract. The loop's invariant: the values of the states before s stand in their lanes.
+-- `lanes::first_lanes` meets its contract. The loop's invariant: the values of the states before s stand in their
+-- lanes.
 use Prim.Native.Nat.{ℕ, _-_, _≤_, _<_}
 use native.Mathlib.Omega.{arith}
 use native.Mathlib.Nat.{zero-add}

@@ -31,7 +31,8 @@ returns-2 c =
           record {
             told = λ _. (
               refl,
-              c .number-of .ensures .is vs _ b (trimmed-biased vs _ b _ (omega arith) _ (rw (b .counted) at (t .trimmed .ensures)) s) s,
+              c .number-of .ensures .is vs _ b
+                  (trimmed-biased vs _ b _ (omega arith) _ (rw (b .counted) at (t .trimmed .ensures)) s) s,
             );
             untold = λ n. absurd (n s);
           },

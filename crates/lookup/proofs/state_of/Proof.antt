@@ -14,7 +14,7 @@ returns : tie.Need-returns
 returns c = (
   c .no-state .ensures .0,
   λ m k. record {
-    told = λ h. absurd (omega (arith, k .bounded .states, c .before .if1 .taken));
+    told = λ h. absurd (omega (arith, k .bounded .few-states, c .before .if1 .taken));
     untold = λ h. c .no-state .ensures .1;
   },
 )
@@ -23,7 +23,7 @@ returns-2 : tie.Need-returns-2
 returns-2 c = (
   c .no-state2 .ensures .0,
   λ m k. record {
-    told = λ h. absurd (omega (arith, k .bounded .few-states, c .before .if2 .taken));
+    told = λ h. absurd (omega (arith, k .bounded .states, c .before .if2 .taken));
     untold = λ h. c .no-state2 .ensures .1;
   },
 )
@@ -48,13 +48,12 @@ returns-3 c =
                   ∙ ap (λ (x : Bool). moveIn (a .layout .regions) (a .layout .«guard_of») x (b .below .result) (now (a .after)) (a .number) q) on
                   ∙ moved k (a .number) low (b .below .result) holding q;
             };
-        untold = λ h. absurd (omega (arith, k .bounded .states, b .before .before .before .before .if1 .left));
+        untold = λ h. absurd (omega (arith, k .bounded .states, b .before .before .before .if2 .left));
       },
     )
 
 pub state-of-spec : {M : Type 1} → statement M
 state-of-spec =
     tie.close
-    (tie.spec (λ c. search needs) (λ c κs. search needs) returns (λ c κs. search needs) returns-2 (λ c. search needs)
-    (λ c. search needs) (λ c. search needs) (λ c κs. search needs) (λ c. search needs) (λ c κs. search needs)
-    (λ c κs. search needs) returns-3)
+    (tie.spec (λ c κs. search needs) returns (λ c. search needs) (λ c κs. search needs) returns-2 (λ c. search needs)
+    (λ c. search needs) (λ c. search needs) (λ c κs. search needs) (λ c κs. search needs) (λ c κs. search needs) returns-3)

@@ -23,13 +23,13 @@ returns : tie.Need-returns
 returns c = (
   λ m holds after guards b h.
       let d = c .before in
-      let a = d .before .before .before .args in
+      let a = d .before .before .args in
       let few = b .few-states in
       let states = b .states in
       not-kept
       (past-states m (a .start)
-      (⊎-elim (λ x. let y = x .taken in omega arith) (λ x. let y = leb-true 4096 (a .start) (x .1 .taken) in
-      omega arith) (d .if1 .came)))
+      (⊎-elim (λ x. let y = x .taken in omega arith)
+      (λ x. let y = leb-true (a .bounds .states) (a .start) (x .2 .taken) in omega arith) (d .if1 .came)))
       (c .no-start .ensures),
   λ z. absurd (omega (arith, c .no-start .ensures .number)),
 )
@@ -38,9 +38,10 @@ returns-2 : tie.Need-returns-2
 returns-2 c = (
   λ m holds after guards b h.
       let d = c .before in
-      let e = d .before .before .before in
-      let a = e .before .before .before .args in
-      let low : a .start < count (vars m) = omega (arith, b .states, e .if1 .left) in
+      let e = d .before .before in
+      let a = e .before .before .before .before .args in
+      let least = leb-false (a .bounds .states) (a .start) (e .if2 .left) in
+      let low : a .start < count (vars m) = omega (arith, b .states, least) in
       not-kept (kept-other (kept m (a .start)) _ (kept-by m _ _ _ _ h (a .start) low) (d .if3 .taken))
       (c .no-start2 .ensures),
   λ z. absurd (omega (arith, c .no-start2 .ensures .number)),
@@ -52,9 +53,10 @@ started : (c : tie.Else3) →
     (m : Monitor) (holds after guards : List ℕ) → Bounded (vars m) (a .bounds)
     → Held (model m) (now (a .kept)) holds after guards → kept m (a .start) ≡ true
 started c m holds after guards b h =
-    let e = c .before .before .before in
-    let a = e .before .before .before .args in
-    let low : a .start < count (vars m) = omega (arith, b .states, e .if1 .left) in
+    let e = c .before .before in
+    let a = e .before .before .before .before .args in
+    let least = leb-false (a .bounds .states) (a .start) (e .if2 .left) in
+    let low : a .start < count (vars m) = omega (arith, b .states, least) in
     kept-one (kept m (a .start)) _ (kept-by m _ _ _ _ h (a .start) low) (c .if3 .left)
 
 returns-3 : tie.Need-returns-3
@@ -80,11 +82,12 @@ returns-4 c = (
       (record { number = s .0; first = s .1; second = s .2 }),
   λ z.
       let e = c .before .before .before .before .before .before in
-      leb-false 4096 _ (e .if2 .left),
+      omega (arith, e .before .before .if1 .left),
 )
 
 pub admit-spec : {M : Type 1} → statement M
 admit-spec =
     tie.close
-    (tie.spec (λ c. search needs) (λ c κs. search needs) returns (λ c. search needs) (λ c κs. search needs) returns-2 (λ c κs. search needs)
-    (λ c. search needs) (λ c κs. search needs) (λ c. search needs) (λ c κs. search needs) returns-3 returns-4)
+    (tie.spec (λ c. search needs) (λ c κs. search needs) returns (λ c. search needs) (λ c κs. search needs) returns-2
+    (λ c κs. search needs) (λ c. search needs) (λ c κs. search needs) (λ c. search needs) (λ c κs. search needs) returns-3
+    returns-4)

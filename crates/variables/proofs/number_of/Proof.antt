@@ -1,4 +1,5 @@
--- `variables::number_of` meets its contract. The loop's invariant: the number is the one that the first k variables make.
+-- `variables::number_of` meets its contract. The loop's invariant: the number is the one that the first k variables
+-- make.
 use Prim.Native.Nat.{ℕ, _+_, _-_, _≤_}
 use native.Mathlib.Omega.{arith}
 use mathlib.Core.Path.{_≡_, refl, sym, ap, ap₂, _∙_}

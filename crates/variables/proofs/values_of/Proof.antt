@@ -1,5 +1,5 @@
--- `variables::values_of` meets its contract. The loop's invariant: the values below k are those of the number, and the rest is
--- what the first k variables leave of it.
+-- `variables::values_of` meets its contract. The loop's invariant: the values below k are those of the number, and the
+-- rest is what the first k variables leave of it.
 use Prim.Native.Nat.{ℕ, _+_, _-_, _/_, _%_, _≤_, _<_}
 use native.Mathlib.Omega.{arith}
 use mathlib.Core.Path.{_≡_, refl, sym, ap, _∙_}

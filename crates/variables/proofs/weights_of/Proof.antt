@@ -1,5 +1,5 @@
--- `variables::weights_of` meets its contract. The loop's invariant: the weights below k stand, and the weight is that of
--- all variables from k on together.
+-- `variables::weights_of` meets its contract. The loop's invariant: the weights below k stand, and the weight is that
+-- of all variables from k on together.
 use Prim.Native.Nat.{ℕ, suc, _+_, _-_, _/_, _≤_, _<_}
 use native.Mathlib.Omega.{arith}
 use native.Mathlib.Numerals.{add-one}
