@@ -2,6 +2,7 @@
 // trace on both machines, and every point of them in a lent buffer.
 use answers::Answer;
 use loader::Loaded;
+use machine::StateNumber;
 use run::Both;
 use run::Running;
 use table::Placed;
@@ -186,7 +187,7 @@ pub fn points_loaded(
         bounds,
         layout,
         bytes,
-        start as u16,
+        start as StateNumber,
         holds,
         after,
         &entries,

@@ -1,6 +1,7 @@
 // Every point of both machines' runs of a trace, as bytes in a lent buffer: what both have in common once, and each
 // machine's notices.
 use layout::Layout;
+use machine::StateNumber;
 use run::frames::Going;
 use run::frames::Stop;
 use variables::Bounds;
@@ -149,7 +150,7 @@ pub fn write_points(
     bounds: Bounds,
     layout: Layout,
     bytes: &[u8],
-    state: u16,
+    state: StateNumber,
     holds: &[u16; machine::STATES],
     after: &[u16; machine::AFTER],
     entries: &[u8; machine::ENTRIES],

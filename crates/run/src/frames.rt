@@ -1,4 +1,5 @@
 // Runs a trace of frames on both machines, from a state with all threads idle, over a monitor that is held in slices.
+use machine::StateNumber;
 use stepper::Frame;
 use stepper::Run;
 ghost use mathlib.Core.Path.{_≡_};
@@ -104,7 +105,7 @@ pub fn pass(
 // A trace whose every line is a frame.
 pub fn run_trace(
     bytes: &[u8],
-    state: u16,
+    state: StateNumber,
     holds: &[u16; machine::STATES],
     after: &[u16; machine::AFTER],
     guard_of: &[u8; machine::REGIONS],

@@ -171,7 +171,7 @@ pub fn run_from(
     let goes_on = layout.goes_on;
     let ended = frames::run_trace(
         bytes,
-        start as u16,
+        start as StateNumber,
         holds,
         after,
         &guard_of,
