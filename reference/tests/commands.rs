@@ -170,7 +170,7 @@ fn cases_for_numbers_are_listed_and_written() {
     assert_eq!(first.lines().collect::<Vec<&str>>(), lines);
     let at = directory("numbered");
     command(&["numbers-cases", at.to_str().unwrap()], b"");
-    assert!(fs::read_dir(&at).unwrap().count() >= 30);
+    assert_eq!(fs::read_dir(&at).unwrap().count(), 82);
     assert_eq!(fs::read(at.join("00000/monitor.txt")).unwrap(), file.as_bytes());
     assert_eq!(fs::read(at.join("00000/placer.txt")).unwrap(), b"0900010FFF\n");
 }

@@ -21,7 +21,7 @@ ghost use Rattle.bodies.specs.Shifts.{unshift, ShiftOf, Stretch, Noted, 
 ghost use Rattle.bodies.specs.Shifts.{Serves, AllServe, PutRows};
 
 // How many numbers there are for shifts.
-const SHIFTS: StateNumber = machine::STATE_END;
+const SHIFTS: u16 = machine::STATE_END;
 
 // Numbers in sixteen lanes, with what the values of variable k add.
 fn with_shares(

@@ -38,7 +38,7 @@ fn entries_of(
     loaded: Loaded,
     kept: &[u8; machine::STATES],
     holds: &[u16; machine::STATES],
-    after: &[u16; machine::AFTER],
+    after: &[StateNumber; machine::AFTER],
 ) -> [u8; machine::ENTRIES]
     ensures { λ r. ⌜ ((file : List ℕ) → Loads file loaded (now (kept .entry)) (now (holds .entry)) (now (after .entry))
         → EntriesOf file r) ⌝ }
@@ -67,7 +67,7 @@ pub fn place_loaded(
     loaded: Loaded,
     kept: &[u8; machine::STATES],
     holds: &[u16; machine::STATES],
-    after: &[u16; machine::AFTER],
+    after: &[StateNumber; machine::AFTER],
     table: &mut [u8],
 ) -> Placing
     ensures { λ r. ⌜ ((file : List ℕ) → Loads file loaded (now (kept .entry)) (now (holds .entry)) (now (after .entry))
@@ -122,7 +122,7 @@ pub fn both_loaded(
     start: usize,
     kept: &[u8; machine::STATES],
     holds: &[u16; machine::STATES],
-    after: &[u16; machine::AFTER],
+    after: &[StateNumber; machine::AFTER],
 ) -> Both
     ensures { λ r. ⌜ ((file : List ℕ) → Loads file loaded (now (kept .entry)) (now (holds .entry)) (now (after .entry))
         → Agrees file (now (bytes .entry)) start (r .plain) (r .table)) ⌝ }
@@ -163,7 +163,7 @@ pub fn points_loaded(
     start: usize,
     kept: &[u8; machine::STATES],
     holds: &[u16; machine::STATES],
-    after: &[u16; machine::AFTER],
+    after: &[StateNumber; machine::AFTER],
     out: &mut [u8],
 ) -> Pointing
     ensures { λ r. ⌜ ((file : List ℕ) → Loads file loaded (now (kept .entry)) (now (holds .entry)) (now (after .entry))

@@ -89,7 +89,7 @@ module _ {vs : List Var} {lows highs weights : List ℕ} (w : Weighing vs lows h
   states-held =
       record {
         counted = product-is (w .ranges) (w .good) (w .few) wrapped wrapped-keeps;
-        sizes = product-kept (w .ranges) (w .good) (w .few) wrapped wrapped-keeps;
+        products = product-kept (w .ranges) (w .good) (w .few) wrapped wrapped-keeps;
         weight = w .weigh;
         held = λ as′ xs s b. number-held (standing s b);
         rising = λ as′ bs xs ys s t b c.

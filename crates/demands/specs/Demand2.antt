@@ -64,7 +64,7 @@ pub record NumberHeld (vs : List Var) (lows weights : List ℕ) (as′ : List �
 pub record StatesHeld (vs : List Var) (lows highs weights : List ℕ) : Type 0 where
   -- the count of states, with each product on the way
   pub counted : countIn wrapped lows highs (length vs) ≡ count vs
-  pub sizes : (k : ℕ) → k ≤ length vs → countIn wrapped lows highs k ≡ countIn unlimited lows highs k
+  pub products : (k : ℕ) → k ≤ length vs → countIn wrapped lows highs k ≡ countIn unlimited lows highs k
   pub weight : (k : ℕ) → k < length vs → getD weights k 0 ≡ count (drop (suc k) vs)
   pub held : (as′ : List ℤ) (values : List ℕ) → State vs as′ → Biased vs as′ values
       → NumberHeld vs lows weights as′ values

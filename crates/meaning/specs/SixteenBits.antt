@@ -1,7 +1,8 @@
 -- E3, "the inner number held in sixteen bits": how a state's number is worked out from what is held of its variables,
 -- and its values from the number. Of each variable are held the lowest and the highest value and its own value, each
 -- with 128 added, and its weight. What is kept of a sum or a product is a parameter, `limit`: sixteen bits of it, or
--- all. Quotients and remainders are no larger than what is divided, and so have none.
+-- all. A size is at most 256, and differences, quotients and remainders are no larger than what they come from: they
+-- need none.
 use Prim.Native.Nat.{ℕ, zero, suc, _+_, _-_, _*_, _/_, _%_}
 use mathlib.Core.List.{List}
 use lib.ListN.{getD}

@@ -72,7 +72,7 @@ fn write_rest(
     bytes: &[u8],
     first: Going,
     holds: &[u16; machine::STATES],
-    after: &[u16; machine::AFTER],
+    after: &[StateNumber; machine::AFTER],
     entries: &[u8; machine::ENTRIES],
     out: &mut [u8],
     next: usize,
@@ -152,7 +152,7 @@ pub fn write_points(
     bytes: &[u8],
     state: StateNumber,
     holds: &[u16; machine::STATES],
-    after: &[u16; machine::AFTER],
+    after: &[StateNumber; machine::AFTER],
     entries: &[u8; machine::ENTRIES],
     out: &mut [u8],
 ) -> Written

@@ -153,7 +153,7 @@ pub fn run_from(
     start: usize,
     kept: &[u8; machine::STATES],
     holds: &[u16; machine::STATES],
-    after: &[u16; machine::AFTER],
+    after: &[StateNumber; machine::AFTER],
     entries: &[u8; machine::ENTRIES],
 ) -> Both
     ensures { λ r. ⌜ ((m : Monitor) → Bounded (vars m) bounds → layout .regions ≡ length (regions m)

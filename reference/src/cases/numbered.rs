@@ -246,7 +246,7 @@ fn among(add: &mut Add) {
     add("4,080, the first alone at its highest", "0900010FF0", file, "", &[]);
     // 254 * 16 + 15 = 4,079, which is 0FEF (4,094).
     let file = faulty(WIDE_FIRST, &[126, 15], "b := 16;");
-    add("4,079, one below it", "0900010FEF", file, "", &[]);
+    add("4,079, one below 4,080", "0900010FEF", file, "", &[]);
     // 1 * 256 + 0 = 256, which is 0100 (1).
     add("256", "0900010100", faulty(WIDE_LAST, &[1, -128], "b := -129;"), "", &[]);
     // 0 * 256 + 255 = 255, which is 00FF (4,080).
