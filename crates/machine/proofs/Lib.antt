@@ -1,4 +1,5 @@
 pub mod Places
+pub mod Queue
 pub mod Order
 pub mod Tests
 pub mod RulesDecided

@@ -1,20 +1,22 @@
 -- What holds at a point of a run: of the plain machine alone, and between it and the table's. For each kind of frame
 -- one lemma says why it is kept: a body that ran, a thread that begins to wait, a recheck; and who may resume.
 use Prim.Native.Nat.{ℕ}
-use mathlib.Core.Path.{_≡_, refl, sym, ap, _∙_}
-use mathlib.Core.Bool.{Bool, true, false, _&&_, _||_}
-use mathlib.Core.Logic.{_⊎_, inl, inr, ⊎-elim, _↔_, Iff·rfl}
-use lib.Dec.{ltb}
-use borrow.Author.Tests.{ltb-true, ltb-false}
-use Rattle.machine.specs.Monitor.{Threads, idleThreads, waiting, Monitor}
-use Rattle.machine.specs.Decide.Step.{without, isWaiting, beginWait, leave, next, firstNotified, plainTold}
+use mathlib.Core.Path.{_≡_, refl, sym, ap, subst, _∙_}
+use mathlib.Core.Bool.{Bool, true, false, not, _&&_, _||_, and-false, false≢true}
+use mathlib.Core.Logic.{_⊎_, inl, inr, ⊎-elim}
+use mathlib.Core.List.{List, [], _∷_}
+use lib.Dec.{eqb, ltb}
+use borrow.Author.Tests.{ltb-true, ltb-false, eqb-true, eq-eqb}
+use Rattle.machine.specs.Monitor.{Threads, idleThreads, waiting, Monitor, waitsOn, line}
+use Rattle.machine.specs.Decide.Step.{without, isWaiting, beginWait, leave, atFront, firstIn, next, firstNotified}
+use Rattle.machine.specs.Decide.Step.{plainTold}
 use Rattle.machine.specs.Algorithm1.{Entry, entry}
 use Rattle.machine.specs.Decide.Table.{tableTold, unconditional, broadcast, entryOf}
-use Rattle.machine.specs.Rules.{Waits, First, PlainNoticesBy, TableNoticesBy}
-use Rattle.logic.proofs.Bools.{split, clash, split-eq, either, or-left, or-right, tests-equal, decides-and}
+use Rattle.machine.specs.Rules.{Waits, Front, PlainNoticesBy, TableNoticesBy}
+use Rattle.logic.proofs.Bools.{split, clash, split-eq, is-false, either, or-left, or-right}
 use Rattle.machine.proofs.Places.{without-iff}
-use Rattle.machine.proofs.Order.{ahead-began, ahead-left, began-own, began-other, left-own, left-other}
-use Rattle.machine.proofs.Order.{first-waiter, next-iff, first-notified-iff}
+use Rattle.machine.proofs.Order.{began-own, began-other, left-own, left-other, waits-iff, front-waits}
+use Rattle.machine.proofs.Order.{began-line, left-line-other}
 use Rattle.machine.proofs.Tests.{plain-notices, table-notices}
 use Rattle.machine.specs.Algorithm1.{Holds, Fails, Triple, Signals}
 use Rattle.machine.proofs.Entries.{entry-where, entry-unconditional, signal-iff}
@@ -66,7 +68,7 @@ pub record PlainPoint (m : Monitor) (s : ℕ) (p : Threads) (n : ℕ → Bool) :
 pub record Agree (m : Monitor) (bc : ℕ → Bool) (s : ℕ) (p : Threads) (nP nT : ℕ → Bool) : Type 0 where
   pub plain : PlainPoint m s p nP
   pub within : (u : ℕ) → nT u ≡ true → nP u ≡ true
-  pub first : (g u : ℕ) → Waits m p g u → m .holds g s ≡ true → First m p (Waits m p g) u → nT u ≡ true
+  pub first : (g u : ℕ) → m .holds g s ≡ true → Front (line m p g) u → nT u ≡ true
   pub every : (g u : ℕ) → Waits m p g u → m .holds g s ≡ true → bc g ≡ true → nT u ≡ true
 
 pub idle-plain : (m : Monitor) (s : ℕ) → m .kept s ≡ true → PlainPoint m s idleThreads (λ _. false)
@@ -84,7 +86,7 @@ unfolding Waits isWaiting
 idle-agree m bc s k = record {
   plain = idle-plain m s k;
   within = λ u h. h;
-  first = λ g u w h f. ap isWaiting (w .1);
+  first = λ g u h f. let w = front-waits m idleThreads g u f in ap isWaiting (w .1);
   every = λ g u w h b. ap isWaiting (w .1);
 }
 
@@ -98,30 +100,22 @@ waits-waiting : (m : Monitor) (p : Threads) (g u : ℕ) → Waits m p g u → is
 unfolding Waits isWaiting
 waits-waiting m p g u w = ap isWaiting (w .1)
 
--- a waiter that is notified if it is next in line may resume exactly if it is next in line
-pub resumes :
-    (m : Monitor) (p : Threads) (n : ℕ → Bool) (g t : ℕ) → Waits m p g t
-    → ((u : ℕ) → Waits m p g u → First m p (Waits m p g) u → n u ≡ true)
-    → n t && firstNotified m p n g t ≡ next m p g t
-unfolding First
-resumes m p n g t here told = tests-equal (n t && firstNotified m p n g t) (next m p g t) to from
+-- where whoever stands at the front of a line is notified, a thread may resume exactly if it stands there
+resumes-in : (l : List ℕ) (n : ℕ → Bool) (t : ℕ) → ((u : ℕ) → Front l u → n u ≡ true) → n t && firstIn l n t ≡ atFront l t
+unfolding firstIn atFront Front
+resumes-in [] n t told = and-false (n t)
+resumes-in (v ∷ vs) n t told = go (eqb v t) refl (n v) (told v (vs, refl))
   where
-    resumes-iff : (n t && firstNotified m p n g t ≡ true)
-        ↔ ((n t ≡ true) × First m p (λ u. Waits m p g u × (n u ≡ true)) t)
-    resumes-iff = decides-and (n t) (firstNotified m p n g t) Iff·rfl (first-notified-iff m p n g t)
+    go : (b : Bool) → eqb v t ≡ b → (k : Bool) → k ≡ true → n t && (b || (not k && firstIn vs n t)) ≡ b
+    go true q k e = ap (λ (x : Bool). x && true) (told t (vs, ap (λ (x : ℕ). x ∷ vs) (eqb-true v t q)))
+    go false q true e = and-false (n t)
+    go false q false e = absurd (false≢true e)
 
-    none-ahead : First m p (λ u. Waits m p g u × (n u ≡ true)) t → First m p (Waits m p g) t
-    none-ahead h v l w a =
-        let x = first-waiter m p g t v l w a in
-        h (x .0) (x .1) (x .2, told (x .0) (x .2) (x .3)) (x .4)
-
-    to : n t && firstNotified m p n g t ≡ true → next m p g t ≡ true
-    to h = next-iff m p g t .1 (here, none-ahead (resumes-iff .0 h .1))
-
-    from : next m p g t ≡ true → n t && firstNotified m p n g t ≡ true
-    from h =
-        let b = next-iff m p g t .0 h in
-        resumes-iff .1 (told t here (b .1), λ v l w a. b .1 v l (w .0) a)
+pub resumes :
+    (m : Monitor) (p : Threads) (n : ℕ → Bool) (g t : ℕ) → ((u : ℕ) → Front (line m p g) u → n u ≡ true)
+    → n t && firstNotified m p n g t ≡ next m p g t
+unfolding firstNotified next
+resumes m p n g t told = resumes-in (line m p g) n t told
 
 -- A body of region r ran, by thread t: it is no waiter any more, and the others keep their places
 
@@ -196,7 +190,7 @@ module _ (m : Monitor) (ok : Checked m) (s : ℕ) (p : Threads) (t r : ℕ) (gua
 
     -- a guard that has become true: its entry stands, and acts
     woken : (g u : ℕ) → Waits m p′ g u → m .holds g s′ ≡ true → m .holds g s ≡ false
-        → (bc g ≡ true) ⊎ First m p′ (Waits m p′ g) u → nT′ u ≡ true
+        → (bc g ≡ true) ⊎ Front (line m p′ g) u → nT′ u ≡ true
     unfolding TableNoticesBy
     woken g u w h k a =
         let x = placed .stands r g s (ag .plain .is-kept) guard k h in
@@ -210,29 +204,28 @@ module _ (m : Monitor) (ok : Checked m) (s : ℕ) (p : Threads) (t r : ℕ) (gua
         (λ k. stays nT u (tableTold m e s′ p′ r u) (o .0) (ag .every g u (o .1) k b))
         (λ k. woken g u w h k (inl b))
 
-    -- the first in line on a guard other than the region's was first before
-    was-first : (g u : ℕ) → (m .guardOf r ≡ g → ⊥) → (u ≡ t → ⊥) → First m p′ (Waits m p′ g) u
-        → First m p (Waits m p g) u
-    unfolding First Waits
-    was-first g u other d h v l w a =
-        let k : (v ≡ t → ⊥) = λ q. other (ap (m .guardOf) (sym (own (w .0) (ap (p .place) (sym q) ∙ w .1))) ∙ w .2) in
-        h v l (waits-at m p p′ g v (left-other p t (m .follows r) v k) w)
-        (ahead-left p t (m .follows r) v u l (waits-waiting m p g v w) k d a)
+    -- the line on a guard other than the region's is as it was
+    line-before : (g : ℕ) → (m .guardOf r ≡ g → ⊥) → line m p′ g ≡ line m p g
+    unfolding Waits
+    line-before g other = left-line-other m p t (m .follows r) g (is-false (λ h.
+        let w = waits-iff m p g t .0 h in other (ap (m .guardOf) (sym (own (w .0) (w .1))) ∙ w .2)))
 
     -- a guard with signals that held before and after the body is not the region's
     not-own : (g : ℕ) → m .holds g s′ ≡ true → bc g ≡ false → m .guardOf r ≡ g → ⊥
     not-own g h b q =
         clash h (ap (λ (y : ℕ). m .holds y s′) (sym q) ∙ placed .once r s (ap bc q ∙ b) (ag .plain .is-kept) guard)
 
-    ran-first : (g u : ℕ) → Waits m p′ g u → m .holds g s′ ≡ true → First m p′ (Waits m p′ g) u → nT′ u ≡ true
-    ran-first g u w h f =
+    ran-first : (g u : ℕ) → m .holds g s′ ≡ true → Front (line m p′ g) u → nT′ u ≡ true
+    ran-first g u h f =
         split (m .holds g s) (λ k. split (bc g) (ran-every g u w h) (was-told k)) (λ k. woken g u w h k (inr f))
       where
+        w : Waits m p′ g u
+        w = front-waits m p′ g u f
+
         was-told : m .holds g s ≡ true → bc g ≡ false → nT′ u ≡ true
         was-told k b =
-            let o = left-waits g u w in
-            stays nT u (tableTold m e s′ p′ r u) (o .0)
-            (ag .first g u (o .1) k (was-first g u (not-own g h b) (o .0) f))
+            stays nT u (tableTold m e s′ p′ r u) (left-waits g u w .0)
+            (ag .first g u k (subst (λ (l : List ℕ). Front l u) (line-before g (not-own g h b)) f))
 
     pub ran-agree : Agree m bc s′ p′ nP′ nT′
     ran-agree = record { plain = ran-plain nP (ag .plain); within = ran-within; first = ran-first; every = ran-every }
@@ -253,13 +246,9 @@ module _ (m : Monitor) (s : ℕ) (p : Threads) (t r : ℕ) (guard : m .holds (m 
       clash h (ap (λ (x : ℕ). m .holds x s) (sym (w .2) ∙ ap (m .guardOf) (sym k)) ∙ guard))
       (λ q. (q, waits-at m q′ p g u (sym (began-other p t r u q)) w))
 
-  first-before : (g u : ℕ) → (u ≡ t → ⊥) → First m q′ (Waits m q′ g) u → First m p (Waits m p g) u
-  unfolding First
-  first-before g u d h v l w a =
-      let k : (v ≡ t → ⊥) =
-      λ q. clash (waits-waiting m p g v w) (ap (λ (x : ℕ). isWaiting (p .place x)) q ∙ idle-or-due) in
-      h v l (waits-at m p q′ g v (began-other p t r v k) w)
-      (ahead-began p t r v u l (waits-waiting m p g v w) k d a)
+  -- the line on a guard that holds is as it was
+  line-then : (g : ℕ) → m .holds g s ≡ true → line m q′ g ≡ line m p g
+  line-then g h = began-line m p t r g idle-or-due (λ e. clash h (ap (λ (x : ℕ). m .holds x s) (sym e) ∙ guard))
 
   pub waited-plain : (n : ℕ → Bool) → PlainPoint m s p n → PlainPoint m s q′ n
   unfolding isWaiting
@@ -275,7 +264,7 @@ module _ (m : Monitor) (s : ℕ) (p : Threads) (t r : ℕ) (guard : m .holds (m 
   waited-agree bc nP nT ag = record {
     plain = waited-plain nP (ag .plain);
     within = ag .within;
-    first = λ g u w h f. let o = waited-before g u w h in ag .first g u (o .1) h (first-before g u (o .0) f);
+    first = λ g u h f. ag .first g u h (subst (λ (l : List ℕ). Front l u) (line-then g h) f);
     every = λ g u w h b. ag .every g u (waited-before g u w h .1) h b;
   }
 
@@ -302,6 +291,6 @@ module _ (m : Monitor) (s : ℕ) (p : Threads) (t r : ℕ) (guard : m .holds (m 
   rechecked-agree bc nP nT ag = record {
     plain = rechecked-plain nP (ag .plain);
     within = λ u h. let b = without-iff nT t u .0 h in without-iff nP t u .1 (b .0, ag .within u (b .1));
-    first = λ g u w h f. without-iff nT t u .1 (other-waiter g u w h, ag .first g u w h f);
+    first = λ g u h f. without-iff nT t u .1 (other-waiter g u (front-waits m p g u f) h, ag .first g u h f);
     every = λ g u w h b. without-iff nT t u .1 (other-waiter g u w h, ag .every g u w h b);
   }

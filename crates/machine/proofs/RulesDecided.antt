@@ -11,6 +11,7 @@ use lib.ListN.{length}
 use Rattle.machine.specs.Monitor.{Place, waiting, Threads, Monitor, Frame, Config, accepted, stopped}
 use Rattle.machine.specs.Decide.Step.{without, isWaiting, leave, Outcome, moved, refused, Told, firstNotified}
 use Rattle.machine.specs.Decide.Step.{plainTold, may, ran, waited, rechecked, allowed, act, judged, step, run}
+use Rattle.machine.specs.Queue.{joined}
 use Rattle.machine.specs.Algorithm1.{Entry}
 use Rattle.machine.specs.Decide.Table.{tableTold}
 use Rattle.machine.specs.Rules.{Notices, PlainNotices, TableNotices, May, Waiting, Moved, NotifiedAre, OthersOf}
@@ -81,7 +82,9 @@ module _ (m : Monitor) (told : Told) (notices : Notices)
   -- what each kind of frame leads to is what its rule says
 
   waited-moves :
-      (c : Config) (f : Frame) → Moved m (c .threads) (waited m told c f .threads) (f .thread) (waiting (f .region))
+      (c : Config) (f : Frame)
+      → Moved m (c .threads) (waited m told c f .threads) (f .thread) (waiting (f .region))
+      (joined (c .threads .queue) (f .thread))
   unfolding waited
   waited-moves c f = began-moved m (c .threads) (f .thread) (f .region)
 
@@ -120,7 +123,7 @@ module _ (m : Monitor) (told : Told) (notices : Notices)
 
   waited-only :
       (c : Config) (f : Frame) {c′ : Config} → c′ .state ≡ c .state
-      → Moved m (c .threads) (c′ .threads) (f .thread) (waiting (f .region))
+      → Moved m (c .threads) (c′ .threads) (f .thread) (waiting (f .region)) (joined (c .threads .queue) (f .thread))
       → NotifiedAre m (c′ .notified) (λ u. c .notified u ≡ true) → waited m told c f ≡ c′
   unfolding waited NotifiedAre
   waited-only c f {c′} s p n = config-equal (sym s) (moved-one m (waited-moves c f) p)

@@ -10,9 +10,9 @@ use Rattle.machine.specs.Decide.Step.{isWaiting, Outcome, moved, refused
 use Rattle.machine.specs.Decide.Step.{waited, rechecked, allowed, act, judged, step, run}
 use Rattle.machine.specs.Algorithm1.{Entry}
 use Rattle.machine.specs.Decide.Table.{tableTold}
-use Rattle.machine.specs.Rules.{Waits, TableNotices, MayBeAt, May, Rule}
+use Rattle.machine.specs.Rules.{TableNotices, MayBeAt, May, Rule}
 use Rattle.logic.proofs.Bools.{clash, beq-equal}
-use Rattle.machine.proofs.Order.{waiting-iff}
+use Rattle.machine.proofs.Order.{waiting-iff, front-waits}
 use Rattle.machine.proofs.Tests.{may-iff}
 use Rattle.machine.proofs.RulesDecided.{run-on, run-stop, table-decides}
 use Rattle.machine.proofs.Rechecks.{waiters, recheck-now, recheck-later}
@@ -88,7 +88,7 @@ module _ (m : Monitor) (ok : Checked m) (s : ℕ) (p : Threads) (f : Frame) wher
   module _ (e : ℕ → ℕ → Entry) (bc : ℕ → Bool) (placed : Placed m e bc) (nP nT : ℕ → Bool) (ag : Agree m bc s p nP nT)
     where
       step-agree : Match m bc p f (step m (plainTold m) (at s p nP) f) (step m (tableTold m e) (at s p nT) f)
-      unfolding step judged act allowed ran waited rechecked Waits
+      unfolding step judged act allowed ran waited rechecked
       step-agree = go (may m p f) (Bool·beq (f .flag) (m .holds (m .guardOf (f .region)) s)) refl refl
         where
           t : ℕ
@@ -117,12 +117,9 @@ module _ (m : Monitor) (ok : Checked m) (s : ℕ) (p : Threads) (f : Frame) wher
                   both-move (rechecked-agree m s p t r (sym k ∙ fl) (waits-here m p f a w) bc nP nT ag)
           acted a k true w true fl =
               turn (nP t && firstNotified m p nP g t) (nT t && firstNotified m p nT g t)
-              (resumes m p nP g t here (λ u x _. ag .plain .all g u x holds)
-              ∙ sym (resumes m p nT g t here (λ u x z. ag .first g u x holds z)))
+              (resumes m p nP g t (λ u x. ag .plain .all g u (front-waits m p g u x) holds)
+              ∙ sym (resumes m p nT g t (λ u x. ag .first g u holds x)))
             where
-              here : Waits m p g t
-              here = (r, waits-here m p f a w, refl)
-
               holds : m .holds g s ≡ true
               holds = sym k ∙ fl
 

@@ -3,15 +3,15 @@
 use Prim.Native.Nat.{ℕ}
 use mathlib.Core.Path.{_≡_, refl, sym, subst, ap, _∙_}
 use mathlib.Core.Bool.{Bool, true, not, _&&_, _||_, false≢true}
-use mathlib.Core.Logic.{_⊎_, inl, inr, _↔_, ⊎-elim, Iff·rfl, Iff·trans}
+use mathlib.Core.Logic.{_⊎_, _↔_, Iff·rfl, Iff·trans}
 use lib.Dec.{eqb, ltb}
 use borrow.Author.Tests.{ltb-true, lt-ltb}
-use Rattle.machine.specs.Monitor.{Place, idle, waiting, due, Threads, Monitor, Frame, threads}
+use Rattle.machine.specs.Monitor.{Place, idle, waiting, due, Threads, Monitor, Frame, threads, line}
 use Rattle.logic.specs.Tests.{any}
 use Rattle.machine.specs.Decide.Step.{isDue, next, own, plainTold, mayBeAt, may}
 use Rattle.machine.specs.Algorithm1.{Entry, none, entry}
 use Rattle.machine.specs.Decide.Table.{acts, entryTold, tableTold}
-use Rattle.machine.specs.Rules.{Waits, First, PlainNotices, TableNotices, PlainNoticesBy, TableNoticesBy}
+use Rattle.machine.specs.Rules.{Waits, Front, PlainNotices, TableNotices, PlainNoticesBy, TableNoticesBy}
 use Rattle.machine.specs.Rules.{MayBeAt, May}
 use Rattle.logic.proofs.Bools.{decides-and, decides-or, decides-not, decides-eqb}
 use Rattle.logic.proofs.Any.{none-iff}
@@ -81,11 +81,11 @@ module _ (m : Monitor) where
       (e : ℕ → ℕ → Entry) (s : ℕ) (p : Threads) (r u : ℕ) → (tableTold m e s p r u ≡ true) ↔ TableNotices m e s p r u
   unfolding tableTold TableNoticesBy entryTold Waits
   table-notices e s p r u =
-      (to (p .place u) refl, λ n. from (n .0) (n .1) (n .2, n .3, n .4, n .5, ⊎-elim inl (λ x. inr (n .1, x)) (n .6)))
+      (to (p .place u) refl, λ n. from (n .0) (n .1) (n .2, n .3, n .4, n .5, n .6))
     where
       Acts : ℕ → Type 0
       Acts g = (a b : Bool) × (e r g ≡ entry a b) × ((a ≡ true) ⊎ (m .holds g s ≡ true))
-          × ((b ≡ true) ⊎ (Waits m p g u × First m p (Waits m p g) u))
+          × ((b ≡ true) ⊎ Front (line m p g) u)
 
       by-entry : (g : ℕ) → (acts (e r g) (m .holds g s) (next m p g u) ≡ true) ↔ Acts g
       by-entry g = acts-iff (e r g) (m .holds g s) (next m p g u) (next-iff m p g u)
@@ -94,7 +94,7 @@ module _ (m : Monitor) where
       to idle z h = absurd (false≢true h)
       to (waiting w) z h =
           let n = by-entry (m .guardOf w) .0 h in
-          (m .guardOf w, (w, z, refl), n .0, n .1, n .2, n .3, ⊎-elim inl (λ x. inr (x .1)) (n .4))
+          (m .guardOf w, (w, z, refl), n .0, n .1, n .2, n .3, n .4)
       to (due w) z h = absurd (false≢true h)
 
       from : (g : ℕ) → Waits m p g u → Acts g → entryTold m e s p r u (p .place u) ≡ true

@@ -5,10 +5,10 @@ use mathlib.Core.Bool.{true, false}
 use mathlib.Core.Logic.{_⊎_}
 use mathlib.Core.List.{List}
 use lib.ListN.{length, take}
-use Rattle.machine.specs.Monitor.{due, Monitor, Frame, Config, allIdle, Run, accepted, stopped}
+use Rattle.machine.specs.Monitor.{due, line, Monitor, Frame, Config, allIdle, Run, accepted, stopped}
 use Rattle.machine.specs.Decide.Step.{isWaiting, plainTold, run}
 use Rattle.machine.specs.Decide.Table.{tableTold, entryOf}
-use Rattle.machine.specs.Rules.{Waits, First}
+use Rattle.machine.specs.Rules.{Waits, Front}
 use Rattle.machine.specs.Recheck.{Recheck}
 
 -- "An answer is the number (0 for accepted) and two places, 0 where unused"; a frame's refusal uses the first
@@ -21,7 +21,7 @@ answer (stopped a k) = (a, k)
 pub record SamePoint (m : Monitor) (plain table : Config) : Type 0 where
   -- (R 12.9)
   pub same-state : plain .state ≡ table .state
-  -- each thread at the same place, and one line (R 12.9)
+  -- each thread at the same place, and one queue, so with the same turn (R 12.9)
   pub same-threads : plain .threads ≡ table .threads
   -- (R 12.10)
   pub is-kept : m .kept (table .state) ≡ true
@@ -29,8 +29,7 @@ pub record SamePoint (m : Monitor) (plain table : Config) : Type 0 where
   pub all-notified :
       (g u : ℕ) → m .holds g (plain .state) ≡ true → Waits m (plain .threads) g u → plain .notified u ≡ true
   pub next-notified :
-      (g u : ℕ) → m .holds g (table .state) ≡ true → Waits m (table .threads) g u
-      → First m (table .threads) (Waits m (table .threads) g) u → table .notified u ≡ true
+      (g u : ℕ) → m .holds g (table .state) ≡ true → Front (line m (table .threads) g) u → table .notified u ≡ true
 
 -- Two machines, as runs of a list of frames, agree on a list; `recheck` says which of its frames are rechecks
 pub record AgreeOn

@@ -1,8 +1,10 @@
 pub mod Limits
+pub mod Queue
 pub mod Monitor
 pub mod Rules
 pub mod Algorithm1
 pub mod Recheck
+pub mod Arrival
 pub mod Agreement
 pub mod Decide
 pub mod Held

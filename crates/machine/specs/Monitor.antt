@@ -3,7 +3,9 @@
 use Prim.Native.Nat.{ℕ, _<_}
 use mathlib.Core.Path.{_≡_}
 use mathlib.Core.Bool.{Bool, false}
-use lib.Dec.{ltb}
+use mathlib.Core.List.{List, []}
+use lib.Dec.{eqb}
+use Rattle.machine.specs.Queue.{those, placeIn}
 
 -- where a thread is: idle, or waiting at a region, or due at a region (R 9.4)
 pub data Place : Type 0 where
@@ -39,18 +41,39 @@ pub record Frame : Type 0 where
 unfoldable pub threads : ℕ
 threads = 16
 
--- what is known of all threads: where each is (R 9.3)
+-- what is known of all threads: where each is, and beside it the queue of those who wait, the earliest to begin at its
+-- front (R 9.3, 9.37)
 pub record Threads : Type 0 where
   pub place : ℕ → Place
+  pub queue : List ℕ
 
 -- two that are alike on the sixteen threads
 pub record SameThreads (p p′ : Threads) : Type 0 where
   pub same-place : (u : ℕ) → u < threads → p .place u ≡ p′ .place u
+  pub same-queue : p .queue ≡ p′ .queue
 
--- The line of those who wait, read off what is known of all threads: u stands ahead of v. "the lowest-numbered"
--- (R 9.19, 9.27)
-unfoldable pub ahead : Threads → ℕ → ℕ → Bool
-ahead p u v = ltb u v
+-- "its turn among all who wait": how many of them began before it; 0 of a thread that is idle or due (R 9.38, 9.39)
+unfoldable pub turnAt : Place → ℕ → ℕ
+turnAt idle n = 0
+turnAt (waiting r) n = n
+turnAt (due r) n = 0
+
+unfoldable pub turn : Threads → ℕ → ℕ
+turn p u = turnAt (p .place u) (placeIn (p .queue) u)
+
+module _ (m : Monitor) where
+  -- a place at which a thread waits on guard g (R 9.5)
+  unfoldable pub onGuard : ℕ → Place → Bool
+  onGuard g idle = false
+  onGuard g (waiting w) = eqb (m .guardOf w) g
+  onGuard g (due w) = false
+
+  unfoldable pub waitsOn : Threads → ℕ → ℕ → Bool
+  waitsOn p g u = onGuard g (p .place u)
+
+  -- the line on a guard: the queue cut down to those who wait on it (R 9.27)
+  unfoldable pub line : Threads → ℕ → List ℕ
+  line p g = those (waitsOn p g) (p .queue)
 
 -- a point of a run, over states of any kind: the state, what is known of all threads, and who has a notice that is not
 -- used up (R 9.3)
@@ -67,9 +90,9 @@ Config = Point ℕ
 abbrev pub withState : {S T : Type 0} → T → Point S → Point T
 withState x c = record { state = x; threads = c .threads; notified = c .notified }
 
--- every place is idle (R 9.6)
+-- every place is idle, and nobody waits (R 9.6)
 abbrev pub idleThreads : Threads
-idleThreads = record { place = λ _. idle }
+idleThreads = record { place = λ _. idle; queue = [] }
 
 -- "At the start all are idle and none notified" (R 9.6)
 unfoldable pub allIdle : {S : Type 0} → S → Point S

@@ -8,7 +8,8 @@ use mathlib.Core.Logic.{_⊎_, _↔_}
 use mathlib.Core.List.{List, [], _∷_, _++_}
 use lib.ListN.{length}
 use Rattle.machine.specs.Monitor.{Place, idle, waiting, due, Threads, Monitor, Frame, Point, Config, threads}
-use Rattle.machine.specs.Monitor.{ahead}
+use Rattle.machine.specs.Monitor.{line}
+use Rattle.machine.specs.Queue.{has, joined, left}
 use Rattle.machine.specs.Algorithm1.{Entry, entry}
 
 -- what the rules ask of states of a kind
@@ -22,14 +23,21 @@ pub record Semantics (S : Type 0) : Type 1 where
 abbrev pub NoticesOver : Type 0 → Type 1
 NoticesOver S = S → Threads → ℕ → ℕ → Type 0
 
+-- u stands at the front of a line: the source's min, among those of one guard (R 9.27)
+unfoldable pub Front : List ℕ → ℕ → Type 0
+Front line u = (behind : List ℕ) × (line ≡ u ∷ behind)
+
+-- u stands in a line, and none of those ahead of it there is one of a set (R 9.19, 9.20)
+pub record First (line : List ℕ) (among : ℕ → Bool) (u : ℕ) : Type 0 where
+  pub ahead : List ℕ
+  pub behind : List ℕ
+  pub splits : line ≡ ahead ++ (u ∷ behind)
+  pub none-ahead : (v : ℕ) → has ahead v ≡ true → among v ≡ true → ⊥
+
 module _ (m : Monitor) where
   -- thread u waits at a region whose guard is g: in the source, one of Events(B, g) (R 9.5)
   unfoldable pub Waits : Threads → ℕ → ℕ → Type 0
   Waits p g u = (w : ℕ) × (p .place u ≡ waiting w) × (m .guardOf w ≡ g)
-
-  -- no thread of a set stands ahead of t: the source's min, among those of one guard (R 9.19, 9.20, 9.27)
-  unfoldable pub First : Threads → (ℕ → Type 0) → ℕ → Type 0
-  First p among t = (u : ℕ) → u < threads → among u → ahead p u t ≡ true → ⊥
 
   module _ {S : Type 0} (sense : Semantics S) where
     -- Figure 4: whom the plain machine notifies (R 9.24)
@@ -41,7 +49,7 @@ module _ (m : Monitor) where
     unfoldable pub TableNoticesBy : (ℕ → ℕ → Bool → Bool → Type 0) → NoticesOver S
     TableNoticesBy has s p r u =
         (g : ℕ) × Waits p g u × (a b : Bool) × has r g a b × ((a ≡ true) ⊎ (sense .holds g s ≡ true))
-        × ((b ≡ true) ⊎ First p (Waits p g) u)
+        × ((b ≡ true) ⊎ Front (line m p g) u)
 
   -- where a thread may be next (13; R 9.11, 9.12)
   unfoldable pub MayBeAt : Place → ℕ → Type 0
@@ -58,11 +66,11 @@ module _ (m : Monitor) where
   unfoldable pub Waiting : Place → Type 0
   Waiting q = (w : ℕ) × (q ≡ waiting w)
 
-  -- after a frame of thread t, t is at q and nobody else has moved (R 9.16, 9.22). Here, and nowhere else, a rule says
-  -- what becomes of the line: nothing, since those who wait stand by their numbers
-  pub record Moved (p p′ : Threads) (t : ℕ) (q : Place) : Type 0 where
+  -- after a frame of thread t, t is at q, nobody else has moved, and the queue is what is said (R 9.16, 9.22, 9.40)
+  pub record Moved (p p′ : Threads) (t : ℕ) (q : Place) (queue : List ℕ) : Type 0 where
     pub own-place : p′ .place t ≡ q
     pub others : (u : ℕ) → (u ≡ t → ⊥) → p′ .place u ≡ p .place u
+    pub then-queue : p′ .queue ≡ queue
 
   -- exactly those of a set are notified
   unfoldable pub NotifiedAre : (ℕ → Bool) → (ℕ → Type 0) → Type 0
@@ -79,7 +87,8 @@ module _ (m : Monitor) where
     -- (`places`), before anybody is picked, so it is never among those notified for the body that it has just run.
     pub record BodyBy (c : Point S) (f : Frame) (c′ : Point S) : Type 0 where
       pub state : sense .runs (f .region) (c .state) (c′ .state)
-      pub places : Moved (c .threads) (c′ .threads) (f .thread) (m .follows (f .region))
+      pub places :
+          Moved (c .threads) (c′ .threads) (f .thread) (m .follows (f .region)) (left (c .threads .queue) (f .thread))
       pub notified :
           NotifiedAre (c′ .notified)
           (λ u. OthersOf (c .notified) (f .thread) u ⊎ notices (c′ .state) (c′ .threads) (f .region) u)
@@ -90,7 +99,8 @@ module _ (m : Monitor) where
       rule-1a :
           May (c .threads) f → f .flag ≡ false → sense .holds (m .guardOf (f .region)) (c .state) ≡ false
           → (Waiting (c .threads .place (f .thread)) → ⊥)
-          → c′ .state ≡ c .state → Moved (c .threads) (c′ .threads) (f .thread) (waiting (f .region))
+          → c′ .state ≡ c .state
+          → Moved (c .threads) (c′ .threads) (f .thread) (waiting (f .region)) (joined (c .threads .queue) (f .thread))
           → NotifiedAre (c′ .notified) (λ u. c .notified u ≡ true) → RuleBy c f c′
       -- (R 9.17)
       rule-1b :
@@ -106,7 +116,7 @@ module _ (m : Monitor) where
       rule-2b :
           May (c .threads) f → f .flag ≡ true → sense .holds (m .guardOf (f .region)) (c .state) ≡ true
           → Waiting (c .threads .place (f .thread)) → c .notified (f .thread) ≡ true
-          → First (c .threads) (λ u. Waits (c .threads) (m .guardOf (f .region)) u × (c .notified u ≡ true)) (f .thread)
+          → First (line m (c .threads) (m .guardOf (f .region))) (c .notified) (f .thread)
           → BodyBy c f c′ → RuleBy c f c′
 
     -- frames allowed one after the other (the source's rule 3 and its closure; R 9.7)

@@ -5,8 +5,9 @@ use mathlib.Core.Bool.{Bool, true, false, not, _&&_, Bool·beq, _||_}
 use mathlib.Core.List.{List, [], _∷_}
 use lib.Dec.{eqb, ltb}
 use Rattle.logic.specs.Tests.{any}
-use Rattle.machine.specs.Monitor.{Config, Frame, Monitor, Place, Run, Threads, accepted, ahead}
-use Rattle.machine.specs.Monitor.{due, idle, stopped, threads, waiting}
+use Rattle.machine.specs.Monitor.{Config, Frame, Monitor, Place, Run, Threads, accepted}
+use Rattle.machine.specs.Monitor.{due, idle, line, stopped, threads, waiting}
+use Rattle.machine.specs.Queue.{joined, left}
 
 -- the places with that of thread t replaced
 unfoldable pub put : (ℕ → Place) → ℕ → Place → ℕ → Place
@@ -26,12 +27,22 @@ isWaiting idle = false
 isWaiting (waiting r) = true
 isWaiting (due r) = false
 
--- a thread that begins to wait at a region, and one that goes on from a body: all that changes places, and the line
+-- a thread that begins to wait at a region, and one that goes on from a body: all that changes places and the queue
 unfoldable pub beginWait : Threads → ℕ → ℕ → Threads
-beginWait p t r = record { place = put (p .place) t (waiting r) }
+beginWait p t r = record { place = put (p .place) t (waiting r); queue = joined (p .queue) t }
 
 unfoldable pub leave : Threads → ℕ → Place → Threads
-leave p t q = record { place = put (p .place) t q }
+leave p t q = record { place = put (p .place) t q; queue = left (p .queue) t }
+
+-- thread u stands at the front of a line
+unfoldable pub atFront : List ℕ → ℕ → Bool
+atFront [] u = false
+atFront (v ∷ vs) u = eqb v u
+
+-- thread u stands in a line, and none of those ahead of it passes a test
+unfoldable pub firstIn : List ℕ → (ℕ → Bool) → ℕ → Bool
+firstIn [] among u = false
+firstIn (v ∷ vs) among u = eqb v u || (not (among v) && firstIn vs among u)
 
 -- what becomes of one frame
 pub data Outcome : Type 0 where
@@ -43,22 +54,13 @@ abbrev pub Told : Type 0
 Told = ℕ → Threads → ℕ → ℕ → Bool
 
 module _ (m : Monitor) where
-  unfoldable pub onGuard : ℕ → Place → Bool
-  onGuard g idle = false
-  onGuard g (waiting w) = eqb (m .guardOf w) g
-  onGuard g (due w) = false
-
-  -- thread u waits on guard g
-  unfoldable pub waitsOn : Threads → ℕ → ℕ → Bool
-  waitsOn p g u = onGuard g (p .place u)
-
   -- thread u is next in line on guard g: "A guard's first waiter"
   unfoldable pub next : Threads → ℕ → ℕ → Bool
-  next p g u = waitsOn p g u && not (any threads (λ v. waitsOn p g v && ahead p v u))
+  next p g u = atFront (line m p g) u
 
-  -- no thread notified on guard g stands ahead of t: "the lowest number among those notified on its guard"
+  -- no thread notified on guard g stands ahead of t in its line
   unfoldable pub firstNotified : Threads → (ℕ → Bool) → ℕ → ℕ → Bool
-  firstNotified p n g t = not (any threads (λ v. waitsOn p g v && n v && ahead p v t))
+  firstNotified p n g t = firstIn (line m p g) n t
 
   -- the guard of the region at which a thread waits holds
   unfoldable pub own : ℕ → Place → Bool

@@ -1,0 +1,111 @@
+-- Waiters by arrival (document 02, E4), in words: who is in the queue, what the turns are at a point, what a frame makes of
+-- them, that their order is the one in which the threads began to wait, told from the frames alone, and the count.
+-- `proofs/Arrival` shows it of the rules.
+use Prim.Native.Nat.{ℕ, suc, _<_}
+use mathlib.Core.Path.{_≡_}
+use mathlib.Core.Bool.{Bool, true, false}
+use mathlib.Core.Logic.{_↔_}
+use mathlib.Core.List.{List, [], _∷_, _++_}
+use lib.ListN.{length}
+use Rattle.machine.specs.Monitor.{Threads, Monitor, Frame, Config, turn}
+use Rattle.machine.specs.Queue.{has}
+use Rattle.machine.specs.Rules.{Notices, Waits, Waiting, Rule}
+use Rattle.machine.specs.Recheck.{SentLast00}
+
+-- no member of a list stands in it twice
+unfoldable pub Once : List ℕ → Type 0
+Once [] = Unit {0}
+Once (v ∷ vs) = (has vs v ≡ false) × Once vs
+
+-- f rises along a list
+unfoldable pub Rising : (ℕ → ℕ) → List ℕ → Type 0
+Rising f [] = Unit {0}
+Rising f (v ∷ vs) = ((u : ℕ) → has vs u ≡ true → f v < f u) × Rising f vs
+
+module _ (m : Monitor) where
+  -- exactly those who wait are in the queue, each once (R 9.37)
+  pub record Lined (p : Threads) : Type 0 where
+    pub once : Once (p .queue)
+    pub waits : (u : ℕ) → (has (p .queue) u ≡ true) ↔ Waiting m (p .place u)
+
+  -- the turns of those who wait are 0 to their count less one, each once; an idle or due thread has turn 0 (R 9.38, 9.39)
+  pub record Turns (p : Threads) : Type 0 where
+    pub below : (u : ℕ) → Waiting m (p .place u) → turn p u < length (p .queue)
+    pub each : (k : ℕ) → k < length (p .queue) → (u : ℕ) × Waiting m (p .place u) × (turn p u ≡ k)
+    pub once : (u v : ℕ) → Waiting m (p .place u) → Waiting m (p .place v) → turn p u ≡ turn p v → u ≡ v
+    pub none : (u : ℕ) → (Waiting m (p .place u) → ⊥) → turn p u ≡ 0
+
+  -- what a frame makes of them (R 9.40)
+  pub record TurnsAfter (p : Threads) (f : Frame) (p′ : Threads) : Type 0 where
+    -- an idle or due thread that gets 00 begins to wait then, and stands last
+    pub begins : f .flag ≡ false → (Waiting m (p .place (f .thread)) → ⊥) → turn p′ (f .thread) ≡ length (p .queue)
+    -- nobody else's turn changes by it, nor by a recheck, its own included, nor by a body of a thread that did not wait
+    pub others-stay :
+        (u : ℕ) → (u ≡ f .thread → ⊥) → (Waiting m (p .place (f .thread)) → f .flag ≡ false) → turn p′ u ≡ turn p u
+    pub recheck-stays :
+        f .flag ≡ false → Waiting m (p .place (f .thread)) → turn p′ (f .thread) ≡ turn p (f .thread)
+    -- where a waiter goes on, those ahead of it keep their turns and those behind close up by one
+    pub ahead-stay :
+        (u : ℕ) → f .flag ≡ true → Waiting m (p .place (f .thread)) → Waiting m (p .place u)
+        → turn p u < turn p (f .thread) → turn p′ u ≡ turn p u
+    pub behind-close :
+        (u : ℕ) → f .flag ≡ true → Waiting m (p .place (f .thread)) → Waiting m (p .place u)
+        → turn p (f .thread) < turn p u → suc (turn p′ u) ≡ turn p u
+
+-- every frame of thread u has the flag 00
+unfoldable pub Only00 : ℕ → List Frame → Type 0
+Only00 u [] = Unit {0}
+Only00 u (f ∷ fs) = (f .thread ≡ u → f .flag ≡ false) × Only00 u fs
+
+-- frame i is the one by which thread u began to wait, told from the frames: its flag is 00, u did not wait before it
+-- (`before` tells), and u has sent no 01 since (R 9.37, 11.7)
+pub record BeganBy (before : List Frame → ℕ → Type 0) (fs : List Frame) (u i : ℕ) : Type 0 where
+  pub front : List Frame
+  pub frame : Frame
+  pub later : List Frame
+  pub splits : fs ≡ front ++ (frame ∷ later)
+  pub place : length front ≡ i
+  pub sent : frame .thread ≡ u
+  pub flag : frame .flag ≡ false
+  pub new : before front u → ⊥
+  pub since : Only00 u later
+
+abbrev pub Began : List Frame → ℕ → ℕ → Type 0
+Began = BeganBy SentLast00
+
+-- behind a list of frames, each who waits has begun to by one of them, and the turns are in the order of these (R 9.38)
+pub record InOrder (m : Monitor) (fs : List Frame) (p : Threads) : Type 0 where
+  pub began : (u : ℕ) → Waiting m (p .place u) → (i : ℕ) × Began fs u i
+  pub order :
+      (u v i j : ℕ) → Waiting m (p .place u) → Waiting m (p .place v) → Began fs u i → Began fs v j
+      → (turn p u < turn p v) ↔ (i < j)
+
+-- The count
+
+module _ (m : Monitor) (notices : Notices) where
+  -- by the frame a waiter on guard g resumes; idle and due threads that run do not (R 9.41)
+  unfoldable pub Resumes : ℕ → Config → Frame → Type 0
+  Resumes g c f = Waits m (c .threads) g (f .thread) × (f .flag ≡ true)
+
+  -- the rules lead from one point to another, and on the way the threads of a list resume on guard g, in its order
+  pub data Resuming (g : ℕ) : Config → List Frame → Config → List ℕ → Type 0 where
+    no-frame : {c : Config} → Resuming g c [] c []
+    resumes :
+        {c d e : Config} {f : Frame} {fs : List Frame} {us : List ℕ} → Rule m notices c f d → Resumes g c f
+        → Resuming g d fs e us → Resuming g c (f ∷ fs) e (f .thread ∷ us)
+    goes-on :
+        {c d e : Config} {f : Frame} {fs : List Frame} {us : List ℕ} → Rule m notices c f d → (Resumes g c f → ⊥)
+        → Resuming g d fs e us → Resuming g c (f ∷ fs) e us
+
+  -- those of a list are exactly the ones ahead of t on guard g, each once, in the order of their turns (R 9.41)
+  pub record ExactlyAhead (g : ℕ) (p : Threads) (t : ℕ) (us : List ℕ) : Type 0 where
+    pub exactly : (u : ℕ) → (has us u ≡ true) ↔ (Waits m p g u × (turn p u < turn p t))
+    pub in-turn : Rising (turn p) us
+
+  -- from a point at which t waits on guard g to the frame by which it resumes, those who resume on g are exactly the ones
+  -- ahead of it there (R 9.41)
+  unfoldable pub Counts : Config → Type 0
+  Counts c =
+      (t g : ℕ) → Waits m (c .threads) g t → (fs : List Frame) (d : Config) (us : List ℕ) → Resuming g c fs d us
+      → Only00 t fs → (f : Frame) (e : Config) → Rule m notices d f e → f .thread ≡ t → f .flag ≡ true
+      → ExactlyAhead g (c .threads) t us
