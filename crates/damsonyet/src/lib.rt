@@ -26,7 +26,7 @@ ghost use Rattle.output.specs.Printed.{Prints};
 ghost use Rattle.survey.specs.Told.{OutlineTold, StateTold, NumberTold, FatesTold};
 ghost use Rattle.damsonyet.specs.Flat.{RanAs, Flattens, BothAgree};
 
-// What a run answers and its record, with each place as a byte.
+// What a run answers and its record, with each place and each turn as a byte.
 #[repr(C)]
 pub struct Ran {
     pub answer: Answer,
@@ -36,6 +36,7 @@ pub struct Ran {
     pub notified: u16,
     pub how_many: u32,
     pub of_file: bool,
+    pub turns: [u8; machine::THREADS],
 }
 
 // The results of both machines on one trace.
@@ -83,6 +84,7 @@ fn flat(running: Running) -> Ran
         notified: record.notified,
         how_many: record.how_many,
         of_file: running.of_file,
+        turns: point::turn_bytes(threads),
     }
 }
 

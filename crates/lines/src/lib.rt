@@ -1,6 +1,6 @@
 // The lines that the programs print, into a lent buffer: a refusal, and the record of a run.
-use stepper::Place;
-use stepper::Thread;
+use threads::Place;
+use threads::Thread;
 ghost use mathlib.Core.Path.{_≡_};
 ghost use mathlib.Core.List.{[], _∷_};
 ghost use Prim.Native.Nat.{_+_, _*_, _%_, _≤_};
@@ -9,7 +9,7 @@ ghost use Rattle.syntax.specs.Limits.{mostVars};
 ghost use Rattle.meaning.specs.Answer as meaning;
 ghost use Rattle.meaning.specs.Hex.{hex2};
 ghost use Rattle.meaning.specs.Lines.{hex4, refusalLine};
-ghost use Rattle.stepper.specs.Shown.{placeOf};
+ghost use Rattle.threads.specs.Held.{placeOf};
 ghost use Rattle.digits.specs.Written.{Writes};
 ghost use Rattle.lines.specs.Written.{byteOf, valuesAt, placesAt, heldLine, PutsLine};
 

@@ -7,6 +7,9 @@ pub mod Entries
 pub mod Rechecks
 pub mod Points
 pub mod Reached
+pub mod Turns
+pub mod Arrival
 pub mod Views
 pub mod Simulation
 pub mod Agreement
+pub mod Count

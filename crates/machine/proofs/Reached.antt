@@ -128,27 +128,33 @@ moved-within m {p} {p′} {t} {q} x ps h u = split-eq u t
     (λ z. subst (PlaceWithin m) (sym (x .others u z)) (ps u))
 
 module _ (m : Monitor) (ok : Checked m) (notices : Notices) where
+  pub rule-lined : {c c′ : Config} {f : Frame} → Rule m notices c f c′ → Lined m (c .threads) → Lined m (c′ .threads)
+  rule-lined (rule-1a a fl g w s p n) x = began-lined m p w x
+  rule-lined (rule-1b a fl g w k s p n) x = subst (Lined m) (sym p) x
+  rule-lined {f} (rule-2a a fl g w b) x = left-lined m (b .places) (ok .leaves (f .region)) x
+  rule-lined {f} (rule-2b a fl g w k l b) x = left-lined m (b .places) (ok .leaves (f .region)) x
+
   pub rule-reached : {c c′ : Config} {f : Frame} → Rule m notices c f c′ → Reached m c → Reached m c′
   rule-reached {c} {c′} {f} (rule-1a a fl g w s p n) x = record {
     is-kept = ap (m .kept) s ∙ x .is-kept;
     within = moved-within m p (x .within)
         (waiting-within m (f .region) (may-below m (c .threads) f (x .within (f .thread)) a));
-    lined = began-lined m p w (x .lined);
+    lined = rule-lined (rule-1a a fl g w s p n) (x .lined);
   }
   rule-reached (rule-1b a fl g w k s p n) x = record {
     is-kept = ap (m .kept) s ∙ x .is-kept;
     within = λ u. subst (λ (q : Threads). PlaceWithin m (q .place u)) (sym p) (x .within u);
-    lined = subst (Lined m) (sym p) (x .lined);
+    lined = rule-lined (rule-1b a fl g w k s p n) (x .lined);
   }
   rule-reached {c} {c′} {f} (rule-2a a fl g w b) x = record {
     is-kept = ap (m .kept) (b .state) ∙ ok .keeps (f .region) (c .state) (x .is-kept) g;
     within = moved-within m (b .places) (x .within) (follows-within m ok (f .region));
-    lined = left-lined m (b .places) (ok .leaves (f .region)) (x .lined);
+    lined = rule-lined (rule-2a a fl g w b) (x .lined);
   }
   rule-reached {c} {c′} {f} (rule-2b a fl g w k l b) x = record {
     is-kept = ap (m .kept) (b .state) ∙ ok .keeps (f .region) (c .state) (x .is-kept) g;
     within = moved-within m (b .places) (x .within) (follows-within m ok (f .region));
-    lined = left-lined m (b .places) (ok .leaves (f .region)) (x .lined);
+    lined = rule-lined (rule-2b a fl g w k l b) (x .lined);
   }
 
   pub rules-reached : {c c′ : Config} {fs : List Frame} → Rules m notices c fs c′ → Reached m c → Reached m c′

@@ -17,11 +17,15 @@ use Rattle.logic.proofs.Bools.{clash, split-eq}
 use Rattle.machine.specs.Recheck.{Absent, LastOf, Paused, Recheck, RecheckBy, RecheckFrom, SentLast00}
 
 -- nobody waits at the beginning
-pub recheck-iff : (fs : List Frame) (k : ℕ) → RecheckFrom (λ _. false) fs k ↔ Recheck fs k
+
+pub paused-idle : (fs : List Frame) (t : ℕ) → Paused (λ _. false) fs t ↔ SentLast00 fs t
 unfolding Paused
+paused-idle fs t = (⊎-elim (λ x. x) (λ x. clash (x .1) refl), inl)
+
+pub recheck-iff : (fs : List Frame) (k : ℕ) → RecheckFrom (λ _. false) fs k ↔ Recheck fs k
 recheck-iff fs k = (
-  told (Paused (λ _. false)) SentLast00 (λ l t. ⊎-elim (λ x. x) (λ x. clash (x .1) refl)),
-  told SentLast00 (Paused (λ _. false)) (λ l t. inl),
+  told (Paused (λ _. false)) SentLast00 (λ l t. paused-idle l t .0),
+  told SentLast00 (Paused (λ _. false)) (λ l t. paused-idle l t .1),
 )
   where
     told : (A B : List Frame → ℕ → Type 0) → ((l : List Frame) (t : ℕ) → A l t → B l t) → RecheckBy A fs k
@@ -55,7 +59,7 @@ recheck-now began f fs w fl = record {
   so-before = inr (tt, w);
 }
 
-paused-none : (began : ℕ → Bool) (u : ℕ) → Paused began [] u → began u ≡ true
+pub paused-none : (began : ℕ → Bool) (u : ℕ) → Paused began [] u → began u ≡ true
 unfolding Paused SentLast00
 paused-none began u (inl x) = go (x .1 .earlier) (x .1 .splits)
   where
@@ -102,7 +106,7 @@ module _ (f : Frame) (began now : ℕ → Bool) (own : now (f .thread) ≡ not (
   shorter fs u (inr x) = inr (x .0 .1, others u (λ q. x .0 .0 (sym q)) ∙ x .1)
 
 -- a list is split at a place in one way
-same-split :
+pub same-split :
     (front front′ : List Frame) (f f′ : Frame) (more more′ : List Frame)
     → front ++ (f ∷ more) ≡ front′ ++ (f′ ∷ more′) → length front′ ≡ length front → (front′ ≡ front) × (f′ ≡ f)
 same-split front front′ f f′ more more′ e n =
@@ -115,7 +119,7 @@ same-split front front′ f f′ more more′ e n =
 
 module _ (m : Monitor) (leaves : (r : ℕ) → isWaiting (m .follows r) ≡ false) (notices : Notices) where
   -- after a frame its thread waits exactly if the flag is 00
-  rule-own : {c d : Config} {f : Frame} → Rule m notices c f d → waiters d (f .thread) ≡ not (f .flag)
+  pub rule-own : {c d : Config} {f : Frame} → Rule m notices c f d → waiters d (f .thread) ≡ not (f .flag)
   unfolding isWaiting Waiting
   rule-own {c} {d} {f} (rule-1a a fl g w s p n) = ap isWaiting (p .own-place) ∙ ap not (sym fl)
   rule-own {c} {d} {f} (rule-1b a fl g w k s p n) =
@@ -124,25 +128,31 @@ module _ (m : Monitor) (leaves : (r : ℕ) → isWaiting (m .follows r) ≡ fals
   rule-own {c} {d} {f} (rule-2b a fl g w k l b) = ap isWaiting (b .places .own-place) ∙ leaves (f .region)
       ∙ ap not (sym fl)
 
-  rule-others : {c d : Config} {f : Frame} → Rule m notices c f d → (u : ℕ) → (u ≡ f .thread → ⊥)
+  pub rule-others : {c d : Config} {f : Frame} → Rule m notices c f d → (u : ℕ) → (u ≡ f .thread → ⊥)
       → waiters d u ≡ waiters c u
   rule-others (rule-1a a fl g w s p n) u q = ap isWaiting (p .others u q)
   rule-others (rule-1b a fl g w k s p n) u q = ap (λ (x : Threads). isWaiting (x .place u)) p
   rule-others (rule-2a a fl g w b) u q = ap isWaiting (b .places .others u q)
   rule-others (rule-2b a fl g w k l b) u q = ap isWaiting (b .places .others u q)
 
+  -- so who has paused is told from one frame more in front
+  pub paused-more : {c d : Config} {f : Frame} → Rule m notices c f d → (fs : List Frame) (u : ℕ)
+      → Paused (waiters d) fs u ↔ Paused (waiters c) (f ∷ fs) u
+  paused-more {c} {d} {f} r fs u = (
+    longer f (waiters c) (waiters d) (rule-own r) (rule-others r) fs u,
+    shorter f (waiters c) (waiters d) (rule-own r) (rule-others r) fs u,
+  )
+
   pub waiting-paused :
       {c d : Config} {fs : List Frame} → Rules m notices c fs d → (u : ℕ) → waiters d u ≡ true → Paused (waiters c) fs u
   unfolding Paused Absent
   waiting-paused no-more u h = inr (tt, h)
-  waiting-paused (one-more {c} {d} {c′} {f} {fs} r rs) u h =
-      longer f (waiters c) (waiters d) (rule-own r) (rule-others r) fs u (waiting-paused rs u h)
+  waiting-paused (one-more {fs} r rs) u h = paused-more r fs u .0 (waiting-paused rs u h)
 
   pub paused-waiting :
       {c d : Config} {fs : List Frame} → Rules m notices c fs d → (u : ℕ) → Paused (waiters c) fs u → waiters d u ≡ true
   paused-waiting (no-more {c}) u h = paused-none (waiters c) u h
-  paused-waiting (one-more {c} {d} {c′} {f} {fs} r rs) u h =
-      paused-waiting rs u (shorter f (waiters c) (waiters d) (rule-own r) (rule-others r) fs u h)
+  paused-waiting (one-more {fs} r rs) u h = paused-waiting rs u (paused-more r fs u .1 h)
 
   -- a recheck after one frame more
   pub recheck-later :
@@ -155,8 +165,7 @@ module _ (m : Monitor) (leaves : (r : ℕ) → isWaiting (m .follows r) ≡ fals
     splits = ap {B = List Frame} (λ x. f ∷ x) (r .splits);
     place = ap suc (r .place);
     flag = r .flag;
-    so-before = longer f (waiters c) (waiters d) (rule-own rule) (rule-others rule) (r .front) (r .frame .thread)
-        (r .so-before);
+    so-before = paused-more rule (r .front) (r .frame .thread) .0 (r .so-before);
   }
 
   -- A frame after allowed ones is a recheck exactly if its flag is 00 and its thread waits

@@ -27,7 +27,7 @@ abbrev pub at : ℕ → Threads → (ℕ → Bool) → Config
 at s p n = record { state = s; threads = p; notified = n }
 
 -- a waiting thread names its own region
-own-region :
+pub own-region :
     (m : Monitor) (p : Threads) (f : Frame) → May m p f → (w : ℕ) → p .place (f .thread) ≡ waiting w → w ≡ f .region
 unfolding MayBeAt
 own-region m p f a w z = subst (λ (q : Place). MayBeAt m q (f .region)) z (a .at-region)
@@ -39,12 +39,12 @@ waits-here m p f a h =
     let w = waiting-iff (p .place (f .thread)) .0 h in w .1 ∙ ap waiting (own-region m p f a (w .0) (w .1))
 
 -- the plain machine's frame is refused, or leads to a point again
-data PlainGoesOn (m : Monitor) : Outcome → Type 0 where
+pub data PlainGoesOn (m : Monitor) : Outcome → Type 0 where
   ends : {a : ℕ} → PlainGoesOn m (refused a)
   goes-on : {s : ℕ} {p : Threads} {n : ℕ → Bool} → PlainPoint m s p n → PlainGoesOn m (moved (at s p n))
 
 -- Both refuse alike; or the table's refuses a recheck; or both move to points that agree
-data Match (m : Monitor) (bc : ℕ → Bool) (p : Threads) (f : Frame) : Outcome → Outcome → Type 0 where
+pub data Match (m : Monitor) (bc : ℕ → Bool) (p : Threads) (f : Frame) : Outcome → Outcome → Type 0 where
   alike : {a : ℕ} → Match m bc p f (refused a) (refused a)
   lost : {o : Outcome} → isWaiting (p .place (f .thread)) ≡ true → f .flag ≡ false → Match m bc p f o (refused 14)
   both-move :
@@ -52,7 +52,7 @@ data Match (m : Monitor) (bc : ℕ → Bool) (p : Threads) (f : Frame) : Outcome
       → Match m bc p f (moved (at s q nP)) (moved (at s q nT))
 
 module _ (m : Monitor) (ok : Checked m) (s : ℕ) (p : Threads) (f : Frame) where
-  step-plain : (n : ℕ → Bool) → PlainPoint m s p n → PlainGoesOn m (step m (plainTold m) (at s p n) f)
+  pub step-plain : (n : ℕ → Bool) → PlainPoint m s p n → PlainGoesOn m (step m (plainTold m) (at s p n) f)
   unfolding step judged act allowed ran waited rechecked
   step-plain n pt = go (may m p f) (Bool·beq (f .flag) (m .holds (m .guardOf (f .region)) s)) refl refl
     where
@@ -87,7 +87,7 @@ module _ (m : Monitor) (ok : Checked m) (s : ℕ) (p : Threads) (f : Frame) wher
 
   module _ (e : ℕ → ℕ → Entry) (bc : ℕ → Bool) (placed : Placed m e bc) (nP nT : ℕ → Bool) (ag : Agree m bc s p nP nT)
     where
-      step-agree : Match m bc p f (step m (plainTold m) (at s p nP) f) (step m (tableTold m e) (at s p nT) f)
+      pub step-agree : Match m bc p f (step m (plainTold m) (at s p nP) f) (step m (tableTold m e) (at s p nT) f)
       unfolding step judged act allowed ran waited rechecked
       step-agree = go (may m p f) (Bool·beq (f .flag) (m .holds (m .guardOf (f .region)) s)) refl refl
         where

@@ -1,20 +1,20 @@
 // One point of both machines' runs as bytes in a lent buffer: what both have in common once, and each machine's notices.
-use stepper::Place;
-use stepper::Thread;
+use threads::Place;
+use threads::Thread;
 ghost use mathlib.Core.Path.{_≡_};
 ghost use mathlib.Core.List.{[], _∷_};
 ghost use Prim.Native.Nat.{ℕ, _+_, _<_, _≤_};
 ghost use lib.ListN.{length, getD};
 ghost use Rattle.syntax.specs.Limits.{mostVars};
 ghost use Rattle.meaning.specs.Decide.Table.{forEach};
-ghost use Rattle.stepper.specs.Shown.{placeOf, placesOf};
+ghost use Rattle.threads.specs.Held.{placeOf, placesOf, turnsOf};
 ghost use Rattle.digits.specs.Written.{Writes};
 ghost use Rattle.lines.specs.Written.{PutsLine};
 ghost use Rattle.point.specs.Held.{regionPart, duePart, idlePart, heldByte, heldSet, heldValue, heldPlace};
 ghost use Rattle.point.specs.Held.{heldShared, heldNotices, heldTable, heldPoint};
 
 // The bytes of a point.
-pub const POINT: usize = 33;
+pub const POINT: usize = 49;
 
 // A place as three numbers that have no bit in common, so that a byte is made of it without a branch.
 fn region_part(place: Place) -> u8
@@ -68,6 +68,20 @@ pub fn place_bytes(threads: [Thread; machine::THREADS]) -> [u8; machine::THREADS
     bytes
 }
 
+// The turns of the threads, a byte each.
+pub fn turn_bytes(threads: [Thread; machine::THREADS]) -> [u8; machine::THREADS]
+    ensures { λ r. ⌜ ((t : ℕ) → t < 16 → getD r t 0 ≡ turnsOf threads t) ⌝ }
+{
+    let mut bytes = [0u8; machine::THREADS];
+    let mut t = 0;
+    while t < machine::THREADS {
+        let thread = threads[t];
+        bytes[t] = thread.turn;
+        t += 1;
+    }
+    bytes
+}
+
 // One byte.
 fn put_byte(out: &mut [u8], at: usize, b: u8) -> usize
     requires { ⌜ at + 1 ≤ length (now out) ⌝ }
@@ -101,8 +115,8 @@ fn put_values(out: &mut [u8], at: usize, values: [u16; syntax::VARIABLES]) -> us
     to
 }
 
-// The places of the threads.
-fn put_places(out: &mut [u8], at: usize, bytes: [u8; machine::THREADS]) -> usize
+// A byte for each thread: its place, or its turn.
+fn put_each(out: &mut [u8], at: usize, bytes: [u8; machine::THREADS]) -> usize
     requires { ⌜ at + 16 ≤ length (now out) ⌝ }
     ensures { λ r. ⌜ Writes (forEach 16 0 (heldPlace bytes)) (now (out .entry)) at r (now (out .exit)) ⌝ }
 {
@@ -128,7 +142,7 @@ fn put_shared(
     ensures { λ r. ⌜ Writes (heldShared values bytes guards) (now (out .entry)) at r (now (out .exit)) ⌝ }
 {
     let one = put_values(out, at, values);
-    let two = put_places(out, one, bytes);
+    let two = put_each(out, one, bytes);
     put_set(out, two, guards)
 }
 
@@ -162,9 +176,10 @@ pub fn put_point(
     there: u8,
     table: u16,
     woken: u16,
+    turns: [u8; machine::THREADS],
 ) -> usize
-    ensures { λ r. ⌜ PutsLine (heldPoint values bytes guards plain told there table woken)
-        (at + 33 ≤ length (now (out .entry))) (now (out .entry)) at r (now (out .exit)) ⌝ }
+    ensures { λ r. ⌜ PutsLine (heldPoint values bytes guards plain told there table woken turns)
+        (at + 49 ≤ length (now (out .entry))) (now (out .entry)) at r (now (out .exit)) ⌝ }
 {
     if out.len() < POINT {
         return at;
@@ -174,5 +189,6 @@ pub fn put_point(
     }
     let one = put_shared(out, at, values, bytes, guards);
     let two = put_notices(out, one, plain, told);
-    put_table(out, two, there, table, woken)
+    let three = put_table(out, two, there, table, woken);
+    put_each(out, three, turns)
 }

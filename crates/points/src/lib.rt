@@ -37,18 +37,32 @@ fn write_point(
 ) -> usize
     ensures { λ r. ⌜ ((m : Monitor) (s : ℕ) (fs : List machine.Frame) (k : ℕ)
         → PointStands m s fs k bounds guards (now (holds .entry)) going plain table
-        → at + 33 ≤ length (now (out .entry))
-        → Writes (pointAt m s fs k) (now (out .entry)) at r (now (out .exit)) × (length (pointAt m s fs k) ≡ 33)) ⌝ }
+        → at + 49 ≤ length (now (out .entry))
+        → Writes (pointAt m s fs k) (now (out .entry)) at r (now (out .exit)) × (length (pointAt m s fs k) ≡ 49)) ⌝ }
 {
     let run = going.run;
     let lost = going.lost;
     let threads = run.threads;
+    let each = threads.each;
     let values = variables::values_of(bounds, run.state);
-    let bytes = point::place_bytes(threads);
+    let bytes = point::place_bytes(each);
+    let turns = point::turn_bytes(each);
     let holding = sets::below(holds[(run.state % machine::STATE_END) as usize], guards);
     let told = sets::minus(run.plain, plain);
     if lost.number != 0 {
-        return point::put_point(out, at, values, bytes, holding, run.plain, told, 0, 0, 0);
+        return point::put_point(
+            out,
+            at,
+            values,
+            bytes,
+            holding,
+            run.plain,
+            told,
+            0,
+            0,
+            0,
+            turns,
+        );
     }
     let woken = sets::minus(run.table, table);
     point::put_point(
@@ -62,6 +76,7 @@ fn write_point(
         1,
         run.table,
         woken,
+        turns,
     )
 }
 

@@ -6,9 +6,9 @@ use answers::Answer;
 use frames::Stop;
 use layout::Layout;
 use machine::StateNumber;
-use stepper::Place;
 use stepper::Run;
-use stepper::Thread;
+use threads::Place;
+use threads::Thread;
 use trace::Counted;
 use variables::Bounds;
 ghost use mathlib.Core.Path.{_≡_};
@@ -33,8 +33,8 @@ ghost use Rattle.answers.specs.Says.{Says};
 ghost use Rattle.run.specs.Ended.{Admits, StopsAs};
 ghost use Rattle.run.specs.Results.{Runs, Records, NoRecord, machineOf};
 
-// The record of a run: how many variables there are and each value with 128 added, the place of each of sixteen
-// threads, the notified set and how many are in it.
+// The record of a run: how many variables there are and each value with 128 added, the place and the turn of each of
+// sixteen threads, the notified set and how many are in it.
 pub struct Record {
     pub vars: usize,
     pub values: [u16; syntax::VARIABLES],
@@ -56,7 +56,10 @@ pub fn no_record() -> Record
     Record {
         vars: 0,
         values: [128u16; syntax::VARIABLES],
-        threads: [Thread { place: Place::Idle }; machine::THREADS],
+        threads: [Thread {
+            place: Place::Idle,
+            turn: 0,
+        }; machine::THREADS],
         notified: 0,
         how_many: 0,
     }
@@ -104,10 +107,11 @@ fn record_of(bounds: Bounds, run: Run, notified: u16) -> Record
         → Shows w run c → c .state < count (vars m) → Records (calls.recordOf m c) r) ⌝ }
 {
     let threads = run.threads;
+    let each = threads.each;
     Record {
         vars: bounds.count,
         values: variables::values_of(bounds, run.state),
-        threads: threads,
+        threads: each,
         notified: notified,
         how_many: sets::count(notified),
     }

@@ -1,8 +1,11 @@
 -- The machine's step in two parts, as the code takes it: the number that answers a frame, 0 where it is taken, and the
 -- point after it. `step-parts` shows that the two make the step.
-use Prim.Native.Nat.{ℕ, zero, suc}
+use Prim.Native.Nat.{ℕ, zero, suc, _<_}
 use mathlib.Core.Path.{_≡_, refl}
 use mathlib.Core.Bool.{Bool, true, false, _&&_, Bool·beq}
+use mathlib.Core.List.{List, _∷_, _++_}
+use Rattle.sets.specs.Set.{member}
+use Rattle.machine.specs.Queue.{has}
 use Rattle.machine.specs.Monitor.{Monitor, Config, Frame}
 use Rattle.machine.specs.Decide.Step.{Outcome, moved, refused, Told, may, isWaiting, firstNotified, ran, waited}
 use Rattle.machine.specs.Decide.Step.{rechecked, allowed, act, judged, step}
@@ -23,6 +26,15 @@ verdictOf m c f =
     verdict (may m (c .threads) f) (Bool·beq (f .flag) (m .holds (m .guardOf (f .region)) (c .state)))
     (isWaiting (c .threads .place (f .thread))) (f .flag) (c .notified (f .thread))
     (firstNotified m (c .threads) (c .notified) (m .guardOf (f .region)) (f .thread))
+
+-- t stands in a line, and a set has those ahead of it there
+pub record AheadOf (line : List ℕ) (t set : ℕ) : Type 0 where
+  pub ahead : List ℕ
+  pub behind : List ℕ
+  pub splits : line ≡ ahead ++ (t ∷ behind)
+  pub others : has ahead t ≡ false
+  pub below : (u : ℕ) → has ahead u ≡ true → u < 16
+  pub each : (u : ℕ) → u < 16 → member set u ≡ has ahead u
 
 -- the point after a frame that is taken: by the flag, and does the thread wait
 unfoldable pub nextBy : Monitor → Told → Config → Frame → Bool → Bool → Config

@@ -3,34 +3,15 @@
 use Prim.Native.Nat.{ℕ, _<_}
 use mathlib.Core.Path.{_≡_}
 use mathlib.Core.Bool.{Bool, true, false}
-use mathlib.Core.List.{List}
-use lib.ListN.{getD}
 use Rattle.sets.specs.Set.{member}
-use Rattle.machine.specs.Monitor.{Threads, SameThreads, Monitor, Config}
+use Rattle.machine.specs.Monitor.{SameThreads, Monitor, Config}
 use Rattle.machine.specs.Decide.Step.{Outcome, moved, refused, step, plainTold, Told}
 use Rattle.machine.specs.Monitor as machine
 use Rattle.machine.specs.Decide.Table.{entryOf, tableTold}
-use Rattle.stepper.specs.declared.Place.{Place}
-use Rattle.stepper.specs.declared.Place.the-variants.{Idle, Waiting, Due}
-use Rattle.stepper.specs.declared.Thread.{Thread}
+use Rattle.threads.specs.Held.{threadsOf, Turned}
 use Rattle.stepper.specs.declared.Run.{Run}
 use Rattle.stepper.specs.declared.Frame.{Frame}
 use Rattle.stepper.specs.declared.Outcome as code
-
-unfoldable pub placeOf : Place → machine.Place
-placeOf Idle = machine.idle
-placeOf (Waiting r) = machine.waiting r
-placeOf (Due r) = machine.due r
-
-unfoldable pub idleThread : Thread
-idleThread = record { place = Idle }
-
--- what a list of threads holds: the place of each, and with it what is known of all threads
-unfoldable pub placesOf : List Thread → ℕ → machine.Place
-placesOf ts u = placeOf (getD ts u idleThread .place)
-
-abbrev pub threadsOf : List Thread → Threads
-threadsOf ts = record { place = placesOf ts }
 
 -- of two things the plain machine's, or the table's where the choice is true
 unfoldable pub ofMachine : {A : Type 0} → Bool → A → A → A
@@ -41,10 +22,11 @@ ofMachine true plain table = table
 abbrev pub noticesIn : Bool → Run → ℕ
 noticesIn w r = ofMachine w (r .plain) (r .table)
 
--- the state, what is known of each of sixteen threads, and who is notified on the machine
+-- the state, what is known of each of sixteen threads, their turns, and who is notified on the machine
 pub record Shows (w : Bool) (r : Run) (c : Config) : Type 0 where
   pub state : r .state ≡ c .state
   pub threads : SameThreads (threadsOf (r .threads)) (c .threads)
+  pub turns : Turned (r .threads)
   pub notices : (t : ℕ) → t < 16 → member (noticesIn w r) t ≡ c .notified t
 
 unfoldable pub frameOf : Frame → machine.Frame

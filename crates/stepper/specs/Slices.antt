@@ -13,7 +13,8 @@ use Rattle.machine.specs.Algorithm1.{Entry, none, entry}
 use Rattle.machine.specs.Decide.Table.{acts, tableTold}
 use Rattle.machine.specs.Held.{followsBy}
 use Rattle.stepper.specs.declared.Run.{Run}
-use Rattle.stepper.specs.Shown.{threadsOf, noticesIn}
+use Rattle.threads.specs.Held.{threadsOf}
+use Rattle.stepper.specs.Shown.{noticesIn}
 
 unfoldable pub guardAt : List ℕ → ℕ → ℕ
 guardAt gs r = getD gs (r % mostRegions) 0 % mostRegions

@@ -2,40 +2,34 @@
 // refusal's number. What both have in common is held and judged once. Each promise cites the step of `machine`, for every
 // monitor that the lent slices hold, and for either machine.
 use machine::StateNumber;
+use threads::Place;
+use threads::Thread;
+use threads::Threads;
 ghost use mathlib.Core.Path.{_≡_};
 ghost use mathlib.Core.Bool.{Bool, true, false, not, _&&_, _||_};
 ghost use mathlib.Core.List.{List, []};
 ghost use Prim.Native.Nat.{ℕ, _<_};
 ghost use lib.Dec.{eqb};
 ghost use Rattle.sets.specs.Set.{member};
-ghost use Rattle.machine.specs.Monitor.{SameThreads, Threads, Monitor, Config, allIdle};
+ghost use Rattle.machine.specs.Monitor.{Monitor, Config, allIdle, onGuard, waitsOn};
+ghost use Rattle.machine.specs.Queue.{has, those};
+ghost use Rattle.machine.specs.Arrival.{Lined};
 ghost use Rattle.logic.specs.Tests.{any};
-ghost use Rattle.machine.specs.Decide.Step.{Told, isDue, isWaiting, mayBeAt, onGuard, waitsOn, firstNotified};
-ghost use Rattle.machine.specs.Decide.Step.{put as putAt, beginWait, leave as leaveTo, ran as ranTo};
+ghost use Rattle.machine.specs.Decide.Step.{Told, isDue, isWaiting, mayBeAt, firstIn, ran as ranTo};
 ghost use Rattle.machine.specs.Decide.Table.{acts as actsOf};
 ghost use Rattle.machine.specs.Held.{Held, HeldPlaces, HeldEntries};
 ghost use Rattle.machine.proofs.Reached.{Reached};
-ghost use Rattle.stepper.specs.Shown.{ofMachine, Shows, Steps, Stays, stepBy, placeOf, placesOf, threadsOf, frameOf};
+ghost use Rattle.queue.specs.Packed.{queueOf};
+ghost use Rattle.threads.specs.Held.{placeOf, placesOf, threadsOf, Turned};
+ghost use Rattle.stepper.specs.Shown.{ofMachine, Shows, Steps, Stays, stepBy, frameOf};
 ghost use Rattle.stepper.specs.Slices.{guardAt, holdsAt, followsAt, entryBy, slices, guardsOnly};
 ghost use Rattle.stepper.specs.Slices.{toldAt, ownIn, toldBehind, configOf};
-ghost use Rattle.stepper.specs.Parts.{verdict, verdictOf, nextBy};
+ghost use Rattle.stepper.specs.Parts.{verdict, verdictOf, nextBy, AheadOf};
 
-// Where a thread is: idle, waiting at a region, or due at a region.
-pub enum Place {
-    Idle,
-    Waiting(u8),
-    Due(u8),
-}
-
-pub struct Thread {
-    pub place: Place,
-}
-
-// The record of both machines' runs: the state's number, the place of each of sixteen threads, and each machine's
-// notified set.
+// The record of both machines' runs: the state's number, all threads, and each machine's notified set.
 pub struct Run {
     pub state: StateNumber,
-    pub threads: [Thread; machine::THREADS],
+    pub threads: Threads,
     pub plain: u16,
     pub table: u16,
 }
@@ -78,7 +72,7 @@ pub fn start(state: StateNumber) -> Run
 {
     Run {
         state: state,
-        threads: [Thread { place: Place::Idle }; machine::THREADS],
+        threads: threads::all_idle(),
         plain: 0,
         table: 0,
     }
@@ -97,36 +91,16 @@ fn holds_at(holds: &[u16; machine::STATES], guard: u8, state: StateNumber) -> bo
     sets::has(holds[(state % machine::STATE_END) as usize], guard as u32)
 }
 
-fn is_due(place: Place) -> bool
-    ensures { λ r. ⌜ r ≡ isDue (placeOf place) ⌝ }
-{
-    match place {
-        Place::Idle => false,
-        Place::Waiting(_) => false,
-        Place::Due(_) => true,
-    }
-}
-
-fn is_waiting(place: Place) -> bool
-    ensures { λ r. ⌜ r ≡ isWaiting (placeOf place) ⌝ }
-{
-    match place {
-        Place::Idle => false,
-        Place::Waiting(_) => true,
-        Place::Due(_) => false,
-    }
-}
-
 // Whether another thread than t is due.
-fn other_due(threads: [Thread; machine::THREADS], t: usize) -> bool
-    ensures { λ r. ⌜ r ≡ any 16 (λ u. not (eqb u t) && isDue (placesOf threads u)) ⌝ }
+fn other_due(each: [Thread; machine::THREADS], t: usize) -> bool
+    ensures { λ r. ⌜ r ≡ any 16 (λ u. not (eqb u t) && isDue (placesOf each u)) ⌝ }
 {
     let mut found = false;
     let mut u: usize = 0;
     while u < machine::THREADS {
-        let thread = threads[u];
+        let thread = each[u];
         let place = thread.place;
-        found = (u != t) & is_due(place) | found;
+        found = (u != t) & threads::is_due(place) | found;
         u += 1;
     }
     found
@@ -155,20 +129,25 @@ fn waits_on(place: Place, guard_of: &[u8; machine::REGIONS], guard: u8) -> bool
     }
 }
 
-// The waiters on a guard, as a set.
-fn waiters(threads: [Thread; machine::THREADS], guard_of: &[u8; machine::REGIONS], guard: u8) -> u16
+// Those of the first so many in the queue who wait on a guard, as a set.
+fn line_ahead(threads: Threads, turn: u8, guard_of: &[u8; machine::REGIONS], guard: u8) -> u16
     ensures { λ r. ⌜ ((u : ℕ) → u < 16 → member r u
-        ≡ waitsOn (guardsOnly (now («guard_of» .entry))) (threadsOf threads) guard u) ⌝ }
+        ≡ has (those (waitsOn (guardsOnly (now («guard_of» .entry))) (threadsOf threads) guard)
+        (queueOf (threads .order) turn)) u) ⌝ }
 {
+    let each = threads.each;
     let mut set: u16 = 0;
-    let mut u: usize = 0;
-    while u < machine::THREADS {
-        let thread = threads[u];
+    let mut rest = threads.order;
+    let mut k: u8 = 0;
+    while k < turn {
+        let u = queue::first(rest);
+        let thread = each[u as usize];
         let place = thread.place;
         if waits_on(place, guard_of, guard) {
             set = sets::with(set, u as u32);
         }
-        u += 1;
+        rest = rest / 16;
+        k += 1;
     }
     set
 }
@@ -183,16 +162,16 @@ fn rechecks(notified: u16, t: u8) -> u8
     NOT_ALLOWED
 }
 
-// What answers a waiting thread t whose flag is 01: it must have a notice, and none of those in its guard's line that have
-// one may stand ahead of it.
-fn resumes(notified: u16, line: u16, t: u8) -> u8
-    ensures { λ r. ⌜ ((m : Monitor) (p : Threads) (g : ℕ) → t < 16 → ((v : ℕ) → v < 16 → member line v ≡ waitsOn m p g v)
-        → r ≡ verdict true true true true (member notified t) (firstNotified m p (member notified) g t)) ⌝ }
+// What answers a waiting thread t whose flag is 01: it must have a notice, and none of those ahead of it in its guard's line
+// may have one.
+fn resumes(notified: u16, ahead: u16, t: u8) -> u8
+    ensures { λ r. ⌜ ((line : List ℕ) → AheadOf line t ahead
+        → r ≡ verdict true true true true (member notified t) (firstIn line (member notified) t)) ⌝ }
 {
     if !sets::has(notified, t as u32) {
         return NOT_ALLOWED;
     }
-    if t as u32 <= sets::lowest(sets::both(line, notified)) {
+    if sets::lowest(sets::both(ahead, notified)) == machine::THREAD_END as u32 {
         return ACCEPTED;
     }
     NOT_ALLOWED
@@ -268,64 +247,45 @@ fn met_with(met: u16, place: Place, guard_of: &[u8; machine::REGIONS]) -> u16
 }
 
 // Whom a body notifies: on the plain machine every waiter whose guard holds, on the table's those whom the entries of the
-// region do; the first waiter on each guard is the first that is met. `one` is the set of thread u alone.
+// region do; the first waiter on each guard is the first that is met in the queue.
 fn told(
-    threads: [Thread; machine::THREADS],
+    threads: Threads,
     guard_of: &[u8; machine::REGIONS],
     holds: &[u16; machine::STATES],
     state: StateNumber,
     entries: &[u8; machine::ENTRIES],
     region: u8,
 ) -> Notices
-    ensures { λ r. ⌜ ((w : Bool) (u : ℕ) → u < 16 → member (ofMachine w (r .plain) (r .table)) u
+    ensures { λ r. ⌜ ((m : Monitor) → Lined m (threadsOf threads) → (w : Bool) (u : ℕ) → u < 16
+        → member (ofMachine w (r .plain) (r .table)) u
         ≡ toldAt (now (holds .entry)) (now («guard_of» .entry)) (now (entries .entry)) w state (threadsOf threads) region u) ⌝ }
 {
     let truth = holds[(state % machine::STATE_END) as usize];
+    let each = threads.each;
+    let waiting = threads.waiting;
     let mut plain: u16 = 0;
     let mut table: u16 = 0;
     let mut met: u16 = 0;
-    let mut one: u16 = 1;
-    let mut u: usize = 0;
-    while u < machine::THREADS {
-        let thread = threads[u];
+    let mut rest = threads.order;
+    let mut k: u8 = 0;
+    while k < waiting {
+        let u = queue::first(rest);
+        let thread = each[u as usize];
         let place = thread.place;
         if own_holds(place, guard_of, truth) {
-            plain = sets::union(plain, one);
+            plain = sets::with(plain, u as u32);
         }
         if entry_acts(place, guard_of, truth, entries, region, met) {
-            table = sets::union(table, one);
+            table = sets::with(table, u as u32);
         }
         met = met_with(met, place, guard_of);
-        one = one % 32768 * 2;
-        u += 1;
+        rest = rest / 16;
+        k += 1;
     }
     Notices {
         plain: plain,
         table: table,
     }
-}
-
-// The places with that of thread t replaced.
-fn put(threads: [Thread; machine::THREADS], t: usize, place: Place) -> [Thread; machine::THREADS]
-    requires { ⌜ t < 16 ⌝ }
-    ensures { λ r. ⌜ ((u : ℕ) → u < 16 → placesOf r u ≡ putAt (placesOf threads) t (placeOf place) u) ⌝ }
-{
-    let mut next = threads;
-    next[t] = Thread { place: place };
-    next
-}
-
-// Thread t begins to wait at a region; thread t goes on from a body, to a place. All that changes threads.
-fn begin_wait(threads: [Thread; 16], t: usize, region: u8) -> [Thread; 16]
-    ensures { λ r. ⌜ (t < 16 → SameThreads (threadsOf r) (beginWait (threadsOf threads) t region)) ⌝ }
-{
-    put(threads, t % 16, Place::Waiting(region))
-}
-
-fn leave(threads: [Thread; 16], t: usize, place: Place) -> [Thread; 16]
-    ensures { λ r. ⌜ (t < 16 → SameThreads (threadsOf r) (leaveTo (threadsOf threads) t (placeOf place))) ⌝ }
-{
-    put(threads, t % 16, place)
 }
 
 // Where a thread is after a region's body.
@@ -350,17 +310,19 @@ fn judge(
     regions: usize,
 ) -> Numbers
     requires { ⌜ frame .thread < 16 ⌝ }
-    ensures { λ r. ⌜ ((w : Bool) → ofMachine w (r .plain) (r .table)
+    ensures { λ r. ⌜ ((m : Monitor) → Lined m (threadsOf (run .threads)) → Turned (run .threads)
+        → (w : Bool) → ofMachine w (r .plain) (r .table)
         ≡ verdictOf (slices (now (holds .entry)) [] (now («guard_of» .entry)) (now (begins .entry)) [] regions)
         (configOf w run) (frameOf frame)) ⌝ }
 {
     let t = frame.thread;
     let region = frame.region;
     let threads = run.threads;
-    if other_due(threads, t as usize) {
+    let each = threads.each;
+    if other_due(each, t as usize) {
         return alike(MISPLACED);
     }
-    let thread = threads[t as usize];
+    let thread = each[t as usize];
     let place = thread.place;
     if !may_be_at(place, region, begins, regions) {
         return alike(MISPLACED);
@@ -371,14 +333,14 @@ fn judge(
     if flag != holding {
         return alike(NOT_ALLOWED);
     }
-    if !is_waiting(place) {
+    if !threads::is_waiting(place) {
         return alike(ACCEPTED);
     }
     if flag {
-        let line = waiters(threads, guard_of, guard);
+        let ahead = line_ahead(threads, thread.turn, guard_of, guard);
         return Numbers {
-            plain: resumes(run.plain, line, t),
-            table: resumes(run.table, line, t),
+            plain: resumes(run.plain, ahead, t),
+            table: resumes(run.table, ahead, t),
         };
     }
     Numbers {
@@ -408,7 +370,8 @@ fn ran(
     entries: &[u8; machine::ENTRIES],
 ) -> Run
     requires { ⌜ frame .thread < 16 ⌝ }
-    ensures { λ r. ⌜ ((w : Bool) → Shows w r
+    ensures { λ r. ⌜ ((m : Monitor) → Lined m (threadsOf (run .threads)) → Turned (run .threads)
+        → (w : Bool) → Shows w r
         (ranTo (slices (now (holds .entry)) (now (after .entry)) (now («guard_of» .entry)) [] (now («goes_on» .entry))
         0)
         (toldAt (now (holds .entry)) (now («guard_of» .entry)) (now (entries .entry)) w) (configOf w run)
@@ -417,13 +380,13 @@ fn ran(
     let t = frame.thread;
     let region = frame.region;
     let threads = run.threads;
-    let places = leave(threads, t as usize, behind(region, goes_on));
+    let after_body = threads::leave(threads, t, behind(region, goes_on));
     let to = after[(region % machine::REGION_END) as usize * machine::STATES
         + (run.state % machine::STATE_END) as usize];
-    let more = told(places, guard_of, holds, to, entries, region);
+    let more = told(after_body, guard_of, holds, to, entries, region);
     Run {
         state: to,
-        threads: places,
+        threads: after_body,
         plain: sets::union(sets::without(run.plain, t as u32), more.plain),
         table: sets::union(sets::without(run.table, t as u32), more.table),
     }
@@ -432,15 +395,17 @@ fn ran(
 // The record after a frame with 00 that is taken: a recheck, or a thread that begins to wait. No monitor is asked.
 fn paused(run: Run, frame: Frame) -> Run
     requires { ⌜ frame .thread < 16 ⌝ }
-    ensures { λ r. ⌜ ((w : Bool) (m : Monitor) (told : Told) → Shows w r
-        (nextBy m told (configOf w run) (frameOf frame) false (isWaiting (placesOf (run .threads) (frame .thread))))) ⌝ }
+    ensures { λ r. ⌜ ((m : Monitor) → Lined m (threadsOf (run .threads)) → Turned (run .threads)
+        → (w : Bool) (m : Monitor) (told : Told) → Shows w r
+        (nextBy m told (configOf w run) (frameOf frame) false (isWaiting (placesOf (run .threads .each) (frame .thread))))) ⌝ }
 {
     let t = frame.thread;
     let state = run.state;
     let threads = run.threads;
-    let thread = threads[t as usize];
+    let each = threads.each;
+    let thread = each[t as usize];
     let place = thread.place;
-    if is_waiting(place) {
+    if threads::is_waiting(place) {
         return Run {
             state: state,
             threads: threads,
@@ -448,10 +413,10 @@ fn paused(run: Run, frame: Frame) -> Run
             table: sets::without(run.table, t as u32),
         };
     }
-    let places = begin_wait(threads, t as usize, frame.region);
+    let waiting = threads::begin_wait(threads, t, frame.region);
     Run {
         state: state,
-        threads: places,
+        threads: waiting,
         plain: run.plain,
         table: run.table,
     }

@@ -1,9 +1,9 @@
--- `stepper::put` meets its contract: a list with one element replaced.
+-- `threads::put` meets its contract: a list with one element replaced.
 use borrow.Author.Needs.{needs}
 use native.Mathlib.Omega.{arith}
-use Rattle.stepper.proofs.Loops.{places-set}
-use Rattle.stepper.proofs.put.Statement.{statement}
-use Rattle.stepper.proofs.put.Tie as tie
+use Rattle.threads.proofs.Replaced.{puts-set}
+use Rattle.threads.proofs.put.Statement.{statement}
+use Rattle.threads.proofs.put.Tie as tie
 
 mul-next : tie.Need-mul-next
 mul-next c = search needs
@@ -12,7 +12,7 @@ array-set-from-next : tie.Need-array-set-from-next
 array-set-from-next c = search needs
 
 returns : tie.Need-returns
-returns c = λ u h. places-set (c .args .threads) (c .args .t) (c .args .place) (omega arith) u
+returns c = puts-set _ _ _ _ (omega arith)
 
 pub put-spec : {M : Type 1} → statement M
 put-spec = tie.close (tie.spec mul-next array-set-from-next returns)

@@ -1,11 +1,11 @@
--- `stepper::is_due` meets its contract: at each variant the test computes.
+-- `threads::is_due` meets its contract: at each variant the test computes.
 use borrow.Author.Needs.{needs}
 use mathlib.Core.Path.{sym, ap}
 use Rattle.machine.specs.Decide.Step.{isDue}
-use Rattle.stepper.specs.Shown.{placeOf}
-use Rattle.stepper.specs.declared.Place.{Place}
-use Rattle.stepper.proofs.is_due.Statement.{statement}
-use Rattle.stepper.proofs.is_due.Tie as tie
+use Rattle.threads.specs.Held.{placeOf}
+use Rattle.threads.specs.declared.Place.{Place}
+use Rattle.threads.proofs.is_due.Statement.{statement}
+use Rattle.threads.proofs.is_due.Tie as tie
 
 returns : tie.Need-returns
 unfolding isDue placeOf
