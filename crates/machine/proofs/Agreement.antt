@@ -29,7 +29,7 @@ agree-point {m} {bc} {s} {p} {nP} {nT} ag = record {
   same-threads = refl;
   is-kept = ag .plain .is-kept;
   all-notified = λ g u h w. ag .plain .all g u w h;
-  next-notified = λ g u h f. ag .first g u h f;
+  next-notified = λ g u h f. ag .table .first g u h f;
 }
 
 result-answer :

@@ -261,7 +261,7 @@ module _ (m : Monitor) (ok : Checked m) where
         from (both-move {nP} ag) = (nP, ag)
 
     table-tells : (c : Config) → TableAt c → FrontTold m c
-    table-tells c x = x .1 .first
+    table-tells c x = x .1 .table .first
 
     pub table-counts :
         (c : Config) → Lined m (c .threads) → (nP : ℕ → Bool) → Agree m bc (c .state) (c .threads) nP (c .notified)

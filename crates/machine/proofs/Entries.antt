@@ -114,7 +114,7 @@ module _ (m : Monitor) where
     unfolding Triple Holds Fails
     own-none r = entry-none r (m .guardOf r) .1 (λ s x k. clash (x .guard) k)
 
-    entry-parts : (r g : ℕ) (a b : Bool) → entryOf m r g ≡ entry a b → (a ≡ unconditional m r g) × (b ≡ broadcast m g)
+    pub entry-parts : (r g : ℕ) (a b : Bool) → entryOf m r g ≡ entry a b → (a ≡ unconditional m r g) × (b ≡ broadcast m g)
     entry-parts r g a b e = let k = entry-where r g (stands-where r g a b e) in (cc, cc)
 
     pub entry-unconditional : (r g : ℕ) (a b : Bool) → entryOf m r g ≡ entry a b

@@ -3,26 +3,27 @@
 use Prim.Native.Nat.{ℕ}
 use mathlib.Core.Path.{_≡_, refl, sym, ap, subst, _∙_}
 use mathlib.Core.Bool.{Bool, true, false, not, _&&_, _||_, and-false, false≢true}
-use mathlib.Core.Logic.{_⊎_, inl, inr, ⊎-elim}
+use mathlib.Core.Logic.{_⊎_, inl, inr, ⊎-elim, _↔_, Iff·rfl}
 use mathlib.Core.List.{List, [], _∷_}
 use lib.Dec.{eqb, ltb}
-use borrow.Author.Tests.{ltb-true, ltb-false, eqb-true, eq-eqb}
-use Rattle.machine.specs.Monitor.{Threads, idleThreads, waiting, Monitor, waitsOn, line}
+use borrow.Author.Tests.{ltb-true, ltb-false, eqb-true}
+use Rattle.machine.specs.Monitor.{Place, Threads, idleThreads, idle, waiting, due, Monitor, Config, line}
 use Rattle.machine.specs.Decide.Step.{without, isWaiting, beginWait, leave, atFront, firstIn, next, firstNotified}
 use Rattle.machine.specs.Decide.Step.{plainTold}
 use Rattle.machine.specs.Algorithm1.{Entry, entry}
 use Rattle.machine.specs.Decide.Table.{tableTold, unconditional, broadcast, entryOf}
 use Rattle.machine.specs.Rules.{Waits, Front, PlainNoticesBy, TableNoticesBy}
-use Rattle.logic.proofs.Bools.{split, clash, split-eq, is-false, either, or-left, or-right}
+use Rattle.logic.proofs.Bools.{split, clash, split-eq, is-false, either, or-left, or-right, not-true, true-not, different}
+use Rattle.logic.proofs.Bools.{tests-equal, decides-and, decides-or}
 use Rattle.machine.proofs.Places.{without-iff}
-use Rattle.machine.proofs.Order.{began-own, began-other, left-own, left-other, waits-iff, front-waits}
+use Rattle.machine.proofs.Order.{began-own, began-other, left-own, left-other, waits-iff, front-waits, next-iff}
 use Rattle.machine.proofs.Order.{began-line, left-line-other}
 use Rattle.machine.proofs.Tests.{plain-notices, table-notices}
 use Rattle.machine.specs.Algorithm1.{Holds, Fails, Triple, Signals}
-use Rattle.machine.proofs.Entries.{entry-where, entry-unconditional, signal-iff}
+use Rattle.machine.proofs.Entries.{entry-where, entry-parts, entry-unconditional, signal-iff, own-none}
 use Rattle.machine.specs.Agreement.{Checked}
 
--- What placing guarantees of a table whose entries on guard g are broadcasts where `bc g`
+-- What placing guarantees of a table whose entries on guard g are broadcasts where `bc g`, and none is on a region's own
 pub record Placed (m : Monitor) (e : ℕ → ℕ → Entry) (bc : ℕ → Bool) : Type 0 where
   pub stands :
       (r g s : ℕ) → m .kept s ≡ true → m .holds (m .guardOf r) s ≡ true → m .holds g s ≡ false
@@ -33,6 +34,8 @@ pub record Placed (m : Monitor) (e : ℕ → ℕ → Entry) (bc : ℕ → Bool) 
   pub once :
       (w s : ℕ) → bc (m .guardOf w) ≡ false → m .kept s ≡ true → m .holds (m .guardOf w) s ≡ true
       → m .holds (m .guardOf w) (m .after w s) ≡ false
+  pub kind : (r g : ℕ) (a b : Bool) → e r g ≡ entry a b → b ≡ bc g
+  pub other : (r : ℕ) (a b : Bool) → e r (m .guardOf r) ≡ entry a b → ⊥
 
 -- the table of Algorithm 1 is so placed
 pub entries-placed : (m : Monitor) → Checked m → Placed m (entryOf m) (broadcast m)
@@ -54,6 +57,8 @@ entries-placed m ok = record {
       (λ q. signal-iff m (ok .below) (m .guardOf w) .0 b w (ltb-true w (m .regions) q) refl s
       (record { is-kept = k; guard = h }) h)
       (λ q. clash h (ok .outside w s (ltb-false w (m .regions) q)));
+  kind = λ r g a b e. entry-parts m (ok .below) r g a b e .1;
+  other = λ r a b e. different (let n = own-none m (ok .below) r in cc);
 }
 
 -- Points
@@ -64,12 +69,22 @@ pub record PlainPoint (m : Monitor) (s : ℕ) (p : Threads) (n : ℕ → Bool) :
   pub waits : (u : ℕ) → n u ≡ true → isWaiting (p .place u) ≡ true
   pub all : (g u : ℕ) → Waits m p g u → m .holds g s ≡ true → n u ≡ true
 
--- what holds between the two machines' notices at a common state and common places
+-- of the table's: on a guard that holds the one next in line has a notice, and all where its entries are broadcasts
+pub record TablePoint (m : Monitor) (bc : ℕ → Bool) (s : ℕ) (p : Threads) (n : ℕ → Bool) : Type 0 where
+  pub is-kept : m .kept s ≡ true
+  pub first : (g u : ℕ) → m .holds g s ≡ true → Front (line m p g) u → n u ≡ true
+  pub every : (g u : ℕ) → Waits m p g u → m .holds g s ≡ true → bc g ≡ true → n u ≡ true
+
+-- either machine's, the table's where the choice is true
+unfoldable pub ToldAt : Monitor → Bool → Config → Type 0
+ToldAt m true c = TablePoint m (broadcast m) (c .state) (c .threads) (c .notified)
+ToldAt m false c = PlainPoint m (c .state) (c .threads) (c .notified)
+
+-- and between the two machines' notices at a common state and common places
 pub record Agree (m : Monitor) (bc : ℕ → Bool) (s : ℕ) (p : Threads) (nP nT : ℕ → Bool) : Type 0 where
   pub plain : PlainPoint m s p nP
   pub within : (u : ℕ) → nT u ≡ true → nP u ≡ true
-  pub first : (g u : ℕ) → m .holds g s ≡ true → Front (line m p g) u → nT u ≡ true
-  pub every : (g u : ℕ) → Waits m p g u → m .holds g s ≡ true → bc g ≡ true → nT u ≡ true
+  pub table : TablePoint m bc s p nT
 
 pub idle-plain : (m : Monitor) (s : ℕ) → m .kept s ≡ true → PlainPoint m s idleThreads (λ _. false)
 unfolding Waits isWaiting
@@ -86,8 +101,11 @@ unfolding Waits isWaiting
 idle-agree m bc s k = record {
   plain = idle-plain m s k;
   within = λ u h. h;
-  first = λ g u h f. let w = front-waits m idleThreads g u f in ap isWaiting (w .1);
-  every = λ g u w h b. ap isWaiting (w .1);
+  table = record {
+    is-kept = k;
+    first = λ g u h f. let w = front-waits m idleThreads g u f in ap isWaiting (w .1);
+    every = λ g u w h b. ap isWaiting (w .1);
+  };
 }
 
 -- Waiting, before and after
@@ -116,6 +134,66 @@ pub resumes :
     → n t && firstNotified m p n g t ≡ next m p g t
 unfolding firstNotified next
 resumes m p n g t told = resumes-in (line m p g) n t told
+
+-- Whom a body tells anew: who waits on a guard that it makes true, by the plain machine, and by the table's the first of
+-- them, or all
+
+abbrev pub becomes : Monitor → ℕ → ℕ → ℕ → Bool
+becomes m s s′ g = m .holds g s′ && not (m .holds g s)
+
+becomes-iff : (m : Monitor) (s s′ g : ℕ) → (becomes m s s′ g ≡ true) ↔ ((m .holds g s′ ≡ true) × (m .holds g s ≡ false))
+becomes-iff m s s′ g = decides-and (m .holds g s′) (not (m .holds g s)) Iff·rfl (not-true, true-not)
+
+unfoldable pub newlyOn : Monitor → ℕ → ℕ → Place → Bool
+newlyOn m s s′ idle = false
+newlyOn m s s′ (waiting w) = becomes m s s′ (m .guardOf w)
+newlyOn m s s′ (due w) = false
+
+unfoldable pub newlyBy : Monitor → (ℕ → Bool) → ℕ → ℕ → Threads → ℕ → Place → Bool
+newlyBy m bc s s′ p u idle = false
+newlyBy m bc s s′ p u (waiting w) = becomes m s s′ (m .guardOf w) && (bc (m .guardOf w) || next m p (m .guardOf w) u)
+newlyBy m bc s s′ p u (due w) = false
+
+newly-iff : (m : Monitor) (s s′ : ℕ) (p : Threads) (u : ℕ)
+    → (newlyOn m s s′ (p .place u) ≡ true)
+    ↔ ((g : ℕ) × Waits m p g u × (m .holds g s′ ≡ true) × (m .holds g s ≡ false))
+unfolding newlyOn Waits
+newly-iff m s s′ p u = (
+  to (p .place u) refl,
+  λ x. ap (newlyOn m s s′) (x .1 .1) ∙ ap (becomes m s s′) (x .1 .2) ∙ becomes-iff m s s′ (x .0) .1 (x .2, x .3),
+)
+  where
+    to : (q : Place) → p .place u ≡ q → newlyOn m s s′ q ≡ true
+        → (g : ℕ) × Waits m p g u × (m .holds g s′ ≡ true) × (m .holds g s ≡ false)
+    to idle z h = absurd (false≢true h)
+    to (waiting w) z h = let b = becomes-iff m s s′ (m .guardOf w) .0 h in (m .guardOf w, (w, z, refl), b .0, b .1)
+    to (due w) z h = absurd (false≢true h)
+
+newly-by-iff : (m : Monitor) (bc : ℕ → Bool) (s s′ : ℕ) (p : Threads) (u : ℕ)
+    → (newlyBy m bc s s′ p u (p .place u) ≡ true)
+    ↔ ((g : ℕ) × Waits m p g u × (m .holds g s′ ≡ true) × (m .holds g s ≡ false)
+    × ((bc g ≡ true) ⊎ Front (line m p g) u))
+unfolding newlyBy Waits
+newly-by-iff m bc s s′ p u = (
+  to (p .place u) refl,
+  λ x. ap (newlyBy m bc s s′ p u) (x .1 .1) ∙ ap (test) (x .1 .2) ∙ test-iff (x .0) .1 ((x .2, x .3), x .4),
+)
+  where
+    test : ℕ → Bool
+    test g = becomes m s s′ g && (bc g || next m p g u)
+
+    test-iff : (g : ℕ) → (test g ≡ true)
+        ↔ (((m .holds g s′ ≡ true) × (m .holds g s ≡ false)) × ((bc g ≡ true) ⊎ Front (line m p g) u))
+    test-iff g = decides-and (becomes m s s′ g) (bc g || next m p g u) (becomes-iff m s s′ g)
+        (decides-or (bc g) (next m p g u) Iff·rfl (next-iff m p g u))
+
+    to : (q : Place) → p .place u ≡ q → newlyBy m bc s s′ p u q ≡ true
+        → (g : ℕ) × Waits m p g u × (m .holds g s′ ≡ true) × (m .holds g s ≡ false)
+        × ((bc g ≡ true) ⊎ Front (line m p g) u)
+    to idle z h = absurd (false≢true h)
+    to (waiting w) z h =
+        let b = test-iff (m .guardOf w) .0 h in (m .guardOf w, (w, z, refl), b .0 .0, b .0 .1, b .1)
+    to (due w) z h = absurd (false≢true h)
 
 -- A body of region r ran, by thread t: it is no waiter any more, and the others keep their places
 
@@ -155,6 +233,97 @@ module _ (m : Monitor) (ok : Checked m) (s : ℕ) (p : Threads) (t r : ℕ) (gua
     all = ran-all n;
   }
 
+  -- the plain machine has told all others before
+  pub newly-plain : (n : ℕ → Bool) → PlainPoint m s p n → (u : ℕ)
+      → without n t u || plainTold m s′ p′ r u ≡ without n t u || newlyOn m s s′ (p′ .place u)
+  unfolding PlainNoticesBy
+  newly-plain n pt u = tests-equal (without n t u || plainTold m s′ p′ r u) (without n t u || newlyOn m s s′ (p′ .place u))
+      (λ h. ⊎-elim (or-left (without n t u) (newlyOn m s s′ (p′ .place u))) told (either (without n t u) (plainTold m s′ p′ r u) h))
+      (λ h. ⊎-elim (or-left (without n t u) (plainTold m s′ p′ r u))
+      (λ x. let y = newly-iff m s s′ p′ u .0 x in ran-all n (y .0) u (y .1) (y .2))
+      (either (without n t u) (newlyOn m s s′ (p′ .place u)) h))
+    where
+      told : plainTold m s′ p′ r u ≡ true → without n t u || newlyOn m s s′ (p′ .place u) ≡ true
+      told x =
+          let y = plain-notices m s′ p′ r u .0 x in
+          let o = left-waits (y .0) u (y .1) in
+          split (m .holds (y .0) s)
+          (λ k. stays n u (newlyOn m s s′ (p′ .place u)) (o .0) (pt .all (y .0) u (o .1) k))
+          (λ k. or-right (without n t u) (newlyOn m s s′ (p′ .place u)) (newly-iff m s s′ p′ u .1 (y .0, y .1, y .2, k)))
+
+  module _ (e : ℕ → ℕ → Entry) (bc : ℕ → Bool) (placed : Placed m e bc) (own : (w : ℕ) → p .place t ≡ waiting w → w ≡ r)
+      (n : ℕ → Bool) (tp : TablePoint m bc s p n) where
+    abbrev n′ : ℕ → Bool
+    n′ u = without n t u || tableTold m e s′ p′ r u
+
+    -- a guard that has become true: its entry stands, and acts
+    woken : (g u : ℕ) → Waits m p′ g u → m .holds g s′ ≡ true → m .holds g s ≡ false
+        → (bc g ≡ true) ⊎ Front (line m p′ g) u → n′ u ≡ true
+    unfolding TableNoticesBy
+    woken g u w h k a =
+        let x = placed .stands r g s (tp .is-kept) guard k h in
+        or-right (without n t u) (tableTold m e s′ p′ r u)
+        (table-notices m e s′ p′ r u .1 (g, w, x .0, bc g, x .1, inr h, a))
+
+    ran-every : (g u : ℕ) → Waits m p′ g u → m .holds g s′ ≡ true → bc g ≡ true → n′ u ≡ true
+    ran-every g u w h b =
+        let o = left-waits g u w in
+        split (m .holds g s)
+        (λ k. stays n u (tableTold m e s′ p′ r u) (o .0) (tp .every g u (o .1) k b))
+        (λ k. woken g u w h k (inl b))
+
+    -- the line on a guard other than the region's is as it was
+    line-before : (g : ℕ) → (m .guardOf r ≡ g → ⊥) → line m p′ g ≡ line m p g
+    unfolding Waits
+    line-before g other = left-line-other m p t (m .follows r) g (is-false (λ h.
+        let w = waits-iff m p g t .0 h in other (ap (m .guardOf) (sym (own (w .0) (w .1))) ∙ w .2)))
+
+    -- so who stands at its front had a notice where it held
+    had-notice : (g u : ℕ) → (m .guardOf r ≡ g → ⊥) → m .holds g s ≡ true → Front (line m p′ g) u → n u ≡ true
+    had-notice g u other k f = tp .first g u k (subst (λ (l : List ℕ). Front l u) (line-before g other) f)
+
+    -- a guard with signals that held before and after the body is not the region's
+    not-own : (g : ℕ) → m .holds g s′ ≡ true → bc g ≡ false → m .guardOf r ≡ g → ⊥
+    not-own g h b q =
+        clash h (ap (λ (y : ℕ). m .holds y s′) (sym q) ∙ placed .once r s (ap bc q ∙ b) (tp .is-kept) guard)
+
+    ran-first : (g u : ℕ) → m .holds g s′ ≡ true → Front (line m p′ g) u → n′ u ≡ true
+    ran-first g u h f =
+        split (m .holds g s) (λ k. split (bc g) (ran-every g u w h) (was-told k)) (λ k. woken g u w h k (inr f))
+      where
+        w : Waits m p′ g u
+        w = front-waits m p′ g u f
+
+        was-told : m .holds g s ≡ true → bc g ≡ false → n′ u ≡ true
+        was-told k b =
+            stays n u (tableTold m e s′ p′ r u) (left-waits g u w .0) (had-notice g u (not-own g h b) k f)
+
+    pub ran-table : TablePoint m bc s′ p′ n′
+    ran-table = record { is-kept = ok .keeps r s (tp .is-kept) guard; first = ran-first; every = ran-every }
+
+    -- whom an entry tells has a notice, or the body has made its guard true
+    told-newly : (u : ℕ) → tableTold m e s′ p′ r u ≡ true → without n t u || newlyBy m bc s s′ p′ u (p′ .place u) ≡ true
+    unfolding TableNoticesBy
+    told-newly u x =
+        let y = table-notices m e s′ p′ r u .0 x in
+        let o = left-waits (y .0) u (y .1) in
+        split (m .holds (y .0) s)
+        (λ k. stays n u (newlyBy m bc s s′ p′ u (p′ .place u)) (o .0) (⊎-elim
+        (λ b. tp .every (y .0) u (o .1) k (sym (placed .kind r (y .0) (y .2) (y .3) (y .4)) ∙ b))
+        (had-notice (y .0) u (λ q. placed .other r (y .2) (y .3) (ap (e r) q ∙ y .4)) k) (y .6)))
+        (λ k. or-right (without n t u) (newlyBy m bc s s′ p′ u (p′ .place u)) (newly-by-iff m bc s s′ p′ u .1
+        (y .0, y .1, ⊎-elim
+        (λ a. placed .sure r (y .0) (y .3) s (y .4 ∙ ap (λ (z : Bool). entry z (y .3)) a) (tp .is-kept) guard k)
+        (λ h. h) (y .5), k, ⊎-elim (λ b. inl (sym (placed .kind r (y .0) (y .2) (y .3) (y .4)) ∙ b)) inr (y .6))))
+
+    pub newly-table : (u : ℕ) → n′ u ≡ without n t u || newlyBy m bc s s′ p′ u (p′ .place u)
+    newly-table u = tests-equal (n′ u) (without n t u || newlyBy m bc s s′ p′ u (p′ .place u))
+        (λ h. ⊎-elim (or-left (without n t u) (newlyBy m bc s s′ p′ u (p′ .place u))) (told-newly u)
+        (either (without n t u) (tableTold m e s′ p′ r u) h))
+        (λ h. ⊎-elim (or-left (without n t u) (tableTold m e s′ p′ r u))
+        (λ x. let y = newly-by-iff m bc s s′ p′ u .0 x in woken (y .0) u (y .1) (y .2) (y .3) (y .4))
+        (either (without n t u) (newlyBy m bc s s′ p′ u (p′ .place u)) h))
+
   module _ (e : ℕ → ℕ → Entry) (bc : ℕ → Bool) (placed : Placed m e bc) (nP nT : ℕ → Bool) (ag : Agree m bc s p nP nT)
       (own : (w : ℕ) → p .place t ≡ waiting w → w ≡ r) where
     abbrev nP′ : ℕ → Bool
@@ -188,47 +357,12 @@ module _ (m : Monitor) (ok : Checked m) (s : ℕ) (p : Threads) (t r : ℕ) (gua
         (λ y. let x = table-notices m e s′ p′ r u .0 y in told-within (x .0) u (x .2) (x .3) (x .1) (x .4) (x .5))
         (either (without nT t u) (tableTold m e s′ p′ r u) h)
 
-    -- a guard that has become true: its entry stands, and acts
-    woken : (g u : ℕ) → Waits m p′ g u → m .holds g s′ ≡ true → m .holds g s ≡ false
-        → (bc g ≡ true) ⊎ Front (line m p′ g) u → nT′ u ≡ true
-    unfolding TableNoticesBy
-    woken g u w h k a =
-        let x = placed .stands r g s (ag .plain .is-kept) guard k h in
-        or-right (without nT t u) (tableTold m e s′ p′ r u)
-        (table-notices m e s′ p′ r u .1 (g, w, x .0, bc g, x .1, inr h, a))
-
-    ran-every : (g u : ℕ) → Waits m p′ g u → m .holds g s′ ≡ true → bc g ≡ true → nT′ u ≡ true
-    ran-every g u w h b =
-        let o = left-waits g u w in
-        split (m .holds g s)
-        (λ k. stays nT u (tableTold m e s′ p′ r u) (o .0) (ag .every g u (o .1) k b))
-        (λ k. woken g u w h k (inl b))
-
-    -- the line on a guard other than the region's is as it was
-    line-before : (g : ℕ) → (m .guardOf r ≡ g → ⊥) → line m p′ g ≡ line m p g
-    unfolding Waits
-    line-before g other = left-line-other m p t (m .follows r) g (is-false (λ h.
-        let w = waits-iff m p g t .0 h in other (ap (m .guardOf) (sym (own (w .0) (w .1))) ∙ w .2)))
-
-    -- a guard with signals that held before and after the body is not the region's
-    not-own : (g : ℕ) → m .holds g s′ ≡ true → bc g ≡ false → m .guardOf r ≡ g → ⊥
-    not-own g h b q =
-        clash h (ap (λ (y : ℕ). m .holds y s′) (sym q) ∙ placed .once r s (ap bc q ∙ b) (ag .plain .is-kept) guard)
-
-    ran-first : (g u : ℕ) → m .holds g s′ ≡ true → Front (line m p′ g) u → nT′ u ≡ true
-    ran-first g u h f =
-        split (m .holds g s) (λ k. split (bc g) (ran-every g u w h) (was-told k)) (λ k. woken g u w h k (inr f))
-      where
-        w : Waits m p′ g u
-        w = front-waits m p′ g u f
-
-        was-told : m .holds g s ≡ true → bc g ≡ false → nT′ u ≡ true
-        was-told k b =
-            stays nT u (tableTold m e s′ p′ r u) (left-waits g u w .0)
-            (ag .first g u k (subst (λ (l : List ℕ). Front l u) (line-before g (not-own g h b)) f))
-
     pub ran-agree : Agree m bc s′ p′ nP′ nT′
-    ran-agree = record { plain = ran-plain nP (ag .plain); within = ran-within; first = ran-first; every = ran-every }
+    ran-agree = record {
+      plain = ran-plain nP (ag .plain);
+      within = ran-within;
+      table = ran-table e bc placed own nT (ag .table);
+    }
 
 -- Thread t begins to wait at region r: the guard is false, so nothing is asked of it
 
@@ -260,12 +394,18 @@ module _ (m : Monitor) (s : ℕ) (p : Threads) (t r : ℕ) (guard : m .holds (m 
     all = λ g u w h. pt .all g u (waited-before g u w h .1) h;
   }
 
+  pub waited-table : (bc : ℕ → Bool) (n : ℕ → Bool) → TablePoint m bc s p n → TablePoint m bc s q′ n
+  waited-table bc n tp = record {
+    is-kept = tp .is-kept;
+    first = λ g u h f. tp .first g u h (subst (λ (l : List ℕ). Front l u) (line-then g h) f);
+    every = λ g u w h b. tp .every g u (waited-before g u w h .1) h b;
+  }
+
   pub waited-agree : (bc : ℕ → Bool) (nP nT : ℕ → Bool) → Agree m bc s p nP nT → Agree m bc s q′ nP nT
   waited-agree bc nP nT ag = record {
     plain = waited-plain nP (ag .plain);
     within = ag .within;
-    first = λ g u h f. ag .first g u h (subst (λ (l : List ℕ). Front l u) (line-then g h) f);
-    every = λ g u w h b. ag .every g u (waited-before g u w h .1) h b;
+    table = waited-table bc nT (ag .table);
   }
 
 -- A recheck of thread t, which waits at region r: the guard is false, and the notice is used up
@@ -286,11 +426,17 @@ module _ (m : Monitor) (s : ℕ) (p : Threads) (t r : ℕ) (guard : m .holds (m 
     all = λ g u w h. without-iff n t u .1 (other-waiter g u w h, pt .all g u w h);
   }
 
+  pub rechecked-table : (bc : ℕ → Bool) (n : ℕ → Bool) → TablePoint m bc s p n → TablePoint m bc s p (without n t)
+  rechecked-table bc n tp = record {
+    is-kept = tp .is-kept;
+    first = λ g u h f. without-iff n t u .1 (other-waiter g u (front-waits m p g u f) h, tp .first g u h f);
+    every = λ g u w h b. without-iff n t u .1 (other-waiter g u w h, tp .every g u w h b);
+  }
+
   pub rechecked-agree : (bc : ℕ → Bool) (nP nT : ℕ → Bool) → Agree m bc s p nP nT
       → Agree m bc s p (without nP t) (without nT t)
   rechecked-agree bc nP nT ag = record {
     plain = rechecked-plain nP (ag .plain);
     within = λ u h. let b = without-iff nT t u .0 h in without-iff nP t u .1 (b .0, ag .within u (b .1));
-    first = λ g u h f. without-iff nT t u .1 (other-waiter g u (front-waits m p g u f) h, ag .first g u h f);
-    every = λ g u w h b. without-iff nT t u .1 (other-waiter g u w h, ag .every g u w h b);
+    table = rechecked-table bc nT (ag .table);
   }

@@ -118,7 +118,7 @@ module _ (m : Monitor) (ok : Checked m) (s : ℕ) (p : Threads) (f : Frame) wher
           acted a k true w true fl =
               turn (nP t && firstNotified m p nP g t) (nT t && firstNotified m p nT g t)
               (resumes m p nP g t (λ u x. ag .plain .all g u (front-waits m p g u x) holds)
-              ∙ sym (resumes m p nT g t (λ u x. ag .first g u holds x)))
+              ∙ sym (resumes m p nT g t (λ u x. ag .table .first g u holds x)))
             where
               holds : m .holds g s ≡ true
               holds = sym k ∙ fl

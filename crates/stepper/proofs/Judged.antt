@@ -5,7 +5,8 @@ use mathlib.Core.Path.{_≡_, refl, ap, ap₂, _∙_}
 use mathlib.Core.Bool.{Bool, true, false, not, _&&_, Bool·beq, and-false}
 use mathlib.Core.List.{List, []}
 use lib.Dec.{eqb}
-use Rattle.machine.specs.Monitor.{Place, idle, waiting, due, Monitor, Config, Frame, threads}
+use borrow.Author.Tests.{eqb-true, eq-eqb}
+use Rattle.machine.specs.Monitor.{Place, idle, waiting, due, Monitor, Config, Frame, threads, onGuard}
 use Rattle.logic.specs.Tests.{any}
 use Rattle.machine.specs.Decide.Step.{isDue, isWaiting, mayBeAt, may, firstNotified}
 use Rattle.stepper.specs.Slices.{slices}
@@ -18,6 +19,14 @@ unfolding mayBeAt
 begins-alone hs as′ gs bs os n idle r = refl
 begins-alone hs as′ gs bs os n (waiting w) r = refl
 begins-alone hs as′ gs bs os n (due w) r = refl
+
+-- a waiter that may be at a region waits on that region's guard
+pub waits-there : (m : Monitor) (q : Place) (r : ℕ) → mayBeAt m q r ≡ true → isWaiting q ≡ true
+    → onGuard m (m .guardOf r) q ≡ true
+unfolding mayBeAt isWaiting onGuard
+waits-there m idle r a w = w
+waits-there m (waiting w) r a _ = eq-eqb (m .guardOf w) (m .guardOf r) (ap (m .guardOf) (eqb-true w r a))
+waits-there m (due w) r a e = e
 
 as-is : (b : Bool) → b ≡ b
 as-is b = refl

@@ -1,16 +1,14 @@
 -- The monitor that lent slices give by look-ups alone, each index taken by a remainder: total, and the held monitor's
 -- where that is asked.
-use Prim.Native.Nat.{ℕ, zero, suc, _+_, _*_, _/_, _%_}
-use mathlib.Core.Bool.{Bool, true, false, not}
+use Prim.Native.Nat.{ℕ, _+_, _*_, _/_, _%_}
+use mathlib.Core.Bool.{Bool, true, false, not, _&&_, _||_}
 use mathlib.Core.List.{List, []}
 use lib.ListN.{getD}
 use lib.Dec.{eqb}
 use Rattle.machine.specs.Limits.{mostRegions, mostStates}
 use Rattle.sets.specs.Set.{member}
-use Rattle.machine.specs.Monitor.{Place, idle, waiting, due, Monitor, Config}
-use Rattle.machine.specs.Decide.Step.{Told, plainTold}
-use Rattle.machine.specs.Algorithm1.{Entry, none, entry}
-use Rattle.machine.specs.Decide.Table.{acts, tableTold}
+use Rattle.machine.specs.Monitor.{Place, idle, waiting, due, Threads, Monitor, Config}
+use Rattle.machine.specs.Decide.Step.{Told, next}
 use Rattle.machine.specs.Held.{followsBy}
 use Rattle.stepper.specs.declared.Run.{Run}
 use Rattle.threads.specs.Held.{threadsOf}
@@ -31,14 +29,6 @@ beginsAt bs r = eqb (getD bs (r % mostRegions) 0) 1
 unfoldable pub followsAt : List ℕ → ℕ → Place
 followsAt os r = followsBy (r % mostRegions) (getD os (r % mostRegions) 0)
 
--- an entry by its number
-unfoldable pub entryBy : ℕ → Entry
-entryBy zero = none
-entryBy (suc n) = entry (eqb (suc n / 2 % 2) 1) (eqb (suc n / 4 % 2) 1)
-
-unfoldable pub entryAt : List ℕ → ℕ → ℕ → Entry
-entryAt es r g = entryBy (getD es (r % mostRegions * mostRegions + g % mostRegions) 0)
-
 abbrev pub slices : List ℕ → List ℕ → List ℕ → List ℕ → List ℕ → ℕ → Monitor
 slices hs as′ gs bs os n = record {
   states = 0;
@@ -52,31 +42,47 @@ slices hs as′ gs bs os n = record {
   follows = followsAt os;
 }
 
--- the guards alone, and the guards with their truth: what some look-ups ask of a monitor
+-- the guards alone: what some look-ups ask of a monitor
 abbrev pub guardsOnly : List ℕ → Monitor
 guardsOnly gs = slices [] [] gs [] [] 0
-
-abbrev pub truths : List ℕ → List ℕ → Monitor
-truths hs gs = slices hs [] gs [] [] 0
-
-unfoldable pub toldAt : List ℕ → List ℕ → List ℕ → Bool → Told
-toldAt hs gs es true = tableTold (truths hs gs) (entryAt es)
-toldAt hs gs es false = plainTold (truths hs gs)
 
 -- the point of a machine's run that a record holds
 unfoldable pub configOf : Bool → Run → Config
 configOf w r = record { state = r .state; threads = threadsOf (r .threads); notified = member (noticesIn w r) }
 
--- where the guards that hold are those of a set: the guard of a waiter's place is one of them
-unfoldable pub ownIn : List ℕ → ℕ → Place → Bool
-ownIn gs truth idle = false
-ownIn gs truth (waiting w) = member truth (guardAt gs w)
-ownIn gs truth (due w) = false
+-- Whom a body notifies anew, by the guards that it has made true
 
--- and an entry acts on the waiter at a place, where the guards that some thread ahead waits on are those of another set
-module _ (gs es : List ℕ) (truth r met : ℕ) where
-  unfoldable pub toldBehind : Place → Bool
-  toldBehind idle = false
-  toldBehind (waiting w) = acts (entryAt es r (guardAt gs w)) (member truth (guardAt gs w))
-      (not (member met (guardAt gs w)))
-  toldBehind (due w) = false
+-- a guard that was false and is true
+unfoldable pub becomesAt : List ℕ → ℕ → ℕ → ℕ → Bool
+becomesAt hs s s′ g = holdsAt hs g s′ && not (holdsAt hs g s)
+
+-- a broadcast, by an entry's number
+unfoldable pub broadcastAt : List ℕ → ℕ → ℕ → Bool
+broadcastAt es r g = eqb (getD es (r % mostRegions * mostRegions + g % mostRegions) 0 / 4 % 2) 1
+
+-- the guard of a waiter's place is one of some
+unfoldable pub onOne : List ℕ → (ℕ → Bool) → Place → Bool
+onOne gs some idle = false
+onOne gs some (waiting w) = some (guardAt gs w)
+onOne gs some (due w) = false
+
+-- and a region's entry tells the waiter there, where the guards that some thread ahead waits on are those of a set
+unfoldable pub toldBehind : List ℕ → List ℕ → ℕ → ℕ → Place → Bool
+toldBehind gs es r met idle = false
+toldBehind gs es r met (waiting w) = broadcastAt es r (guardAt gs w) || not (member met (guardAt gs w))
+toldBehind gs es r met (due w) = false
+
+-- by the table's machine the first on such a guard, or all
+unfoldable pub newFirst : List ℕ → List ℕ → (ℕ → Bool) → Threads → ℕ → ℕ → Place → Bool
+newFirst gs es some p r u idle = false
+newFirst gs es some p r u (waiting w) =
+    some (guardAt gs w) && (broadcastAt es r (guardAt gs w) || next (guardsOnly gs) p (guardAt gs w) u)
+newFirst gs es some p r u (due w) = false
+
+unfoldable pub newlyIn : List ℕ → List ℕ → (ℕ → Bool) → Bool → Threads → ℕ → ℕ → Bool
+newlyIn gs es some true p r u = newFirst gs es some p r u (p .place u)
+newlyIn gs es some false p r u = onOne gs some (p .place u)
+
+-- from the state before
+unfoldable pub newlyAt : List ℕ → List ℕ → List ℕ → Bool → ℕ → Told
+newlyAt hs gs es w s s′ p r u = newlyIn gs es (becomesAt hs s s′) w p r u

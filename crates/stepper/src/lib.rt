@@ -13,17 +13,17 @@ ghost use lib.Dec.{eqb};
 ghost use Rattle.sets.specs.Set.{member};
 ghost use Rattle.machine.specs.Monitor.{Monitor, Config, allIdle, onGuard, waitsOn};
 ghost use Rattle.machine.specs.Queue.{has, those};
-ghost use Rattle.machine.specs.Arrival.{Lined};
 ghost use Rattle.logic.specs.Tests.{any};
 ghost use Rattle.machine.specs.Decide.Step.{Told, isDue, isWaiting, mayBeAt, firstIn, ran as ranTo};
-ghost use Rattle.machine.specs.Decide.Table.{acts as actsOf};
 ghost use Rattle.machine.specs.Held.{Held, HeldPlaces, HeldEntries};
+ghost use Rattle.machine.specs.Agreement.{Checked};
 ghost use Rattle.machine.proofs.Reached.{Reached};
+ghost use Rattle.machine.proofs.Points.{ToldAt};
 ghost use Rattle.queue.specs.Packed.{queueOf};
-ghost use Rattle.threads.specs.Held.{placeOf, placesOf, threadsOf, Turned};
+ghost use Rattle.threads.specs.Held.{placeOf, placesOf, threadsOf, Turned, Queued};
 ghost use Rattle.stepper.specs.Shown.{ofMachine, Shows, Steps, Stays, stepBy, frameOf};
-ghost use Rattle.stepper.specs.Slices.{guardAt, holdsAt, followsAt, entryBy, slices, guardsOnly};
-ghost use Rattle.stepper.specs.Slices.{toldAt, ownIn, toldBehind, configOf};
+ghost use Rattle.stepper.specs.Slices.{guardAt, holdsAt, becomesAt, followsAt, slices, guardsOnly};
+ghost use Rattle.stepper.specs.Slices.{onOne, toldBehind, newlyIn, newlyAt, configOf};
 ghost use Rattle.stepper.specs.Parts.{verdict, verdictOf, nextBy, AheadOf};
 
 // The record of both machines' runs: the state's number, all threads, and each machine's notified set.
@@ -177,46 +177,27 @@ fn resumes(notified: u16, ahead: u16, t: u8) -> u8
     NOT_ALLOWED
 }
 
-// Whether the plain machine notifies a thread at a place: it waits and its guard is one of those that hold.
-fn own_holds(place: Place, guard_of: &[u8; machine::REGIONS], truth: u16) -> bool
-    ensures { λ r. ⌜ r ≡ ownIn (now («guard_of» .entry)) truth (placeOf place) ⌝ }
+// Whether a thread at a place waits on one of a set of guards.
+fn waits_on_one(place: Place, guard_of: &[u8; machine::REGIONS], guards: u16) -> bool
+    ensures { λ r. ⌜ r ≡ onOne (now («guard_of» .entry)) (member guards) (placeOf place) ⌝ }
 {
     match place {
         Place::Idle => false,
-        Place::Waiting(w) => sets::has(truth, guard_at(guard_of, w) as u32),
+        Place::Waiting(w) => sets::has(guards, guard_at(guard_of, w) as u32),
         Place::Due(_) => false,
     }
 }
 
-// Whether an entry acts on a waiter: does its guard hold, and is it next in line.
-fn acts(code: u8, holds: bool, first: bool) -> bool
-    ensures { λ r. ⌜ r ≡ actsOf (entryBy code) holds first ⌝ }
-{
-    if code == 0 {
-        return false;
-    }
-    let sure = either(code / 2 % 2 == 1, holds);
-    let reached = either(code / 4 % 2 == 1, first);
-    sure && reached
-}
-
-fn either(a: bool, b: bool) -> bool
-    ensures { λ r. ⌜ r ≡ a || b ⌝ }
-{
-    if a { true } else { b }
-}
-
-// Whether an entry of a region acts on a thread at a place, where the guards of one set hold and those ahead of the thread
-// wait on the guards of another.
-fn entry_acts(
+// Whether an entry of a region tells a waiter at a place whose guard the body has made true: a broadcast tells all, a signal
+// the first, on whose guard none of those ahead waits.
+fn is_told(
     place: Place,
     guard_of: &[u8; machine::REGIONS],
-    truth: u16,
     entries: &[u8; machine::ENTRIES],
     region: u8,
     met: u16,
 ) -> bool
-    ensures { λ r. ⌜ r ≡ toldBehind (now («guard_of» .entry)) (now (entries .entry)) truth region met (placeOf place) ⌝ }
+    ensures { λ r. ⌜ r ≡ toldBehind (now («guard_of» .entry)) (now (entries .entry)) region met (placeOf place) ⌝ }
 {
     match place {
         Place::Idle => false,
@@ -224,14 +205,16 @@ fn entry_acts(
             let guard = guard_at(guard_of, w);
             let code = entries[(region % machine::REGION_END) as usize * machine::REGIONS
                 + (guard % machine::REGION_END) as usize];
-            acts(
-                code,
-                sets::has(truth, guard as u32),
-                !sets::has(met, guard as u32),
-            )
+            either(code / 4 % 2 == 1, !sets::has(met, guard as u32))
         }
         Place::Due(_) => false,
     }
+}
+
+fn either(a: bool, b: bool) -> bool
+    ensures { λ r. ⌜ r ≡ a || b ⌝ }
+{
+    if a { true } else { b }
 }
 
 // The guards met so far, with that of a thread at a place.
@@ -246,25 +229,39 @@ fn met_with(met: u16, place: Place, guard_of: &[u8; machine::REGIONS]) -> u16
     }
 }
 
-// Whom a body notifies: on the plain machine every waiter whose guard holds, on the table's those whom the entries of the
-// region do; the first waiter on each guard is the first that is met in the queue.
+// The guards that a body has made true, by the states before and after it.
+fn made_true(holds: &[u16; machine::STATES], from: StateNumber, to: StateNumber) -> u16
+    ensures { λ r. ⌜ ((g : ℕ) → member r g ≡ becomesAt (now (holds .entry)) from to g) ⌝ }
+{
+    sets::minus(
+        holds[(to % machine::STATE_END) as usize],
+        holds[(from % machine::STATE_END) as usize],
+    )
+}
+
+// Whom a body notifies anew, where it has made some guards true: on the plain machine every waiter on one of these, on the
+// table's those whom the entries of the region tell; the first waiter on each guard is the first that is met in the queue.
 fn told(
     threads: Threads,
     guard_of: &[u8; machine::REGIONS],
-    holds: &[u16; machine::STATES],
-    state: StateNumber,
+    newly: u16,
     entries: &[u8; machine::ENTRIES],
     region: u8,
 ) -> Notices
-    ensures { λ r. ⌜ ((m : Monitor) → Lined m (threadsOf threads) → (w : Bool) (u : ℕ) → u < 16
+    ensures { λ r. ⌜ (Queued threads → (w : Bool) (u : ℕ) → u < 16
         → member (ofMachine w (r .plain) (r .table)) u
-        ≡ toldAt (now (holds .entry)) (now («guard_of» .entry)) (now (entries .entry)) w state (threadsOf threads) region u) ⌝ }
+        ≡ newlyIn (now («guard_of» .entry)) (now (entries .entry)) (member newly) w (threadsOf threads) region u) ⌝ }
 {
-    let truth = holds[(state % machine::STATE_END) as usize];
-    let each = threads.each;
-    let waiting = threads.waiting;
     let mut plain: u16 = 0;
     let mut table: u16 = 0;
+    if newly == 0 {
+        return Notices {
+            plain: plain,
+            table: table,
+        };
+    }
+    let each = threads.each;
+    let waiting = threads.waiting;
     let mut met: u16 = 0;
     let mut rest = threads.order;
     let mut k: u8 = 0;
@@ -272,13 +269,13 @@ fn told(
         let u = queue::first(rest);
         let thread = each[u as usize];
         let place = thread.place;
-        if own_holds(place, guard_of, truth) {
+        if waits_on_one(place, guard_of, newly) {
             plain = sets::with(plain, u as u32);
+            if is_told(place, guard_of, entries, region, met) {
+                table = sets::with(table, u as u32);
+            }
+            met = met_with(met, place, guard_of);
         }
-        if entry_acts(place, guard_of, truth, entries, region, met) {
-            table = sets::with(table, u as u32);
-        }
-        met = met_with(met, place, guard_of);
         rest = rest / 16;
         k += 1;
     }
@@ -310,8 +307,7 @@ fn judge(
     regions: usize,
 ) -> Numbers
     requires { ⌜ frame .thread < 16 ⌝ }
-    ensures { λ r. ⌜ ((m : Monitor) → Lined m (threadsOf (run .threads)) → Turned (run .threads)
-        → (w : Bool) → ofMachine w (r .plain) (r .table)
+    ensures { λ r. ⌜ (Queued (run .threads) → Turned (run .threads) → (w : Bool) → ofMachine w (r .plain) (r .table)
         ≡ verdictOf (slices (now (holds .entry)) [] (now («guard_of» .entry)) (now (begins .entry)) [] regions)
         (configOf w run) (frameOf frame)) ⌝ }
 {
@@ -370,11 +366,10 @@ fn ran(
     entries: &[u8; machine::ENTRIES],
 ) -> Run
     requires { ⌜ frame .thread < 16 ⌝ }
-    ensures { λ r. ⌜ ((m : Monitor) → Lined m (threadsOf (run .threads)) → Turned (run .threads)
-        → (w : Bool) → Shows w r
+    ensures { λ r. ⌜ (Queued (run .threads) → Turned (run .threads) → (w : Bool) → Shows w r
         (ranTo (slices (now (holds .entry)) (now (after .entry)) (now («guard_of» .entry)) [] (now («goes_on» .entry))
         0)
-        (toldAt (now (holds .entry)) (now («guard_of» .entry)) (now (entries .entry)) w) (configOf w run)
+        (newlyAt (now (holds .entry)) (now («guard_of» .entry)) (now (entries .entry)) w (run .state)) (configOf w run)
         (frameOf frame))) ⌝ }
 {
     let t = frame.thread;
@@ -383,7 +378,8 @@ fn ran(
     let after_body = threads::leave(threads, t, behind(region, goes_on));
     let to = after[(region % machine::REGION_END) as usize * machine::STATES
         + (run.state % machine::STATE_END) as usize];
-    let more = told(after_body, guard_of, holds, to, entries, region);
+    let newly = made_true(holds, run.state, to);
+    let more = told(after_body, guard_of, newly, entries, region);
     Run {
         state: to,
         threads: after_body,
@@ -395,8 +391,7 @@ fn ran(
 // The record after a frame with 00 that is taken: a recheck, or a thread that begins to wait. No monitor is asked.
 fn paused(run: Run, frame: Frame) -> Run
     requires { ⌜ frame .thread < 16 ⌝ }
-    ensures { λ r. ⌜ ((m : Monitor) → Lined m (threadsOf (run .threads)) → Turned (run .threads)
-        → (w : Bool) (m : Monitor) (told : Told) → Shows w r
+    ensures { λ r. ⌜ (Queued (run .threads) → Turned (run .threads) → (w : Bool) (m : Monitor) (told : Told) → Shows w r
         (nextBy m told (configOf w run) (frameOf frame) false (isWaiting (placesOf (run .threads .each) (frame .thread))))) ⌝ }
 {
     let t = frame.thread;
@@ -438,7 +433,7 @@ pub fn step(
         → Held m kept (now (holds .entry)) (now (after .entry)) (now («guard_of» .entry))
         → HeldPlaces m (now (begins .entry)) (now («goes_on» .entry))
         → (w ≡ true → HeldEntries m (now (entries .entry)))
-        → frame .thread < 16 → Reached m c → Shows w run c
+        → frame .thread < 16 → Checked m → Reached m c → ToldAt m w c → Shows w run c
         → Steps w r (stepBy m w c frame)) ⌝ }
     ensures { λ r. ⌜ Stays run r ⌝ }
 {

@@ -5,26 +5,24 @@ use native.Mathlib.Nat.{mod-eq-of-lt}
 use native.Mathlib.Decide.{decLt}
 use native.Mathlib.Omega.{arith}
 use mathlib.Core.Path.{_≡_, refl, sym, subst, ap, ap₂, _∙_}
-use mathlib.Core.Bool.{Bool, true, false, not, _&&_, true≢false}
+use mathlib.Core.Bool.{Bool, true, false, not, _&&_, and-true, and-false, true≢false}
 use mathlib.Core.List.{List}
 use lib.Dec.{eqb}
 use lib.ListN.{length}
 use borrow.Author.Tests.{eq-eqb, ne-eqb}
-use Rattle.logic.proofs.Bools.{split, split-eq, clash, is-false, and, true-not}
+use Rattle.logic.proofs.Bools.{split, split-eq, and, true-not}
 use Rattle.machine.specs.Monitor as machine
-use Rattle.machine.specs.Monitor.{SameThreads, Monitor, turn, turnAt}
+use Rattle.machine.specs.Monitor.{SameThreads, turn, turnAt}
 use Rattle.machine.specs.Queue.{has, joined, left, placeIn}
-use Rattle.machine.specs.Arrival.{Once, Lined}
+use Rattle.machine.specs.Arrival.{Once}
 use Rattle.machine.specs.Decide.Step.{isWaiting, beginWait, leave}
-use Rattle.machine.specs.Rules.{Waiting}
-use Rattle.machine.proofs.Order.{waiting-iff}
 use Rattle.machine.proofs.Queue.{has-left, once-left, left-absent, place-absent, place-below, place-joined, place-last}
 use Rattle.machine.proofs.Queue.{place-kept}
 use Rattle.queue.specs.Packed.{queueOf, joinedTo, leftBy}
 use Rattle.queue.proofs.Lists.{few, queue-below, queue-joined, queue-left, queue-length, room}
 use Rattle.threads.specs.declared.Thread.{Thread}
 use Rattle.threads.specs.declared.Threads.{Threads}
-use Rattle.threads.specs.Held.{placesOf, turnsOf, threadsOf, Turned, Puts, between}
+use Rattle.threads.specs.Held.{placesOf, turnsOf, threadsOf, Turned, Queued, Puts, between}
 use Rattle.threads.proofs.Replaced.{puts-own, puts-other}
 use Rattle.threads.proofs.Between.{between-in, between-out}
 
@@ -47,17 +45,13 @@ turn-none machine.idle n e = refl
 turn-none (machine.waiting r) n e = absurd (true≢false e)
 turn-none (machine.due r) n e = refl
 
-module _ (m : Monitor) (ts : Threads) (lined : Lined m (threadsOf ts)) (turned : Turned ts) (t : ℕ) (thread : t < 16) where
+module _ (ts : Threads) (lined : Queued ts) (turned : Turned ts) (t : ℕ) (thread : t < 16) where
   abbrev q : List ℕ
   q = queueOf (ts .order) (ts .waiting)
 
-  waiter : (u : ℕ) → isWaiting (placesOf (ts .each) u) ≡ true → has q u ≡ true
-  unfolding Waiting
-  waiter u e = lined .waits u .1 (waiting-iff (placesOf (ts .each) u) .0 e)
-
-  other : (u : ℕ) → isWaiting (placesOf (ts .each) u) ≡ false → has q u ≡ false
-  unfolding Waiting
-  other u e = is-false (λ h. clash (waiting-iff (placesOf (ts .each) u) .1 (lined .waits u .0 h)) e)
+  member : (u : ℕ) → u < 16 → has q u ≡ isWaiting (placesOf (ts .each) u)
+  unfolding machine.threads
+  member u h = lined .waits u h
 
   held : (u : ℕ) → u < 16 → turnsOf (ts .each) u ≡ turnAt (placesOf (ts .each) u) (placeIn q u)
   unfolding turn machine.threads
@@ -69,7 +63,7 @@ module _ (m : Monitor) (ts : Threads) (lined : Lined m (threadsOf ts)) (turned :
       (order : ts .waiting < 16 → t < 16 → after .order ≡ joinedTo (ts .order) (ts .waiting) t)
       (count : after .waiting ≡ ts .waiting % 16 + 1) where
     absent : has q t ≡ false
-    absent = other t idle-or-due
+    absent = member t thread ∙ idle-or-due
 
     below : ts .waiting < 16
     below = room (ts .order) (ts .waiting) t (lined .once) thread absent
@@ -97,7 +91,7 @@ module _ (m : Monitor) (ts : Threads) (lined : Lined m (threadsOf ts)) (turned :
         let x = puts-other puts u h d in
         x .1 ∙ held u h
         ∙ turn-same (placesOf (ts .each) u) (placeIn q u) (placeIn (queueOf (after .order) (after .waiting)) u)
-        (λ w. sym (ap (λ (l : List ℕ). placeIn l u) queue-then ∙ place-joined q t u (waiter u w)))
+        (λ w. sym (ap (λ (l : List ℕ). placeIn l u) queue-then ∙ place-joined q t u (member u h ∙ w)))
         ∙ ap (λ (p : machine.Place). turnAt p (placeIn (queueOf (after .order) (after .waiting)) u)) (sym (x .0)))
 
     pub began-turned : Turned after
@@ -117,7 +111,7 @@ module _ (m : Monitor) (ts : Threads) (lined : Lined m (threadsOf ts)) (turned :
       unfolding leave
       passed-shows = record {
         same-place = λ u h. ap (λ (l : List Thread). placesOf l u) each ∙ puts .places u h;
-        same-queue = queue-stays ∙ sym (left-absent q t (other t idle-or-due));
+        same-queue = queue-stays ∙ sym (left-absent q t (member t thread ∙ idle-or-due));
       }
 
       passed-turn : (u : ℕ) → u < 16
@@ -131,6 +125,17 @@ module _ (m : Monitor) (ts : Threads) (lined : Lined m (threadsOf ts)) (turned :
           let x = puts-other puts u h d in
           x .1 ∙ held u h
           ∙ ap₂ (λ (p : machine.Place) (l : List ℕ). turnAt p (placeIn l u)) (sym (x .0)) (sym queue-stays))
+
+      pub passed-queued : Queued after
+      unfolding machine.threads
+      passed-queued = record {
+        once = subst Once (sym queue-stays) (lined .once);
+        waits = λ u h. ap (λ (l : List ℕ). has l u) queue-stays ∙ member u h ∙ split-eq u t
+            (λ e. ap (λ (v : ℕ). isWaiting (placesOf (ts .each) v)) e ∙ idle-or-due
+            ∙ sym (ap isWaiting (ap (λ (l : List Thread). placesOf l u) each ∙ ap (placesOf next) e
+            ∙ puts-own puts thread .0) ∙ goes-on))
+            (λ d. ap isWaiting (sym (ap (λ (l : List Thread). placesOf l u) each ∙ puts-other puts u h d .0)));
+      }
 
       pub passed-turned : Turned after
       unfolding turn machine.threads
@@ -151,7 +156,7 @@ module _ (m : Monitor) (ts : Threads) (lined : Lined m (threadsOf ts)) (turned :
       k = placeIn q t
 
       here : has q t ≡ true
-      here = waiter t waits
+      here = member t thread ∙ waits
 
       own-turn : turnsOf (ts .each) t ≡ k
       own-turn = held t thread ∙ turn-waits (placesOf (ts .each) t) k waits
@@ -226,7 +231,7 @@ module _ (m : Monitor) (ts : Threads) (lined : Lined m (threadsOf ts)) (turned :
               ∙ turn-waits (placesOf (ts .each) u) (placeIn q u) w ∙ kept (let e = own-turn in omega arith)
           go (no l) =
               let b = place-below (queueOf (after .order) (after .waiting)) u
-              (member-then u ∙ and (waiter u w) (true-not (ne-eqb u t d))) in
+              (member-then u ∙ and (member u h ∙ w) (true-not (ne-eqb u t d))) in
               let e = queue-length (after .order) (after .waiting) in
               between-in _ _ _ _ (omega arith) (omega arith)
 
@@ -244,9 +249,20 @@ module _ (m : Monitor) (ts : Threads) (lined : Lined m (threadsOf ts)) (turned :
           let same : placesOf (after .each) u ≡ placesOf (ts .each) u = places u h ∙ x .0 in
           split (isWaiting (placesOf (ts .each) u))
           (λ w. in-queue u h d w ∙ sym (turn-waits (placesOf (after .each) u) _ (ap isWaiting same ∙ w)))
-          (λ w. out u (member-then u ∙ ap (λ (b : Bool). b && not (eqb u t)) (other u w)) ∙ x .1 ∙ held u h
+          (λ w. out u (member-then u ∙ ap (λ (b : Bool). b && not (eqb u t)) (member u h ∙ w)) ∙ x .1 ∙ held u h
           ∙ turn-none (placesOf (ts .each) u) (placeIn q u) w
           ∙ sym (turn-none (placesOf (after .each) u) _ (ap isWaiting same ∙ w))))
+
+      pub left-queued : Queued after
+      unfolding machine.threads
+      left-queued = record {
+        once = once-then;
+        waits = λ u h. member-then u ∙ split-eq u t
+            (λ e. ap (λ (b : Bool). has q u && not b) (eq-eqb u t e) ∙ and-false (has q u)
+            ∙ sym (ap isWaiting (places u h ∙ ap (placesOf next) e ∙ puts-own puts thread .0) ∙ goes-on))
+            (λ d. ap (λ (b : Bool). has q u && not b) (ne-eqb u t d) ∙ and-true (has q u) ∙ member u h
+            ∙ ap isWaiting (sym (places u h ∙ puts-other puts u h d .0)));
+      }
 
       pub left-turned : Turned after
       unfolding turn machine.threads

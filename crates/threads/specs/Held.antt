@@ -7,7 +7,9 @@ use lib.Dec.{eqb, leb, ltb}
 use lib.ListN.{getD}
 use Rattle.machine.specs.Monitor as machine
 use Rattle.machine.specs.Monitor.{turn}
-use Rattle.machine.specs.Decide.Step.{put}
+use Rattle.machine.specs.Queue.{has}
+use Rattle.machine.specs.Arrival.{Once}
+use Rattle.machine.specs.Decide.Step.{put, isWaiting}
 use Rattle.queue.specs.Packed.{queueOf}
 use Rattle.threads.specs.declared.Place.{Place}
 use Rattle.threads.specs.declared.Place.the-variants.{Idle, Waiting, Due}
@@ -36,6 +38,12 @@ threadsOf t = record { place = placesOf (t .each); queue = queueOf (t .order) (t
 -- the turns that are held are those of the queue
 pub record Turned (t : Threads) : Type 0 where
   pub turns : (u : ℕ) → u < machine.threads → turnsOf (t .each) u ≡ turn (threadsOf t) u
+
+-- exactly those who wait are in the queue, each once
+pub record Queued (t : Threads) : Type 0 where
+  pub once : Once (queueOf (t .order) (t .waiting))
+  pub waits :
+      (u : ℕ) → u < machine.threads → has (queueOf (t .order) (t .waiting)) u ≡ isWaiting (placesOf (t .each) u)
 
 -- the threads with thread t replaced
 unfoldable pub putTurn : (ℕ → ℕ) → ℕ → ℕ → ℕ → ℕ

@@ -1,15 +1,14 @@
 // All sixteen threads: where each is, its turn among those who wait, and the queue of these by arrival. A thread begins to wait,
 // behind all who wait; a thread goes on, and those behind it close up. Nothing else changes threads.
 ghost use mathlib.Core.Path.{_≡_};
-ghost use mathlib.Core.Bool.{Bool, true, false, _&&_};
-ghost use Prim.Native.Nat.{ℕ, _-_, _<_, _≤_};
-ghost use lib.Dec.{leb, ltb};
-ghost use Rattle.machine.specs.Monitor.{SameThreads, Monitor, idleThreads};
+ghost use mathlib.Core.Bool.{false};
+ghost use Prim.Native.Nat.{ℕ, _-_, _<_};
+ghost use Rattle.machine.specs.Monitor.{SameThreads, idleThreads};
 ghost use Rattle.machine.specs.Queue.{placeIn};
-ghost use Rattle.machine.specs.Arrival.{Once, Lined};
+ghost use Rattle.machine.specs.Arrival.{Once};
 ghost use Rattle.machine.specs.Decide.Step.{isDue, isWaiting, beginWait, leave as leaveTo};
 ghost use Rattle.queue.specs.Packed.{queueOf};
-ghost use Rattle.threads.specs.Held.{placeOf, placesOf, turnsOf, threadsOf, Turned, Puts, between};
+ghost use Rattle.threads.specs.Held.{placeOf, placesOf, turnsOf, threadsOf, Turned, Queued, Puts, between};
 
 // Where a thread is: idle, waiting at a region, or due at a region.
 pub enum Place {
@@ -103,8 +102,7 @@ fn closed_up(each: [Thread; machine::THREADS], order: u64, from: u8, waiting: u8
 
 // Thread t begins to wait at a region, behind all who wait.
 pub fn begin_wait(threads: Threads, t: u8, region: u8) -> Threads
-    ensures { λ r. ⌜ ((m : Monitor) → t < 16 → Lined m (threadsOf threads) → Turned threads
-        → isWaiting (placesOf (threads .each) t) ≡ false
+    ensures { λ r. ⌜ (t < 16 → Queued threads → Turned threads → isWaiting (placesOf (threads .each) t) ≡ false
         → SameThreads (threadsOf r) (beginWait (threadsOf threads) t region) × Turned r) ⌝ }
 {
     let each = threads.each;
@@ -125,9 +123,8 @@ fn fewer(n: u8) -> u8
 
 // Thread t goes on from a body, to a place where it does not wait; if it waited, those behind it close up.
 pub fn leave(threads: Threads, t: u8, place: Place) -> Threads
-    ensures { λ r. ⌜ ((m : Monitor) → t < 16 → Lined m (threadsOf threads) → Turned threads
-        → isWaiting (placeOf place) ≡ false
-        → SameThreads (threadsOf r) (leaveTo (threadsOf threads) t (placeOf place)) × Turned r) ⌝ }
+    ensures { λ r. ⌜ (t < 16 → Queued threads → Turned threads → isWaiting (placeOf place) ≡ false
+        → SameThreads (threadsOf r) (leaveTo (threadsOf threads) t (placeOf place)) × Turned r × Queued r) ⌝ }
 {
     let each = threads.each;
     let thread = each[(t % 16) as usize];

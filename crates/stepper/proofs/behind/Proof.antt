@@ -3,7 +3,7 @@ use borrow.Author.Needs.{needs}
 use mathlib.Core.Path.{sym, ap}
 use Prim.Native.Nat.{_%_}
 use Rattle.machine.specs.Held.{followsBy}
-use Rattle.stepper.specs.Shown.{placeOf}
+use Rattle.threads.specs.Held.{placeOf}
 use Rattle.stepper.specs.Slices.{followsAt}
 use Rattle.stepper.proofs.Loops.{follows-due}
 use Rattle.stepper.proofs.behind.Statement.{statement}

@@ -3,19 +3,24 @@
 use Prim.Native.Nat.{ℕ, _<_}
 use mathlib.Core.Path.{_≡_, sym, ap, _∙_}
 use mathlib.Core.Bool.{Bool, true, false, Bool·beq}
-use mathlib.Core.List.{[]}
+use mathlib.Core.List.{List, []}
 use borrow.Author.Needs.{needs}
 use borrow.Author.Tests.{not-true, not-false}
 use Rattle.sets.specs.Set.{member}
-use Rattle.machine.specs.Monitor.{Monitor, Config, Frame, threads}
-use Rattle.machine.specs.Decide.Step.{isWaiting, mayBeAt, may, firstNotified, waitsOn, onGuard}
-use Rattle.stepper.specs.Shown.{ofMachine, noticesIn, placesOf, threadsOf, idleThread, frameOf}
+use Rattle.machine.specs.Monitor.{Monitor, Config, Frame, threads, waitsOn, line}
+use Rattle.machine.specs.Queue.{has, those}
+use Rattle.machine.specs.Decide.Step.{isWaiting, mayBeAt, may, firstNotified}
+use Rattle.machine.proofs.Queue.{those-same}
+use Rattle.queue.specs.Packed.{queueOf}
+use Rattle.threads.specs.Held.{placesOf, turnsOf, threadsOf, idleThread, Turned, Queued}
+use Rattle.stepper.specs.Shown.{ofMachine, noticesIn, frameOf}
 use Rattle.stepper.specs.Slices.{guardAt, holdsAt, slices, guardsOnly, configOf}
-use Rattle.stepper.specs.Parts.{verdict, verdictOf}
+use Rattle.stepper.specs.Parts.{verdict, verdictOf, AheadOf}
 use Rattle.stepper.proofs.Machines.{each-machine}
 use Rattle.stepper.proofs.Loops.{guards-alone}
+use Rattle.stepper.proofs.Front.{ahead-of}
 use Rattle.stepper.proofs.Judged.{begins-alone, may-be, other-is-due, not-there, other-flag, not-waiting}
-use Rattle.stepper.proofs.Judged.{waits-here, none-ahead}
+use Rattle.stepper.proofs.Judged.{waits-here, waits-there, none-ahead}
 use Rattle.stepper.proofs.judge.Statement.{statement}
 use Rattle.stepper.proofs.judge.Tie as tie
 
@@ -30,7 +35,7 @@ frame s = frameOf (s .args .frame)
 
 -- the way back to the start from each test
 abbrev from2 : tie.After-may-be-at → tie.Start
-from2 c = c .before .before .before .before .before
+from2 c = c .before .before .before .before .before .before
 
 abbrev from3 : tie.After-holds-at → tie.Start
 from3 c = from2 (c .before .before .before)
@@ -47,7 +52,7 @@ module _ (w : Bool) where
       c .may-be-at .ensures
       ∙ sym
       (begins-alone (a .holds .now) [] (a .guard-of .now) (a .begins .now) [] (a .regions)
-      (placesOf (a .run .threads) (a .frame .thread)) (a .frame .region))
+      (placesOf (a .run .threads .each) (a .frame .thread)) (a .frame .region))
 
   is-there : (c : tie.Else2) → let s = from2 (c .before) in may (monitor s) (point w s .threads) (frame s) ≡ true
   unfolding configOf frameOf
@@ -90,15 +95,15 @@ module _ (w : Bool) where
 
 returns : tie.Need-returns
 unfolding configOf frameOf
-returns c w =
-    let s = c .before .before .before .before in
+returns c queued turned w =
+    let s = c .before .before .before .before .before in
     c .alike .ensures w
     ∙ sym
     (other-is-due (monitor s) (point w s) (frame s)
     (sym (c .before .before .other-due .ensures) ∙ c .before .if1 .taken))
 
 returns-2 : tie.Need-returns-2
-returns-2 c w =
+returns-2 c queued turned w =
     let d = c .before .before in
     let s = from2 d in
     c .alike2 .ensures w
@@ -107,7 +112,7 @@ returns-2 c w =
 
 returns-3 : tie.Need-returns-3
 unfolding configOf frameOf
-returns-3 c w =
+returns-3 c queued turned w =
     let d = c .before .before in
     let s = from3 d in
     c .alike3 .ensures w
@@ -116,7 +121,7 @@ returns-3 c w =
     (sym (ap (Bool·beq (s .args .frame .flag)) (truth w d)) ∙ not-true _ (c .before .if3 .taken)))
 
 returns-4 : tie.Need-returns-4
-returns-4 c w =
+returns-4 c queued turned w =
     let d = c .before .before in
     let s = from4 d in
     c .alike4 .ensures w
@@ -125,25 +130,42 @@ returns-4 c w =
     (is-same w (d .before))
     (sym (waits w d) ∙ not-true _ (c .before .if4 .taken)))
 
--- the line of the region's guard
-line : (c : tie.After-waiters) →
+-- a waiter names its own region, so it stands in the line on that region's guard
+in-line : (c : tie.Else4) → let s = from4 (c .before) in
+    waitsOn (monitor s) (threadsOf (s .args .run .threads)) (guardAt (s .args .guard-of .now) (s .args .frame .region))
+    (s .args .frame .thread) ≡ true
+unfolding waitsOn frameOf configOf
+in-line c =
+    let s = from4 (c .before) in
+    waits-there (monitor s) (placesOf (s .args .run .threads .each) (s .args .frame .thread)) (s .args .frame .region)
+    (sym (at-region false (c .before .before .before .before .before .before))
+    ∙ not-false _ (c .before .before .before .before .before .if2 .left))
+    (sym (waits false (c .before)) ∙ not-false _ (c .if4 .left))
+
+-- and those ahead of it there are found by its turn
+ahead-here : (c : tie.After-line-ahead) → let s = from4 (c .before .before .before) in
+    Queued (s .args .run .threads) → Turned (s .args .run .threads)
+    → AheadOf (line (monitor s) (threadsOf (s .args .run .threads)) (guardAt (s .args .guard-of .now) (s .args .frame .region)))
+    (s .args .frame .thread) (c .line-ahead .result)
+unfolding waitsOn turnsOf idleThread
+ahead-here c queued turned =
     let s = from4 (c .before .before .before) in
-    (v : ℕ) → v < 16 → member (c .waiters .result) v
-    ≡ waitsOn (monitor s) (threadsOf (s .args .run .threads)) (guardAt (s .args .guard-of .now) (s .args .frame .region)) v
-unfolding waitsOn
-line c v h =
-    let s = from4 (c .before .before .before) in
-    let p = threadsOf (s .args .run .threads) in
+    let a = s .args in
+    let p = threadsOf (a .run .threads) in
+    let g = guardAt (a .guard-of .now) (a .frame .region) in
     let known = c .before .before .before .before .before .before .guard-at .ensures in
-    c .waiters .ensures v h
-    ∙ ap (λ (g : ℕ). onGuard (guardsOnly (s .args .guard-of .now)) g (p .place v)) known
-    ∙ sym
-    (guards-alone (s .args .holds .now) [] (s .args .guard-of .now) (s .args .begins .now) [] (s .args .regions)
-    (guardAt (s .args .guard-of .now) (s .args .frame .region)) (p .place v))
+    let q = queueOf (a .run .threads .order) (turnsOf (a .run .threads .each) (a .frame .thread)) in
+    ahead-of (monitor s) (a .run .threads) queued turned (a .frame .thread) g (s .pre) (in-line (c .before .before))
+    (c .line-ahead .result)
+    (λ u h. c .line-ahead .ensures u h
+    ∙ ap (λ (k : ℕ). has (those (waitsOn (guardsOnly (a .guard-of .now)) p k) q) u) known
+    ∙ ap (λ (l : List ℕ). has l u)
+    (those-same (waitsOn (guardsOnly (a .guard-of .now)) p g) (waitsOn (monitor s) p g) q
+    (λ v _. sym (guards-alone (a .holds .now) [] (a .guard-of .now) (a .begins .now) [] (a .regions) g (p .place v)))))
 
 returns-5 : tie.Need-returns-5
-unfolding configOf ofMachine
-returns-5 c w =
+unfolding configOf ofMachine firstNotified
+returns-5 c queued turned w =
     let x = c .before .before in
     let e = x .before .before in
     let s = from4 (e .before) in
@@ -153,15 +175,15 @@ returns-5 c w =
     each-machine
     (λ v n. n ≡ verdict true true true true (member (noticesIn v (a .run)) (a .frame .thread))
     (firstNotified (monitor s) p (member (noticesIn v (a .run))) g (a .frame .thread)))
-    (c .before .resumes .ensures (monitor s) p g (s .pre) (line x))
-    (c .resumes2 .ensures (monitor s) p g (s .pre) (line x)) w
+    (c .before .resumes .ensures (line (monitor s) p g) (ahead-here x queued turned))
+    (c .resumes2 .ensures (line (monitor s) p g) (ahead-here x queued turned)) w
     ∙ ap (λ (f : Bool). verdict true true true f (member (noticesIn w (a .run)) (a .frame .thread))
     (firstNotified (monitor s) p (member (noticesIn w (a .run))) g (a .frame .thread))) (sym (x .before .if5 .taken))
     ∙ sym (left-to-ask w e)
 
 returns-6 : tie.Need-returns-6
 unfolding configOf ofMachine
-returns-6 c w =
+returns-6 c queued turned w =
     let e = c .before .before .before in
     let s = from4 (e .before) in
     let a = s .args in

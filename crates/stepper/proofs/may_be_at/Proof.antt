@@ -5,9 +5,9 @@ use mathlib.Core.Bool.{Bool, _&&_}
 use mathlib.Core.List.{[]}
 use borrow.Author.Tests.{lt-ltb, le-ltb}
 use Rattle.machine.specs.Decide.Step.{mayBeAt}
-use Rattle.stepper.specs.Shown.{placeOf}
+use Rattle.threads.specs.Held.{placeOf}
 use Rattle.stepper.specs.Slices.{beginsAt, slices}
-use Rattle.stepper.specs.declared.Place.{Place}
+use Rattle.threads.specs.declared.Place.{Place}
 use Rattle.stepper.proofs.may_be_at.Statement.{statement}
 use Rattle.stepper.proofs.may_be_at.Tie as tie
 

@@ -3,10 +3,10 @@ use borrow.Author.Needs.{needs}
 use mathlib.Core.Path.{_∙_, sym, ap}
 use mathlib.Core.Bool.{Bool, _||_}
 use Rattle.sets.specs.Set.{member}
-use Rattle.machine.specs.Decide.Step.{onGuard}
-use Rattle.stepper.specs.Shown.{placeOf}
+use Rattle.machine.specs.Monitor.{onGuard}
+use Rattle.threads.specs.Held.{placeOf}
 use Rattle.stepper.specs.Slices.{guardsOnly}
-use Rattle.stepper.specs.declared.Place.{Place}
+use Rattle.threads.specs.declared.Place.{Place}
 use Rattle.stepper.proofs.Loops.{guard-one}
 use Rattle.stepper.proofs.met_with.Statement.{statement}
 use Rattle.stepper.proofs.met_with.Tie as tie

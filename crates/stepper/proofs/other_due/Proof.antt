@@ -7,7 +7,7 @@ use native.Mathlib.Omega.{arith}
 use lib.Dec.{eqb}
 use Rattle.logic.specs.Tests.{any}
 use Rattle.machine.specs.Decide.Step.{isDue}
-use Rattle.stepper.specs.Shown.{placesOf, idleThread}
+use Rattle.threads.specs.Held.{placesOf, idleThread}
 use Rattle.stepper.proofs.other_due.Statement.{statement}
 use Rattle.stepper.proofs.other_due.Tie as tie
 

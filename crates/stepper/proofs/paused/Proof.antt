@@ -8,7 +8,8 @@ use Rattle.machine.specs.Monitor.{Monitor, Config}
 use Rattle.machine.specs.Decide.Step.{Told, waited, rechecked, without}
 use Rattle.machine.proofs.Order.{same-refl}
 use Rattle.stepper.specs.declared.Run.{Run}
-use Rattle.stepper.specs.Shown.{ofMachine, Shows, placesOf, idleThread, frameOf}
+use Rattle.threads.specs.Held.{placesOf, idleThread}
+use Rattle.stepper.specs.Shown.{ofMachine, Shows, frameOf}
 use Rattle.stepper.specs.Slices.{configOf}
 use Rattle.stepper.specs.Parts.{nextBy}
 use borrow.Author.Needs.{needs}
@@ -21,7 +22,7 @@ next s w m told = nextBy m told (configOf w (s .args .run)) (frameOf (s .args .f
 
 -- the notices that are left
 used-up : (c : tie.After-without2) →
-    let a = c .before .before .before .before .before .before .args in
+    let a = c .before .before .before .before .before .before .before .args in
     (w : Bool) (u : ℕ) → member (ofMachine w (c .before .without .result) (c .without2 .result)) u
     ≡ not (eqb u (a .frame .thread)) && member (ofMachine w (a .run .plain) (a .run .table)) u
 unfolding ofMachine
@@ -30,8 +31,8 @@ used-up c true u = c .without2 .ensures u
 
 returns : tie.Need-returns
 unfolding nextBy frameOf configOf placesOf idleThread rechecked without
-returns c w m told =
-    let s = c .before .before .before .before .before .before in
+returns c queued turned w m told =
+    let s = c .before .before .before .before .before .before .before in
     let run = s .args .run in
     let after : Run = record {
       state = run .state;
@@ -44,13 +45,14 @@ returns c w m told =
     (record {
       state = refl;
       threads = same-refl;
+      turns = turned;
       notices = λ u h. used-up c w u;
     })
 
 returns-2 : tie.Need-returns-2
 unfolding nextBy frameOf configOf placesOf idleThread waited
-returns-2 c w m told =
-    let s = c .before .before .before .before .before in
+returns-2 c queued turned w m told =
+    let s = c .before .before .before .before .before .before in
     let run = s .args .run in
     let after : Run = record {
       state = run .state;
@@ -59,10 +61,12 @@ returns-2 c w m told =
       table = run .table;
     } in
     let waits = sym (c .before .before .is-waiting .ensures) ∙ c .before .if1 .left in
+    let began = c .begin-wait .ensures (s .pre) queued turned waits in
     subst (λ (b : Bool). Shows w after (next s w m told b)) (sym waits)
     (record {
       state = refl;
-      threads = c .begin-wait .ensures (s .pre);
+      threads = began .0;
+      turns = began .1;
       notices = λ u h. refl;
     })
 
@@ -70,5 +74,4 @@ pub paused-spec : {M : Type 1} → statement M
 paused-spec =
     tie.close
     (tie.spec (λ c. search needs) (λ c. search needs) (λ c. search needs) (λ c κs. search needs) (λ c. search needs)
-    (λ c κs. search needs) (λ c. search needs) (λ c κs. search needs) returns (λ c. search needs) (λ c κs. search needs)
-    returns-2)
+    (λ c κs. search needs) (λ c. search needs) (λ c κs. search needs) returns (λ c κs. search needs) returns-2)

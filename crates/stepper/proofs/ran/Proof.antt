@@ -1,22 +1,26 @@
 -- `stepper::ran` meets its contract: the look-ups and the calls are the parts of the point after a body, of each machine.
 use Prim.Native.Nat.{ℕ}
-use mathlib.Core.Path.{_≡_, refl, ap, _∙_, subst}
+use mathlib.Core.Path.{_≡_, refl, sym, ap, _∙_, subst}
 use mathlib.Core.Bool.{Bool, true, false, not, _&&_, _||_}
+use mathlib.Core.List.{List}
 use lib.Dec.{eqb}
 use borrow.Author.Needs.{needs}
 use Rattle.sets.specs.Set.{member}
 use Rattle.machine.specs.Monitor.{Place, Threads, SameThreads}
-use Rattle.machine.specs.Decide.Step.{ran, leave, without}
-use Rattle.stepper.specs.Shown.{ofMachine, threadsOf, frameOf}
-use Rattle.stepper.specs.Slices.{afterAt, followsAt, configOf}
-use Rattle.stepper.proofs.Agree.{told-alike}
+use Rattle.machine.specs.Decide.Step.{ran, leave, without, isWaiting}
+use Rattle.machine.specs.Queue.{has}
+use Rattle.queue.proofs.Lists.{queue-below}
+use Rattle.threads.specs.Held.{threadsOf}
+use Rattle.stepper.specs.Shown.{ofMachine, frameOf}
+use Rattle.stepper.specs.Slices.{afterAt, becomesAt, followsAt, newlyAt, configOf}
+use Rattle.stepper.proofs.Agree.{newly-alike, goes-on}
 use Rattle.stepper.proofs.ran.Statement.{statement}
 use Rattle.stepper.proofs.ran.Tie as tie
 
 -- the notices of a machine: those that are left, and those whom the body notifies
 renewed : (c : tie.After-union2) →
     let d = c .before .before .before .before in
-    let a = d .before .before .before .before .before .before .args in
+    let a = d .before .before .before .before .before .before .before .args in
     (w : Bool) (u : ℕ) → member (ofMachine w (c .before .before .union .result) (c .union2 .result)) u
     ≡ (not (eqb u (a .frame .thread)) && member (ofMachine w (a .run .plain) (a .run .table)) u)
     || member (ofMachine w (d .told .result .plain) (d .told .result .table)) u
@@ -31,33 +35,39 @@ renewed c true u =
     ∙ ap (λ (x : Bool). x || member (d .told .result .table) u) (c .before .without2 .ensures u)
 
 returns : tie.Need-returns
-unfolding ran without afterAt configOf frameOf
-returns c w =
+unfolding ran without afterAt newlyAt configOf frameOf
+returns c queued turned w =
     let d = c .before .before .before .before in
-    let l = d .before .before .before in
-    let a = l .before .before .before .args in
+    let l = d .before .before .before .before in
+    let s = l .before .before .before in
+    let a = s .args in
     let before : Threads = threadsOf (a .run .threads) in
     let after : Threads = leave before (a .frame .thread) (followsAt (a .goes-on .now) (a .frame .region)) in
-    let left : SameThreads (threadsOf (l .leave .result)) after =
-    subst (λ (q : Place). SameThreads (threadsOf (l .leave .result)) (leave before (a .frame .thread) q))
-    (l .before .behind .ensures) (l .leave .ensures (l .before .before .before .pre)) in
+    let known = l .before .behind .ensures in
+    let left = l .leave .ensures (s .pre) queued turned (ap isWaiting known ∙ goes-on (a .goes-on .now) (a .frame .region)) in
+    let same : SameThreads (threadsOf (l .leave .result)) after =
+    subst (λ (q : Place). SameThreads (threadsOf (l .leave .result)) (leave before (a .frame .thread) q)) known (left .0) in
+    let to = afterAt (a .after .now) (a .frame .region) (a .run .state) in
     record {
       state = refl;
-      threads = left;
+      threads = same;
+      turns = left .1;
       notices = λ u h.
           renewed c w u
           ∙ ap
           (λ (x : Bool). (not (eqb u (a .frame .thread)) && member (ofMachine w (a .run .plain) (a .run .table)) u) || x)
-          (d .told .ensures w u h
-          ∙ told-alike (a .holds .now) (a .guard-of .now) (a .entries .now) w
-          (afterAt (a .after .now) (a .frame .region) (a .run .state)) (threadsOf (l .leave .result)) after left
-          (a .frame .region) u h);
+          (d .told .ensures (left .2) w u h
+          ∙ newly-alike (a .guard-of .now) (a .entries .now) (member (d .before .made-true .result))
+          (becomesAt (a .holds .now) (a .run .state) to) (d .before .made-true .ensures)
+          (threadsOf (l .leave .result)) after same
+          (λ v k. queue-below (l .leave .result .order) (l .leave .result .waiting) v
+          (ap (λ (q : List ℕ). has q v) (same .same-queue) ∙ k)) w (a .frame .region) u h);
     }
 
 pub ran-spec : {M : Type 1} → statement M
 ran-spec =
     tie.close
-    (tie.spec (λ c. search needs) (λ c κs. search needs) (λ c κs. search needs) (λ c. search needs) (λ c. search needs)
-    (λ c. search needs) (λ c. search needs) (λ c. search needs) (λ c. search needs) (λ c κs. search needs)
+    (tie.spec (λ c κs. search needs) (λ c κs. search needs) (λ c. search needs) (λ c. search needs) (λ c. search needs)
+    (λ c. search needs) (λ c. search needs) (λ c. search needs) (λ c κs. search needs) (λ c κs. search needs)
     (λ c. search needs) (λ c κs. search needs) (λ c κs. search needs) (λ c. search needs) (λ c κs. search needs)
     (λ c κs. search needs) returns)

@@ -1,55 +1,54 @@
--- `stepper::resumes` meets its contract: a notice, and the lowest of those notified in the line is not below t.
+-- `stepper::resumes` meets its contract: a notice, and no lowest one among those ahead that have one, so none at all.
 use Prim.Native.Nat.{ℕ, _<_}
 use mathlib.Core.Path.{_≡_, sym, ap, ap₂, _∙_}
-use mathlib.Core.Bool.{Bool, true, _&&_}
-use lib.Dec.{leb}
+use mathlib.Core.Bool.{Bool, true, false}
+use native.Mathlib.Omega.{arith}
 use borrow.Author.Needs.{needs}
-use borrow.Author.Tests.{le-leb, lt-leb, not-true, not-false}
+use borrow.Author.Tests.{not-true, not-false}
 use Rattle.sets.specs.Set.{member}
-use Rattle.machine.specs.Monitor.{Threads, Monitor}
-use Rattle.machine.specs.Decide.Step.{waitsOn, firstNotified}
+use Rattle.logic.proofs.Bools.{both, and}
+use Rattle.machine.specs.Decide.Step.{firstIn}
 use Rattle.stepper.specs.Parts.{verdict}
-use Rattle.stepper.proofs.Front.{lowest-first}
+use Rattle.stepper.proofs.Front.{first-free, first-taken}
 use Rattle.stepper.proofs.resumes.Statement.{statement}
 use Rattle.stepper.proofs.resumes.Tie as tie
 
 returns : tie.Need-returns
 unfolding verdict
-returns c m p g h e =
+returns c line ahead =
     let a = c .before .before .args in
     sym
-    (ap (λ (n : Bool). verdict true true true true n (firstNotified m p (member (a .notified)) g (a .t)))
+    (ap (λ (n : Bool). verdict true true true true n (firstIn line (member (a .notified)) (a .t)))
     (sym (c .before .has .ensures) ∙ not-true _ (c .if1 .taken)))
-
--- by the tests on the way
-asked : (c : tie.After-lowest) →
-    let a = c .before .before .before .before .args in
-    (m : Monitor) (p : Threads) (g : ℕ) → a .t < 16 → ((v : ℕ) → v < 16 → member (a .line) v ≡ waitsOn m p g v)
-    → verdict true true true true (member (a .notified) (a .t)) (firstNotified m p (member (a .notified)) g (a .t))
-    ≡ verdict true true true true true (leb (a .t) (c .lowest .result))
-asked c m p g h e =
-    let a = c .before .before .before .before .args in
-    ap₂ (λ (n f : Bool). verdict true true true true n f)
-    (sym (c .before .before .before .has .ensures) ∙ not-false _ (c .before .before .if1 .left))
-    (lowest-first m p (member (a .notified)) g
-    (record { least = c .lowest .ensures .0; found = c .lowest .ensures .1 .0 })
-    (λ v l. c .before .both .ensures v ∙ ap (λ (b : Bool). b && member (a .notified) v) (e v l)) (a .t) h)
 
 returns-2 : tie.Need-returns-2
 unfolding verdict
-returns-2 c m p g h e =
+returns-2 c line ahead =
+    let l = c .before in
+    let a = l .before .before .before .before .args in
     sym
-    (asked (c .before) m p g h e
-    ∙ ap (λ (f : Bool). verdict true true true true true f) (le-leb _ _ (c .if2 .taken)))
+    (ap₂ (λ (n f : Bool). verdict true true true true n f)
+    (sym (l .before .before .before .has .ensures) ∙ not-false _ (l .before .before .if1 .left))
+    (first-free ahead (member (a .notified))
+    (λ u h k b. l .lowest .ensures .0 u (omega arith)
+    (l .before .both .ensures u ∙ and k b))))
 
 returns-3 : tie.Need-returns-3
 unfolding verdict
-returns-3 c m p g h e =
+returns-3 c line ahead =
+    let l = c .before in
+    let a = l .before .before .before .before .args in
+    let low = l .lowest .result in
+    let small : low < 16 = omega (arith, l .lowest .ensures .1 .1, c .if2 .left) in
+    let x = both (member (a .ahead) low) (member (a .notified) low)
+    (sym (l .before .both .ensures low) ∙ l .lowest .ensures .1 .0 small) in
     sym
-    (asked (c .before) m p g h e
-    ∙ ap (λ (f : Bool). verdict true true true true true f) (lt-leb _ _ (c .if2 .left)))
+    (ap₂ (λ (n f : Bool). verdict true true true true n f)
+    (sym (l .before .before .before .has .ensures) ∙ not-false _ (l .before .before .if1 .left))
+    (first-taken ahead (member (a .notified)) low small (x .0) (x .1)))
 
 pub resumes-spec : {M : Type 1} → statement M
 resumes-spec =
     tie.close
-    (tie.spec (λ c κs. search needs) returns (λ c κs. search needs) (λ c κs. search needs) returns-2 returns-3)
+    (tie.spec (λ c κs. search needs) returns (λ c κs. search needs) (λ c κs. search needs) (λ c. search needs) returns-2
+    returns-3)

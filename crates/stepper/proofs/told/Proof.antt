@@ -1,78 +1,156 @@
--- `stepper::told` meets its contract. The invariant: of the threads below u each set has those whom its machine notifies,
--- and `met` has the guards that some thread below u waits on, so a waiter whose guard is not met is next in line.
-use Prim.Native.Nat.{ℕ, _-_, _≤_, _<_}
-use mathlib.Core.Path.{_≡_, refl, _∙_, sym, ap}
-use mathlib.Core.Bool.{Bool, true, false, _||_}
+-- `stepper::told` meets its contract. The invariant: of the first k of the queue each set has those whom its machine notifies
+-- anew, and `met` has the guards made true that one of them waits on, so a waiter whose guard is not met is next in line.
+use Prim.Native.Nat.{ℕ, _+_, _-_, _/_, _%_, _≤_, _<_}
+use mathlib.Core.Path.{_≡_, refl, _∙_, sym, ap, ap₂, subst}
+use mathlib.Core.Bool.{Bool, true, false, _&&_, _||_}
 use mathlib.Core.Logic.{inl, inr, ⊎-elim}
+use mathlib.Core.List.{List}
 use native.Mathlib.Numerals.{add-one}
 use native.Mathlib.Omega.{arith}
 use borrow.Author.Needs.{needs}
 use Rattle.sets.specs.Set.{member}
 use Rattle.sets.proofs.SetLaws.{member-none}
-use Rattle.machine.specs.Monitor.{Threads}
-use Rattle.logic.specs.Tests.{any}
-use Rattle.machine.specs.Decide.Step.{onGuard, plainTold}
-use Rattle.stepper.specs.Shown.{placesOf, threadsOf, idleThread}
-use Rattle.stepper.specs.Slices.{guardsOnly, toldAt}
+use Rattle.logic.proofs.Bools.{is-false, clash, and}
+use Rattle.machine.specs.Monitor.{Threads, waitsOn, threads}
+use Rattle.machine.specs.Queue.{has, those, joined}
+use Rattle.machine.specs.Arrival.{Once}
+use Rattle.machine.specs.Decide.Step.{isWaiting}
+use Rattle.queue.specs.Packed.{queueOf, behindOf}
+use Rattle.queue.proofs.Lists.{queue-next, behind-next}
+use Rattle.threads.specs.declared.Thread.{Thread}
+use Rattle.threads.specs.Held.{placesOf, threadsOf, idleThread}
+use Rattle.stepper.specs.Slices.{guardsOnly, onOne, toldBehind, newFirst, newlyIn}
 use Rattle.stepper.proofs.Machines.{each-machine}
-use Rattle.stepper.proofs.Loops.{Gathered, gather-none, gather-turn, gather-all, Alone, with-one}
-use Rattle.stepper.proofs.Loops.{alone-next}
-use Rattle.stepper.proofs.Front.{told-met, own-met}
+use Rattle.stepper.proofs.Loops.{Gathered, gather-none, gather-turn}
+use Rattle.stepper.proofs.Front.{some, told-met, seen-more, other-guard, on-one-waits, new-first-waits, none-on}
 use Rattle.stepper.proofs.told.Statement.{statement}
 use Rattle.stepper.proofs.told.Tie as tie
 
+-- the threads that the loop goes through
+abbrev known : List Thread → ℕ → ℕ → Threads
+known each order waiting = record { place = placesOf each; queue = queueOf order waiting }
+
 abbrev Inv-loop : tie.InvT-loop
-Inv-loop guard-of holds state entries region threads truth plain₀ table₀ met₀ one₀ u₀ plain table met one u =
-    (u ≤ 16)
-    × Gathered plain u (toldAt holds guard-of entries false state (threadsOf threads) region)
-    × Gathered table u (toldAt holds guard-of entries true state (threadsOf threads) region)
-    × ((g : ℕ) → member met g ≡ any u (λ v. onGuard (guardsOnly guard-of) g (placesOf threads v)))
-    × Alone one u
+Inv-loop guard-of newly entries region plain₀ table₀ each waiting met₀ rest₀ k₀ plain table met rest k =
+    (k ≤ waiting)
+    × (rest ≡ behindOf rest₀ k)
+    × Gathered plain (queueOf rest₀ k) (λ v. onOne guard-of (member newly) (placesOf each v))
+    × (Once (queueOf rest₀ waiting) → Gathered table (queueOf rest₀ k)
+    (λ v. newFirst guard-of entries (member newly) (known each rest₀ waiting) region v (placesOf each v)))
+    × ((g : ℕ) → member newly g ≡ true
+    → member met g ≡ some (those (waitsOn (guardsOnly guard-of) (known each rest₀ waiting) g) (queueOf rest₀ k)))
 
 abbrev μ-loop : tie.MeasureT-loop
-μ-loop guard-of holds state entries region threads truth plain₀ table₀ met₀ one₀ u₀ plain table met one u = 16 - u
+μ-loop guard-of newly entries region plain₀ table₀ each waiting met₀ rest₀ k₀ plain table met rest k = waiting - k
 
 loop-holds : tie.Need-loop-holds Inv-loop μ-loop
-unfolding any
-loop-holds c = (omega arith, gather-none, gather-none, λ g. member-none g, record { power = λ h. refl })
+unfolding behindOf queueOf those some
+loop-holds c = (omega arith, refl, gather-none, λ o. gather-none, λ g h. member-none g)
 
 loop-again : tie.Need-loop-again Inv-loop μ-loop
-unfolding placesOf idleThread any toldAt plainTold
+unfolding placesOf idleThread waitsOn
 loop-again c =
-    let d = c .before .before .before in
+    let d = c .before in
     let loop = d .before .before .before .before .loop in
-    let a = d .before .before .before .before .before .before .args in
-    let known : Threads = threadsOf (a .t1) in
-    let waits : ℕ → ℕ → Bool = λ g v. onGuard (guardsOnly (a .guard-of .now)) g (known .place v) in
-    let alone = loop .inv .4 in
-    let own = own-met (a .holds .now) (a .guard-of .now) (a .state) (known .place (loop .u)) in
-    let told = told-met (a .holds .now) (a .guard-of .now) (a .entries .now) (a .state) (a .region) (loop .met) known
-    (loop .u) (omega arith) (loop .inv .3) in (
+    let a = d .before .before .before .before .before .before .before .args in
+    let gs = a .guard-of .now in
+    let es = a .entries .now in
+    let asked : ℕ → Bool = member (a .newly) in
+    let o = a .threads .order in
+    let p : Threads = threadsOf (a .threads) in
+    let u = d .before .before .first .result in
+    let new : ℕ → Bool = λ v. newFirst gs es asked p (a .region) v (p .place v) in
+    let who : u ≡ behindOf o (loop .k) % 16 =
+    d .before .before .first .ensures ∙ ap (λ (n : ℕ). n % 16) (loop .inv .1) in
+    let seen : joined (queueOf o (loop .k)) u ≡ queueOf o (loop .k + 1) =
+    ap (joined (queueOf o (loop .k))) who ∙ sym (queue-next o (loop .k)) ∙ ap (queueOf o) (sym (add-one (loop .k))) in
+    let met-new : Once (queueOf o (a .threads .waiting))
+    → onOne gs asked (p .place u) && toldBehind gs es (a .region) (loop .met) (p .place u) ≡ new u =
+    λ once. told-met gs es asked (a .region) (loop .met) p o (a .threads .waiting) (loop .k) u (omega arith) who refl once
+    (loop .inv .4) in (
       omega arith,
-      gather-turn (loop .inv .1) (omega arith) (d .before .own-holds .ensures ∙ own)
+      ap (λ (n : ℕ). n / 16) (loop .inv .1) ∙ sym (behind-next o (loop .k)) ∙ ap (behindOf o) (sym (add-one (loop .k))),
+      subst (λ (l : List ℕ). Gathered (c .if2 .plain) l (λ v. onOne gs asked (p .place v))) seen
+          (gather-turn (loop .inv .2) (omega arith) (d .waits-on-one .ensures)
+          (⊎-elim (λ w. inl (w .0 .taken, λ v. ap (λ (n : ℕ). member n v) (w .5) ∙ w .1 .ensures v))
+          (λ w. inr (w .0 .left, w .1)) (c .if2 .came))),
+      λ once. subst (λ (l : List ℕ). Gathered (c .if2 .table) l new) seen
+          (gather-turn (loop .inv .3 once) (omega arith) refl
           (⊎-elim
-          (λ w. inl (w .0 .taken, with-one _ _ alone (omega arith) (λ v. ap (λ (n : ℕ). member n v) (w .2) ∙ w .1 .ensures v)))
-          (λ w. inr (w .0 .left, w .1)) (d .if1 .came)),
-      gather-turn (loop .inv .2) (omega arith) (c .before .before .entry-acts .ensures ∙ told)
-          (⊎-elim
-          (λ w. inl (w .0 .taken, with-one _ _ alone (omega arith) (λ v. ap (λ (n : ℕ). member n v) (w .2) ∙ w .1 .ensures v)))
-          (λ w. inr (w .0 .left, w .1)) (c .before .if2 .came)),
-      λ g. c .met-with .ensures g ∙ ap (λ (b : Bool). waits g (loop .u) || b) (loop .inv .3 g)
-          ∙ ap (λ (k : ℕ). any k (waits g)) (sym (add-one (loop .u))),
-      alone-next alone (omega arith),
+          (λ w.
+          let on : onOne gs asked (p .place u) ≡ true = sym (d .waits-on-one .ensures) ∙ w .0 .taken in
+          ⊎-elim
+          (λ x. inl (
+            sym (met-new once) ∙ and on (sym (w .2 .ensures) ∙ x .0 .taken),
+            λ v. ap (λ (n : ℕ). member n v) (w .6 ∙ x .2) ∙ x .1 .ensures v,
+          ))
+          (λ x. inr (
+            sym (met-new once) ∙ ap₂ (λ (y z : Bool). y && z) on (sym (w .2 .ensures) ∙ x .0 .left),
+            w .6 ∙ x .1,
+          ))
+          (w .3 .came))
+          (λ w. inr (
+            sym (met-new once) ∙ ap (λ (y : Bool). y && toldBehind gs es (a .region) (loop .met) (p .place u))
+                (sym (d .waits-on-one .ensures) ∙ w .0 .left),
+            w .2,
+          ))
+          (c .if2 .came))),
+      λ g h. ⊎-elim
+          (λ w. ap (λ (n : ℕ). member n g) (w .7) ∙ w .4 .ensures g
+          ∙ ap (λ (y : Bool). waitsOn (guardsOnly gs) p g u || y) (loop .inv .4 g h))
+          (λ w. ap (λ (n : ℕ). member n g) (w .3) ∙ loop .inv .4 g h
+          ∙ ap (λ (y : Bool). y || some (those (waitsOn (guardsOnly gs) p g) (queueOf o (loop .k))))
+          (sym (other-guard gs asked g (p .place u) h (sym (d .waits-on-one .ensures) ∙ w .0 .left))))
+          (c .if2 .came)
+          ∙ sym (seen-more (waitsOn (guardsOnly gs) p g) (queueOf o (loop .k)) u)
+          ∙ ap (λ (l : List ℕ). some (those (waitsOn (guardsOnly gs) p g) l)) seen,
     )
 
+-- no guard is made true, so nobody is told
 returns : tie.Need-returns Inv-loop μ-loop
-returns c =
+unfolding newlyIn
+returns c queued =
+    let a = c .before .args in
+    let none : (u : ℕ) →
+    let q = placesOf (a .threads .each) u in
+    (onOne (a .guard-of .now) (member (a .newly)) q ≡ false)
+    × (newFirst (a .guard-of .now) (a .entries .now) (member (a .newly)) (threadsOf (a .threads)) (a .region) u q ≡ false) =
+    λ u. none-on (a .guard-of .now) (a .entries .now) (member (a .newly)) (threadsOf (a .threads)) (a .region) u
+    (placesOf (a .threads .each) u) (λ g. ap (λ (n : ℕ). member n g) (c .if1 .taken) ∙ member-none g) in
+    each-machine
+    (λ w n. (u : ℕ) → u < 16 → member n u
+    ≡ newlyIn (a .guard-of .now) (a .entries .now) (member (a .newly)) w (threadsOf (a .threads)) (a .region) u)
+    (λ u h. member-none u ∙ sym (none u .0)) (λ u h. member-none u ∙ sym (none u .1))
+
+-- who is told waits, so all of them are in the queue
+all-seen : (a b : Bool) → (b ≡ true → a ≡ true) → a && b ≡ b
+all-seen true b h = refl
+all-seen false b h = sym (is-false (λ q. clash (h q) refl))
+
+returns-2 : tie.Need-returns-2 Inv-loop μ-loop
+unfolding newlyIn threads
+returns-2 c queued =
     let l = c .before .loop in
-    let a = c .before .before .before .args in
-    each-machine (λ w n. (u : ℕ) → u < 16 → member n u
-    ≡ toldAt (a .holds .now) (a .guard-of .now) (a .entries .now) w (a .state) (threadsOf (a .t1)) (a .region) u)
-    (gather-all (l .inv .1) (omega arith)) (gather-all (l .inv .2) (omega arith))
+    let a = c .before .before .before .before .args in
+    let gs = a .guard-of .now in
+    let es = a .entries .now in
+    let asked : ℕ → Bool = member (a .newly) in
+    let p : Threads = threadsOf (a .threads) in
+    let end : l .k ≡ a .threads .waiting = let z : a .threads .waiting ≤ l .k = c .loop-test .left in omega arith in
+    let whole : (f : Bool) (u : ℕ) → u < 16 → (f ≡ true → isWaiting (p .place u) ≡ true)
+    → has (queueOf (a .threads .order) (l .k)) u && f ≡ f =
+    λ f u h w. ap (λ (k : ℕ). has (queueOf (a .threads .order) k) u && f) end
+    ∙ all-seen (has (p .queue) u) f (λ q. queued .waits u h ∙ w q) in
+    each-machine
+    (λ w n. (u : ℕ) → u < 16 → member n u ≡ newlyIn gs es asked w p (a .region) u)
+    (λ u h. l .inv .2 .each u h ∙ whole (onOne gs asked (p .place u)) u h (on-one-waits gs asked (p .place u)))
+    (λ u h. l .inv .3 (queued .once) .each u h
+    ∙ whole (newFirst gs es asked p (a .region) u (p .place u)) u h
+    (new-first-waits gs es asked p (a .region) u (p .place u)))
 
 pub told-spec : {M : Type 1} → statement M
 told-spec =
     tie.close
-    (tie.spec Inv-loop μ-loop (λ c. search needs) (λ c. search needs) (λ c. search needs) loop-holds (λ c. omega arith)
-    (λ c. omega arith) (λ c κs. tt) (λ c κs. tt) (λ c κs. tt) (λ c κs. tt) (λ c κs. tt) (λ c. omega arith)
-    (λ c. omega arith) (λ c. omega arith) loop-again returns)
+    (tie.spec Inv-loop μ-loop returns loop-holds (λ c κs. tt) (λ c. search needs) (λ c. omega arith) (λ c. omega arith)
+    (λ c κs. tt) (λ c. search needs) (λ c κs. tt) (λ c κs. tt) (λ c. search needs) (λ c κs. tt) (λ c κs. tt)
+    (λ c. omega arith) (λ c. omega arith) loop-again returns-2)

@@ -10,11 +10,11 @@ use Rattle.threads.proofs.begin_wait.Tie as tie
 
 returns : tie.Need-returns
 unfolding placeOf
-returns c m h lined turned idle =
+returns c h lined turned idle =
     let a = c .before .before .before .args in
     let puts = puts-known (mod-eq-of-lt h) (c .before .put .ensures) in (
-      began-shows m (a .threads) lined turned (a .t) h idle (a .region) _ puts (c .joined .ensures) refl,
-      began-turned m (a .threads) lined turned (a .t) h idle (a .region) _ puts (c .joined .ensures) refl,
+      began-shows (a .threads) lined turned (a .t) h idle (a .region) _ puts (c .joined .ensures) refl,
+      began-turned (a .threads) lined turned (a .t) h idle (a .region) _ puts (c .joined .ensures) refl,
     )
 
 pub begin-wait-spec : {M : Type 1} → statement M

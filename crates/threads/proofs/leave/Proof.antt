@@ -12,25 +12,27 @@ use Rattle.queue.specs.Packed.{queueOf, leftBy}
 use Rattle.threads.specs.declared.Threads.{Threads}
 use Rattle.threads.specs.Held.{placeOf, placesOf, turnsOf, idleThread, between}
 use Rattle.threads.proofs.Replaced.{puts-known}
-use Rattle.threads.proofs.Changed.{passed-shows, passed-turned, left-shows, left-turned}
+use Rattle.threads.proofs.Changed.{passed-shows, passed-turned, passed-queued}
+use Rattle.threads.proofs.Changed.{left-shows, left-turned, left-queued}
 use Rattle.threads.proofs.leave.Statement.{statement}
 use Rattle.threads.proofs.leave.Tie as tie
 
 returns : tie.Need-returns
 unfolding placesOf idleThread
-returns c m h lined turned goes-on =
+returns c h lined turned goes-on =
     let a = c .before .before .before .before .before .args in
     let puts = puts-known (mod-eq-of-lt h) (c .before .before .put .ensures) in
     let idle : isWaiting (placesOf (a .threads .each) (a .t)) ≡ false =
     ap (λ (t : ℕ). isWaiting (placesOf (a .threads .each) t)) (sym (mod-eq-of-lt h))
     ∙ sym (c .before .is-waiting .ensures) ∙ not-true _ (c .if1 .taken) in (
-      passed-shows m (a .threads) lined turned (a .t) h (placeOf (a .place)) goes-on _ puts _ idle refl refl refl,
-      passed-turned m (a .threads) lined turned (a .t) h (placeOf (a .place)) goes-on _ puts _ idle refl refl refl,
+      passed-shows (a .threads) lined turned (a .t) h (placeOf (a .place)) goes-on _ puts _ idle refl refl refl,
+      passed-turned (a .threads) lined turned (a .t) h (placeOf (a .place)) goes-on _ puts _ idle refl refl refl,
+      passed-queued (a .threads) lined turned (a .t) h (placeOf (a .place)) goes-on _ puts _ idle refl refl refl,
     )
 
 returns-2 : tie.Need-returns-2
 unfolding placesOf idleThread turnsOf
-returns-2 c m h lined turned goes-on =
+returns-2 c h lined turned goes-on =
     let d = c .before .before .before in
     let a = d .before .before .before .before .before .args in
     let puts = puts-known (mod-eq-of-lt h) (d .before .before .put .ensures) in
@@ -56,9 +58,11 @@ returns-2 c m h lined turned goes-on =
       order = c .before .before .left .result;
       waiting = c .before .fewer .result;
     } in (
-      left-shows m (a .threads) lined turned (a .t) h (placeOf (a .place)) goes-on (d .before .before .put .result) puts after
+      left-shows (a .threads) lined turned (a .t) h (placeOf (a .place)) goes-on (d .before .before .put .result) puts after
           waits order (c .before .fewer .ensures) (c .closed-up .ensures .0) turns,
-      left-turned m (a .threads) lined turned (a .t) h (placeOf (a .place)) goes-on (d .before .before .put .result) puts after
+      left-turned (a .threads) lined turned (a .t) h (placeOf (a .place)) goes-on (d .before .before .put .result) puts after
+          waits order (c .before .fewer .ensures) (c .closed-up .ensures .0) turns,
+      left-queued (a .threads) lined turned (a .t) h (placeOf (a .place)) goes-on (d .before .before .put .result) puts after
           waits order (c .before .fewer .ensures) (c .closed-up .ensures .0) turns,
     )
 
