@@ -4,19 +4,25 @@ use Rattle.machine.specs.Agreement as agreement
 use Prim.Native.Nat.{ℕ, _<_, zero, suc, _+_, _*_, _/_, _%_}
 use native.Mathlib.Omega.{arith}
 use mathlib.Core.Path.{_≡_, refl, sym, subst, ap, _∙_}
-use mathlib.Core.Bool.{Bool, true, false}
+use mathlib.Core.Bool.{Bool, true, false, false≢true}
 use mathlib.Core.Logic.{_⊎_, inl, inr, ⊎-elim, _↔_}
-use mathlib.Core.List.{List, _∷_, []}
-use lib.ListN.{getElem?}
+use mathlib.Core.List.{List, _∷_, [], _++_}
+use lib.ListN.{getD, getElem?}
 use Rattle.syntax.specs.Tree.{Monitor}
 use Rattle.syntax.proofs.Grammar.{one-cond}
-use Rattle.machine.specs.Monitor.{Frame, Config, Run, stopped, threads, Place, idle, waiting, Threads, SameThreads}
-use Rattle.machine.specs.Rules.{Waits, First}
-use Rattle.machine.proofs.Order.{ahead-same}
+use Rattle.machine.specs.Monitor.{Frame, Config, Run, stopped, allIdle, threads, Place, waiting, Threads, turn, line}
+use Rattle.machine.specs.Rules.{Notices, Rules, Waits, Waiting, Front}
+use Rattle.machine.specs.Arrival.{Lined}
+use Rattle.machine.specs.Agreement.{Checked}
+use Rattle.machine.specs.Decide.Step.{isWaiting}
+use Rattle.machine.proofs.Order.{waiting-iff}
+use Rattle.machine.proofs.Rechecks.{waiting-paused}
+use Rattle.machine.proofs.Reached.{start-reached, rules-reached}
+use Rattle.machine.proofs.Turns.{first-by-turn}
 use Rattle.machine.proofs.RulesDecided.{refuses-number}
-use Rattle.logic.proofs.Bools.{no-some}
+use Rattle.logic.proofs.Bools.{no-some, different}
 use Rattle.machine.specs.Agreement.{SamePoint, Agrees, plainRun, tableRun}
-use Rattle.machine.specs.Recheck.{Recheck}
+use Rattle.machine.specs.Recheck.{Recheck, LastOf, Paused, SentLast00}
 use Rattle.machine.proofs.Agreement.{agrees, same-without-rechecks, table-accepts}
 use Rattle.meaning.specs.State.{stateAt}
 use Rattle.meaning.specs.Answer.{answer, accepted}
@@ -25,11 +31,11 @@ use Rattle.meaning.specs.Model.{vars, kept, model, guardOf, holds}
 use Rattle.meaning.specs.Calls.{Machine, plain-machine, table-machine, Startable}
 use Rattle.meaning.specs.Bits.{eachFrom, bits}
 use Rattle.meaning.proofs.Each.{each-first}
-use Rattle.meaning.specs.Calls.{Record, threadsOf, recordOf, Running, ran, not-run}
+use Rattle.meaning.specs.Calls.{Record, recordOf, Running, ran, not-run, noticesOf}
 use Rattle.meaning.specs.Decide.Calls.{place, toldBy, runningOf, runList, running}
 use Rattle.meaning.specs.Accepted.{Accepted}
 use Rattle.meaning.proofs.ModelLaws.{holds-guard, startable-iff}
-use Rattle.meaning.specs.Trace.{FrameRecords, linesOf}
+use Rattle.meaning.specs.Trace.{IsFrameRecord, FrameRecords, no-frame, one-frame, linesOf}
 use Rattle.meaning.proofs.Verdicts.{refusal-number, accepted-iff}
 use mathlib.Core.Option.{some, Option·some-injective}
 use Rattle.sets.specs.Set.{member}
@@ -82,10 +88,12 @@ answer-of m (stopped a k) = refl
 
 same-records : (m : Monitor) (c d : Config) → SamePoint (model m) d c
     → (recordOf m d .values ≡ recordOf m c .values) × (recordOf m d .places ≡ recordOf m c .places)
+    × (recordOf m d .turns ≡ recordOf m c .turns)
 unfolding recordOf
 same-records m c d p = (
   ap (stateAt (vars m)) (p .same-state),
   ap (λ (q : Threads). eachFrom threads 0 (q .place)) (p .same-threads),
+  ap (λ (q : Threads). eachFrom threads 0 (turn q)) (p .same-threads),
 )
 
 module _ (file bytes : List ℕ) (s : ℕ) where
@@ -126,7 +134,7 @@ module _ (file bytes : List ℕ) (s : ℕ) where
   same-answers (all-allowed a h r e t) = on-frames-agree a h r e
 
   records : {b : Record} → RunsAs file bytes s table-machine (ran b)
-      → (a : Record) × (plain ≡ ran a) × (a .values ≡ b .values) × (a .places ≡ b .places)
+      → (a : Record) × (plain ≡ ran a) × (a .values ≡ b .values) × (a .places ≡ b .places) × (a .turns ≡ b .turns)
   records (all-allowed {m} {fs} {c} a h r e t) =
       let x = accepted-by-table file m (accepted-iff file m .1 a) s (startable-iff m s .1 h) fs c
       (follows-rules m table-machine .accepts s fs c .1 t) in
@@ -136,6 +144,7 @@ module _ (file bytes : List ℕ) (s : ℕ) where
             (all-allowed a h r e (follows-rules m plain-machine .accepts s fs (x .0) .0 (x .1))),
         same .0,
         same .1,
+        same .2,
       )
 
   pub same-running : SameRunning file bytes s
@@ -199,40 +208,64 @@ module _ (m : Monitor) (c : Config) where
       bit-at (eachFrom threads 0 (c .notified)) u (c .notified u)
       (each-at threads 0 (c .notified) u h ∙ ap some (ap (c .notified) (omega arith)))
 
-  -- the record says of all threads what the point does
-  record-threads : SameThreads (threadsOf (recordOf m c)) (c .threads)
+  turn-listed : (u : ℕ) → u < threads → getD (recordOf m c .turns) u 0 ≡ turn (c .threads) u
   unfolding recordOf
-  record-threads = record {
-    same-place = λ u h. each-first threads (c .threads .place) u idle h;
-  }
+  turn-listed u h = each-first threads (turn (c .threads)) u 0 h
 
-  is-next : (u r : ℕ) → FirstWaiter m (recordOf m c) u r
-      → (u < threads) × Waits (model m) (c .threads) (guardOf m r) u
-      × First (model m) (c .threads) (Waits (model m) (c .threads) (guardOf m r)) u
-      × (holds m (guardOf m r) (c .state) ≡ true)
-  unfolding Waits First model recordOf
-  is-next u r w =
+  -- where those who wait are sixteen at most, the first waiter of the record stands at the front of its line
+  is-next : Lined (model m) (c .threads) → ((v : ℕ) → Waiting (model m) (c .threads .place v) → v < threads)
+      → (u r : ℕ) → FirstWaiter m (recordOf m c) u r
+      → (u < threads) × Front (line (model m) (c .threads) (guardOf m r)) u × (holds m (guardOf m r) (c .state) ≡ true)
+  unfolding Waits Waiting model recordOf
+  is-next lined below u r w =
       let x = thread-place u (waiting r) (w .waits) in (
         x .0,
-        (r, x .1, refl),
-        λ v l y a.
-            let first = ahead-same record-threads v u l (x .0) ∙ a in
-            w .none-ahead v (y .0) first (place-listed v l ∙ ap some (y .1)) (y .2),
+        first-by-turn (model m) lined (guardOf m r) u (r, x .1, refl)
+            (λ v y l.
+            let h = below v (y .0, y .1) in
+            w .none-ahead v (y .0) (place-listed v h ∙ ap some (y .1)) (y .2)
+            (omega (arith, l, turn-listed v h, turn-listed u (x .0)))),
         holds-guard m one-cond r (c .state) ∙ w .guard,
       )
+
+-- who waits has sent a frame, so it is one of sixteen
+frame-below : {fs : List Frame} {t : ℕ} {e : Frame} → LastOf fs t e → FrameRecords fs → t < 16
+unfolding IsFrameRecord
+frame-below {fs} {t} {e} l r = go fs (l .earlier) (l .splits) r
+  where
+    go : (fs earlier : List Frame) → fs ≡ earlier ++ (e ∷ l .later) → FrameRecords fs → t < 16
+    go [] [] q no-frame = different cc
+    go [] (x ∷ y) q no-frame = different cc
+    go (f ∷ fs) [] q (one-frame i h) =
+        let z : f ≡ e = cc in
+        let n : f .thread ≡ t = ap (λ (x : Frame). x .thread) z ∙ l .sent in
+        let k = i .0 in omega arith
+    go (f ∷ fs) (x ∷ y) q (one-frame i h) = let z : fs ≡ y ++ (e ∷ l .later) = cc in go fs y z h
+
+waiters-below : (m : Monitor) (ok : Checked (model m)) (notices : Notices) (s : ℕ) (fs : List Frame) (c : Config)
+    → Rules (model m) notices (allIdle s) fs c → FrameRecords fs
+    → (u : ℕ) → Waiting (model m) (c .threads .place u) → u < 16
+unfolding Waiting Paused SentLast00 allIdle isWaiting
+waiters-below m ok notices s fs c rules records u w =
+    ⊎-elim (λ x. frame-below (x .1) records) (λ x. absurd (false≢true (x .1)))
+    (waiting-paused (model m) (ok .leaves) notices rules u (waiting-iff (c .threads .place u) .1 w))
 
 module _ (file bytes : List ℕ) (s : ℕ) where
   notified-by : {b : Record} → RunsAs file bytes s table-machine (ran b) → (m : Monitor) → check file ≡ accepted m
       → (u r : ℕ)
       → FirstWaiter m b u r → member (b .notified) u ≡ true
-  unfolding model
+  unfolding model threads
   notified-by (all-allowed {m = m₀} {fs} {c} a h f e t) m q u r w =
       let p = accepted-iff file m₀ .1 a in
       let same : m ≡ m₀ = cc in
       let y = accepted-by-table file m₀ p s (startable-iff m₀ s .1 h) fs c
       (follows-rules m₀ table-machine .accepts s fs c .1 t) in
-      let x = is-next m₀ c u r (subst (λ (n : Monitor). FirstWaiter n (recordOf m₀ c) u r) same w) in
-      in-set m₀ c u (x .0) ∙ y .2 .next-notified (guardOf m₀ r) u (x .3) (x .1) (x .2)
+      let ok = checked file m₀ p in
+      let kept = startable-iff m₀ s .1 h in
+      let reached = rules-reached (model m₀) ok (noticesOf m₀ table-machine) t (start-reached (model m₀) s kept) in
+      let x = is-next m₀ c (reached .lined) (waiters-below m₀ ok (noticesOf m₀ table-machine) s fs c t f) u r
+      (subst (λ (n : Monitor). FirstWaiter n (recordOf m₀ c) u r) same w) in
+      in-set m₀ c u (x .0) ∙ y .2 .next-notified (guardOf m₀ r) u (x .2) (x .1)
 
   pub first-notified : FirstNotified file bytes s
   unfolding FirstNotified

@@ -5,3 +5,4 @@ pub mod Widths
 pub mod Cut
 pub mod Prefixes
 pub mod Points
+pub mod Arrival

@@ -4,23 +4,26 @@ use native.Mathlib.Omega.{arith}
 use native.Mathlib.Nat.{zero-add}
 use mathlib.Core.Path.{_≡_, refl, sym, ap, ap₂, _∙_}
 use mathlib.Core.Logic.{_↔_}
-use mathlib.Core.Bool.{Bool, not, _&&_}
+use mathlib.Core.Bool.{Bool, true, not, _&&_}
 use mathlib.Core.List.{List, [], _∷_, _++_, append-assoc}
 use lib.ListN.{length, take, drop, length-append}
 use lib.Seq.{take-at, drop-at, drop-append-add}
 use Rattle.syntax.specs.Tree.{Monitor}
-use Rattle.machine.specs.Monitor.{Frame, Threads, Config, Run, stopped, allIdle, threads}
+use Rattle.machine.specs.Monitor.{Frame, Threads, Config, Run, stopped, allIdle, threads, turn}
 use Rattle.machine.specs.Monitor as machine
 use Rattle.machine.specs.Agreement.{SamePoint}
 use Rattle.machine.specs.Decide.Step.{run}
+use Rattle.machine.specs.Rules.{Rules}
 use Rattle.meaning.specs.State.{stateAt}
 use Rattle.meaning.specs.Decide.Table.{forEach}
 use Rattle.meaning.specs.Decide.Calls.{runList, toldBy}
-use Rattle.meaning.specs.Model.{vars, model, holds}
-use Rattle.meaning.specs.Calls.{Machine, plain-machine, table-machine}
+use Rattle.meaning.specs.Model.{vars, kept, model, holds}
+use Rattle.meaning.specs.Calls.{Machine, noticesOf, plain-machine, table-machine}
 use Rattle.meaning.specs.Bits.{eachFrom, bits}
-use Rattle.meaning.specs.Points.{pointSize, valueBytes, placeBytes, setBytes, sharedBytes, noticeBytes, noticesAt}
-use Rattle.meaning.specs.Points.{plainPart, tablePart, pointAt, pointCount, listPoints}
+use Rattle.meaning.specs.Points.{pointSize, valueBytes, placeBytes, turnBytes, setBytes, sharedBytes, noticeBytes}
+use Rattle.meaning.specs.Points.{noticesAt, plainPart, tablePart, turnPart, pointAt, pointCount, listPoints}
+use Rattle.meaning.specs.Answer.{accepted}
+use Rattle.meaning.specs.Decide.Check.{check}
 use Rattle.demands.specs.Points.{DemandPoints, ToldFrom}
 use Rattle.demands.proofs.Prefixes.{front-taken, front-taken-iff}
 use Rattle.demands.proofs.Demand2.{follows-rules, run-stops}
@@ -66,6 +69,10 @@ unfolding tablePart noticeBytes setBytes
 table-length x (machine.accepted c) = refl
 table-length x (stopped a k) = refl
 
+turn-length : (p : Threads) → length (turnBytes p) ≡ 16
+unfolding turnBytes threads
+turn-length p = each-length 16 0 (turn p)
+
 same-shared : (m : Monitor) (c d : Config) → SamePoint (model m) c d → sharedBytes m c ≡ sharedBytes m d
 unfolding sharedBytes
 same-shared m c d p =
@@ -81,13 +88,15 @@ module _ (m : Monitor) (s : ℕ) (fs : List Frame) where
     abbrev behindShared : List ℕ
     behindShared =
         noticeBytes (noticesAt (runList m plain-machine s (take (k - 1) fs))) (c .notified)
-        ++ tablePart (runList m table-machine s (take (k - 1) fs)) (runList m table-machine s (take k fs))
+        ++ (tablePart (runList m table-machine s (take (k - 1) fs)) (runList m table-machine s (take k fs))
+        ++ turnBytes (c .threads))
 
     point-as : pointAt m s fs k ≡ sharedBytes m c ++ behindShared
-    unfolding pointAt plainPart
+    unfolding pointAt plainPart turnPart
     point-as =
         ap (λ (y : Run). plainPart m (runList m plain-machine s (take (k - 1) fs)) y
-        ++ tablePart (runList m table-machine s (take (k - 1) fs)) (runList m table-machine s (take k fs))) e
+        ++ (tablePart (runList m table-machine s (take (k - 1) fs)) (runList m table-machine s (take k fs))
+        ++ turnPart y)) e
         ∙ simp append-assoc
 
     point-length : length (pointAt m s fs k) ≡ pointSize
@@ -96,6 +105,9 @@ module _ (m : Monitor) (s : ℕ) (fs : List Frame) where
         let a = shared-length m c in
         let t =
         table-length (runList m table-machine s (take (k - 1) fs)) (runList m table-machine s (take k fs)) in
+        let n = turn-length (c .threads) in
+        let l = length-append (tablePart (runList m table-machine s (take (k - 1) fs)) (runList m table-machine s (take k fs)))
+        (turnBytes (c .threads)) in
         ap length point-as ∙ length-append (sharedBytes m c) behindShared ∙ omega arith
 
     -- the plain machine's notices come first
@@ -103,7 +115,8 @@ module _ (m : Monitor) (s : ℕ) (fs : List Frame) where
         ≡ sharedBytes m c
         ++ (setBytes (c .notified)
         ++ (setBytes (λ u. c .notified u && not (noticesAt (runList m plain-machine s (take (k - 1) fs)) u))
-        ++ tablePart (runList m table-machine s (take (k - 1) fs)) (runList m table-machine s (take k fs))))
+        ++ (tablePart (runList m table-machine s (take (k - 1) fs)) (runList m table-machine s (take k fs))
+        ++ turnBytes (c .threads))))
     unfolding noticeBytes
     notices-first = ap (λ (l : List ℕ). sharedBytes m c ++ l) (append-assoc (setBytes (c .notified)) _ _)
 
@@ -116,21 +129,25 @@ module _ (m : Monitor) (s : ℕ) (fs : List Frame) where
 
     -- the table's part, by its run of the same frames
     with-table : (y : Run) → runList m table-machine s (take k fs) ≡ y
-        → pointAt m s fs k ≡ sharedBytes m c ++ (own ++ tablePart (runList m table-machine s (take (k - 1) fs)) y)
+        → pointAt m s fs k
+        ≡ sharedBytes m c ++ (own ++ (tablePart (runList m table-machine s (take (k - 1) fs)) y ++ turnBytes (c .threads)))
     with-table y q =
         point-as
-        ∙ ap (λ (z : Run). sharedBytes m c ++ (own ++ tablePart (runList m table-machine s (take (k - 1) fs)) z)) q
+        ∙ ap (λ (z : Run). sharedBytes m c
+        ++ (own ++ (tablePart (runList m table-machine s (take (k - 1) fs)) z ++ turnBytes (c .threads)))) q
 
     table-there : (d : Config) → runList m table-machine s (take k fs) ≡ machine.accepted d → SamePoint (model m) c d
         → (four told : List ℕ) × (length four ≡ 4)
         × (pointAt m s fs k ≡ sharedBytes m d ++ (four ++ (1 ∷ (setBytes (d .notified) ++ told))))
-    unfolding tablePart noticeBytes
+    unfolding tablePart noticeBytes setBytes
     table-there d q same = (
       own,
-      setBytes (λ u. d .notified u && not (noticesAt (runList m table-machine s (take (k - 1) fs)) u)),
+      setBytes (λ u. d .notified u && not (noticesAt (runList m table-machine s (take (k - 1) fs)) u))
+          ++ turnBytes (c .threads),
       own-length,
       with-table (machine.accepted d) q
-          ∙ ap (λ (l : List ℕ). l ++ (own ++ tablePart (runList m table-machine s (take (k - 1) fs)) (machine.accepted d)))
+          ∙ ap (λ (l : List ℕ). l
+          ++ (own ++ (tablePart (runList m table-machine s (take (k - 1) fs)) (machine.accepted d) ++ turnBytes (c .threads))))
           (same-shared m c d same),
     )
 
@@ -148,19 +165,35 @@ module _ (m : Monitor) (s : ℕ) (fs : List Frame) where
     table-told d q =
         ap (λ (l : List ℕ). take 2 (drop 31 l)) (with-table (machine.accepted d) q)
         ∙ ap (take 2)
-        (drop-shared m c 7 (own ++ tablePart (runList m table-machine s (take (k - 1) fs)) (machine.accepted d)))
+        (drop-shared m c 7 (own ++ (tablePart (runList m table-machine s (take (k - 1) fs)) (machine.accepted d)
+        ++ turnBytes (c .threads))))
 
     table-absent : ((d : Config) → runList m table-machine s (take k fs) ≡ machine.accepted d → ⊥)
         → (four : List ℕ) × (length four ≡ 4)
-        × (pointAt m s fs k ≡ sharedBytes m c ++ (four ++ (0 ∷ 0 ∷ 0 ∷ 0 ∷ 0 ∷ [])))
+        × (pointAt m s fs k ≡ sharedBytes m c ++ (four ++ (0 ∷ 0 ∷ 0 ∷ 0 ∷ 0 ∷ turnBytes (c .threads))))
     unfolding tablePart
     table-absent no-point = go (runList m table-machine s (take k fs)) refl
       where
         go : (y : Run) → runList m table-machine s (take k fs) ≡ y
             → (four : List ℕ) × (length four ≡ 4)
-            × (pointAt m s fs k ≡ sharedBytes m c ++ (four ++ (0 ∷ 0 ∷ 0 ∷ 0 ∷ 0 ∷ [])))
+            × (pointAt m s fs k ≡ sharedBytes m c ++ (four ++ (0 ∷ 0 ∷ 0 ∷ 0 ∷ 0 ∷ turnBytes (c .threads))))
         go (machine.accepted d) q = absurd (no-point d q)
         go (stopped a i) q = (own, own-length, with-table (stopped a i) q)
+
+    -- the turns stand at the end
+    turns-last : drop 33 (pointAt m s fs k) ≡ turnBytes (c .threads)
+    unfolding tablePart noticeBytes setBytes
+    turns-last = go (runList m table-machine s (take k fs)) refl
+      where
+        go : (y : Run) → runList m table-machine s (take k fs) ≡ y → drop 33 (pointAt m s fs k) ≡ turnBytes (c .threads)
+        go (machine.accepted d) q =
+            ap (drop 33) (with-table (machine.accepted d) q)
+            ∙ drop-shared m c 9 (own ++ (tablePart (runList m table-machine s (take (k - 1) fs)) (machine.accepted d)
+            ++ turnBytes (c .threads)))
+        go (stopped a i) q =
+            ap (drop 33) (with-table (stopped a i) q)
+            ∙ drop-shared m c 9 (own ++ (tablePart (runList m table-machine s (take (k - 1) fs)) (stopped a i)
+            ++ turnBytes (c .threads)))
 
   -- up to which point there is one
   taken-iff : (k : ℕ) → (k < pointCount (runList m plain-machine s fs) fs) ↔ ((k ≤ length fs)
@@ -205,6 +238,18 @@ module _ (m : Monitor) (s : ℕ) (fs : List Frame) where
   unfolding runList run
   idle-first w = refl
 
+-- on either machine, by demand 3
+turns-of :
+    (file : List ℕ) (m : Monitor) → check file ≡ accepted m → (s : ℕ) → kept m s ≡ true → (fs : List Frame)
+    → (j : ℕ) (c : Config) (w : Machine) → j ≤ length fs
+    → Rules (model m) (noticesOf m w) (allIdle s) (take j fs) c → drop 33 (pointAt m s fs j) ≡ turnBytes (c .threads)
+turns-of file m e s k fs j c plain-machine h r =
+    turns-last m s fs j c (follows-rules m plain-machine .accepts s (take j fs) c .1 r)
+turns-of file m e s k fs j c table-machine h r =
+    let x = demand-3 .agree file m e s k fs .every-point j h c
+    (follows-rules m table-machine .accepts s (take j fs) c .1 r) in
+    turns-last m s fs j (x .0) (x .1) ∙ ap turnBytes (x .2 .same-threads)
+
 pub every-point : DemandPoints
 unfolding listPoints ToldFrom
 every-point = record {
@@ -230,6 +275,7 @@ every-point = record {
         absent = λ j c h r none.
             table-absent m s fs j c (rules .accepts s (take j fs) c .1 r)
             (λ d q. none d (follows-rules m table-machine .accepts s (take j fs) d .0 q));
+        turns = λ j c w h r. turns-of file m e s k fs j c w h r;
         told = λ j h. (
           λ b c r q.
               own-told m s fs (j + 1) c (rules .accepts s (take (j + 1) fs) c .1 q)

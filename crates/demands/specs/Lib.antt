@@ -3,3 +3,4 @@ pub mod Demand2
 pub mod Demand3
 pub mod Widths
 pub mod Points
+pub mod Arrival

@@ -13,7 +13,7 @@ use Rattle.meaning.specs.Answer.{accepted}
 use Rattle.meaning.specs.Decide.Check.{check}
 use Rattle.meaning.specs.Model.{kept, model}
 use Rattle.meaning.specs.Calls.{Machine, noticesOf, plain-machine, table-machine}
-use Rattle.meaning.specs.Points.{pointSize, setBytes, sharedBytes, pointAt, listPoints}
+use Rattle.meaning.specs.Points.{pointSize, setBytes, sharedBytes, turnBytes, pointAt, listPoints}
 
 -- the two bytes of those told stand from a byte of point k + 1 on: who is notified behind frame k and was not before it
 -- (R 15.10)
@@ -28,7 +28,7 @@ pub record EveryPoint (m : Monitor) (s : ℕ) (fs : List Frame) (buffer : List �
   pub count :
       (k : ℕ) → (k < listPoints m s fs buffer .count) ↔ ((k ≤ length fs)
       × ((c : Config) × Rules (model m) (noticesOf m plain-machine) (allIdle s) (take k fs) c))
-  -- its bytes stand at 33 times k (R 15.5)
+  -- its bytes stand at 49 times k (R 15.5)
   pub each :
       (k : ℕ) → k < listPoints m s fs buffer .count
       → take pointSize (drop (pointSize * k) (listPoints m s fs buffer .buffer)) ≡ pointAt m s fs k
@@ -45,13 +45,17 @@ pub record EveryPoint (m : Monitor) (s : ℕ) (fs : List Frame) (buffer : List �
       → Rules (model m) (noticesOf m table-machine) (allIdle s) (take k fs) d
       → (four told : List ℕ) × (length four ≡ 4)
       × (pointAt m s fs k ≡ sharedBytes m d ++ (four ++ (1 ∷ (setBytes (d .notified) ++ told))))
-  -- where they lead to none, five bytes of 00 (R 15.12)
+  -- where they lead to none, five bytes of 00 (R 15.12), and the turns behind
   pub absent :
       (k : ℕ) (c : Config) → k ≤ length fs
       → Rules (model m) (noticesOf m plain-machine) (allIdle s) (take k fs) c
       → ((d : Config) → Rules (model m) (noticesOf m table-machine) (allIdle s) (take k fs) d → ⊥)
       → (four : List ℕ) × (length four ≡ 4)
-      × (pointAt m s fs k ≡ sharedBytes m c ++ (four ++ (0 ∷ 0 ∷ 0 ∷ 0 ∷ 0 ∷ [])))
+      × (pointAt m s fs k ≡ sharedBytes m c ++ (four ++ (0 ∷ 0 ∷ 0 ∷ 0 ∷ 0 ∷ turnBytes (c .threads))))
+  -- at the end the turns, on the plain machine, and wherever the table's rules lead to a point on the table's (R 15.13)
+  pub turns :
+      (k : ℕ) (c : Config) (w : Machine) → k ≤ length fs → Rules (model m) (noticesOf m w) (allIdle s) (take k fs) c
+      → drop 33 (pointAt m s fs k) ≡ turnBytes (c .threads)
   -- those told by a frame, of each machine (R 15.10, 15.11), and at point 0 none
   pub told :
       (k : ℕ) → k < length fs → ToldFrom m plain-machine 26 s fs k × ToldFrom m table-machine 31 s fs k

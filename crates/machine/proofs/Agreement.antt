@@ -17,7 +17,7 @@ use Rattle.machine.proofs.RulesDecided.{Decides}
 use Rattle.machine.specs.Recheck.{Recheck, RecheckFrom}
 use Rattle.machine.proofs.Rechecks.{recheck-iff, waiters, recheck-waits}
 use Rattle.machine.specs.Agreement.{Checked}
-use Rattle.machine.proofs.Points.{Placed, entries-placed, PlainPoint, Agree, idle-plain, idle-agree}
+use Rattle.machine.proofs.Points.{Placed, entries-placed, PlainPoint, TablePoint, Agree, idle-plain, idle-agree}
 use Rattle.machine.proofs.Simulation.{Result, same-refusal, at-recheck, same-point, run-plain, run-agree, at}
 use Rattle.machine.specs.Agreement.{AgreeOn, Agrees, SamePoint, answer, plainRun, tableRun}
 
@@ -47,6 +47,15 @@ result-point same-refusal c e = let z : _≡_ {A = ℕ} 0 1 = cc in absurd (omeg
 result-point (at-recheck i z r) c e = let z : _≡_ {A = ℕ} 0 1 = cc in absurd (omega arith)
 result-point {m} (same-point {s} {p} {nP} {nT} ag) c e =
     let z : at s p nT ≡ c = cc in (at s p nP, refl, subst (SamePoint m (at s p nP)) z (agree-point ag))
+
+result-table :
+    {m : Monitor} {bc began : ℕ → Bool} {fs : List Frame} {x y : Run} → Result m bc began fs 0 x y
+    → (c : Config) → y ≡ accepted c → TablePoint m bc (c .state) (c .threads) (c .notified)
+result-table same-refusal c e = let z : _≡_ {A = ℕ} 0 1 = cc in absurd (omega arith)
+result-table (at-recheck i z r) c e = let z : _≡_ {A = ℕ} 0 1 = cc in absurd (omega arith)
+result-table {m} {bc} (same-point {s} {p} {nP} {nT} ag) c e =
+    let z : at s p nT ≡ c = cc in
+    subst (λ (d : Config). TablePoint m bc (d .state) (d .threads) (d .notified)) z (ag .table)
 
 -- from any two points in the relation, and for any table that is so placed
 pub agree-from :
@@ -91,6 +100,13 @@ module _ (m : Monitor) (ok : Checked m) (s : ℕ) (k : m .kept s ≡ true) (fs :
       (d : Config) → plainRun m s fs ≡ accepted d → PlainPoint m (d .state) (d .threads) (d .notified)
   unfolding plainRun allIdle
   plain-every-point = run-plain m ok fs 0 s idleThreads (λ _. false) (idle-plain m s k)
+
+  -- and the table's at each of its points
+  pub table-every-point :
+      (c : Config) → tableRun m s fs ≡ accepted c → TablePoint m (broadcast m) (c .state) (c .threads) (c .notified)
+  unfolding tableRun allIdle
+  table-every-point c h = result-table (run-agree m ok (entryOf m) (broadcast m) (entries-placed m ok) fs 0 s idleThreads
+      (λ _. false) (λ _. false) (idle-agree m (broadcast m) s k)) c h
 
 -- A recheck told from the frames alone is a waiting thread's frame with 00, after frames that a machine accepts
 pub recheck-is-waiting :

@@ -62,7 +62,7 @@ module _ (m : Monitor) {p : Threads} (l : Lined m p) (g : ℕ) where
 
   -- so those up to a member are exactly the ones ahead of it
   line-ahead : (notices : Notices) (t : ℕ) (ahead behind : List ℕ) → line m p g ≡ ahead ++ (t ∷ behind)
-      → ExactlyAhead m notices g p t ahead
+      → ExactlyAhead m g p t ahead
   unfolding has
   line-ahead notices t ahead behind e = record { exactly = λ u. (to u, from u); in-turn = x .0 }
     where
@@ -109,7 +109,7 @@ module _ (m : Monitor) (notices : Notices) where
 
   line-grows :
       {c d : Config} {f : Frame} → Rule m notices c f d → Lined m (c .threads) → (g : ℕ)
-      → (Resumes m notices g c f → ⊥) → (more : List ℕ) × (line m (d .threads) g ≡ line m (c .threads) g ++ more)
+      → (Resumes m g c f → ⊥) → (more : List ℕ) × (line m (d .threads) g ≡ line m (c .threads) g ++ more)
   unfolding Resumes joined Waiting
   line-grows {c} {d} {f} (rule-1a a fl h w s p n) l g nobody = split-eq (m .guardOf r) g
       (λ e. (t ∷ [], subst (λ (k : ℕ). line m (d .threads) k ≡ line m (c .threads) k ++ (t ∷ [])) e
@@ -132,7 +132,7 @@ module _ (m : Monitor) (notices : Notices) where
   -- whoever resumes stood at the front, and leaves the others
   line-advances :
       {c d : Config} {f : Frame} → Rule m notices c f d → Lined m (c .threads) → FrontTold m c → (g : ℕ)
-      → Resumes m notices g c f → line m (c .threads) g ≡ f .thread ∷ line m (d .threads) g
+      → Resumes m g c f → line m (c .threads) g ≡ f .thread ∷ line m (d .threads) g
   unfolding Resumes Waits Waiting Front Once
   line-advances (rule-1a a fl h w s p n) l told g x = clash (x .1) fl
   line-advances (rule-1b a fl h w k s p n) l told g x = clash (x .1) fl
@@ -201,13 +201,13 @@ module _ (m : Monitor) (ok : Checked m) (notices : Notices) (Good : Config → T
   unfolding Counts Front Resumes
   counts c l x t g w fs d us rs o f e r own fl =
       let s = has-splits (line m (c .threads) g) t (line-iff m l g t .1 w) in
-      subst (ExactlyAhead m notices g (c .threads) t)
+      subst (ExactlyAhead m g (c .threads) t)
       (sym (resume-ahead rs t o l x (s .0) (s .1) (s .2) (s .3) last))
       (line-ahead m l g notices t (s .0) (s .1) (s .2))
     where
       last : Lined m (d .threads) → Good d → Waits m (d .threads) g t → Front (line m (d .threads) g) t
       last l₁ x₁ w₁ =
-          let y : Resumes m notices g d f = (subst (Waits m (d .threads) g) (sym own) w₁, fl) in
+          let y : Resumes m g d f = (subst (Waits m (d .threads) g) (sym own) w₁, fl) in
           (line m (e .threads) g, line-advances m notices r l₁ (tells d x₁) g y
           ∙ ap (λ (v : ℕ). v ∷ line m (e .threads) g) own)
 

@@ -3,15 +3,21 @@
 use Prim.Native.Nat.{ℕ, suc, _<_}
 use native.Mathlib.Omega.{arith}
 use mathlib.Core.Path.{_≡_, refl, sym, subst, ap, _∙_}
-use mathlib.Core.List.{List}
+use mathlib.Core.Bool.{true, false≢true}
+use mathlib.Core.Logic.{⊎-elim}
+use mathlib.Core.List.{List, [], _∷_}
+use lib.Dec.{eqb}
 use lib.ListN.{length}
+use borrow.Author.Tests.{eqb-true, eq-eqb}
 use Rattle.machine.specs.Monitor.{Place, idle, waiting, due, Threads, Monitor, Frame, Config, turnAt, turn}
-use Rattle.machine.specs.Queue.{placeIn}
-use Rattle.machine.specs.Rules.{Notices, Moved, Waiting, Rule, rule-1a, rule-1b, rule-2a, rule-2b}
-use Rattle.machine.specs.Arrival.{Lined, Turns, TurnsAfter}
-use Rattle.logic.proofs.Bools.{clash, is-false}
+use Rattle.machine.specs.Monitor.{waitsOn, line}
+use Rattle.machine.specs.Queue.{has, those, placeIn}
+use Rattle.machine.specs.Rules.{Notices, Moved, Waits, Waiting, Front, Rule, rule-1a, rule-1b, rule-2a, rule-2b}
+use Rattle.machine.specs.Arrival.{Rising, Lined, Turns, Fronts, TurnsAfter}
+use Rattle.logic.proofs.Bools.{clash, is-false, split-eq, both, and, either, or-left}
 use Rattle.machine.proofs.Queue.{left-absent, place-below, place-each, place-once, place-last, place-joined}
-use Rattle.machine.proofs.Queue.{place-ahead, place-behind}
+use Rattle.machine.proofs.Queue.{place-ahead, place-behind, has-those, has-behind, rising-place, rising-those}
+use Rattle.machine.proofs.Order.{waits-iff, front-waits}
 
 module _ (m : Monitor) where
   -- a waiter's turn is its place in the queue
@@ -108,3 +114,46 @@ module _ (m : Monitor) where
 
         p : Threads
         p = c .threads
+
+-- A waiter on a guard such that no other on it has a lower turn stands at the front of its line
+
+first-rising : (f : ℕ → ℕ) (l : List ℕ) (u : ℕ) → Rising f l → has l u ≡ true → ((v : ℕ) → has l v ≡ true → f v < f u → ⊥)
+    → Front l u
+unfolding Rising has Front
+first-rising f [] u r h none = absurd (false≢true h)
+first-rising f (v ∷ vs) u r h none = split-eq v u (λ e. (vs, ap (λ (x : ℕ). x ∷ vs) e))
+    (λ d. absurd (none v (or-left (eqb v v) (has vs v) (eq-eqb v v refl)) (r .0 u (has-behind v vs u h d))))
+
+pub first-by-turn :
+    (m : Monitor) {p : Threads} → Lined m p → (g u : ℕ) → Waits m p g u
+    → ((v : ℕ) → Waits m p g v → turn p v < turn p u → ⊥) → Front (line m p g) u
+unfolding line Waits Waiting
+first-by-turn m {p} l g u w none =
+    first-rising (placeIn (p .queue)) (those (waitsOn m p g) (p .queue)) u
+    (rising-those (placeIn (p .queue)) (waitsOn m p g) (p .queue) (rising-place (p .queue) (l .once)))
+    (has-those (waitsOn m p g) (p .queue) u ∙ and (l .waits u .1 (w .0, w .1)) (waits-iff m p g u .1 w))
+    (λ v h k.
+    let x = both (has (p .queue) v) (waitsOn m p g v) (sym (has-those (waitsOn m p g) (p .queue) v) ∙ h) in
+    let y = waits-iff m p g v .0 (x .1) in
+    none v y (omega (arith, k, turn-place m p v (y .0, y .1), turn-place m p u (w .0, w .1))))
+
+pub lined-fronts : (m : Monitor) {p : Threads} → Lined m p → Fronts m p
+unfolding Fronts Front line Waits Waiting Rising has
+lined-fronts m {p} l g u = (
+  λ f. (front-waits m p g u f, none f),
+  λ x. first-by-turn m l g u (x .0) (x .1),
+)
+  where
+    rising : Rising (placeIn (p .queue)) (those (waitsOn m p g) (p .queue))
+    rising = rising-those (placeIn (p .queue)) (waitsOn m p g) (p .queue) (rising-place (p .queue) (l .once))
+
+    none : Front (line m p g) u → (v : ℕ) → Waits m p g v → turn p v < turn p u → ⊥
+    none f v w k =
+        let r = subst (Rising (placeIn (p .queue))) (f .1) rising in
+        let y = front-waits m p g u f in
+        let h : has (u ∷ f .0) v ≡ true = ap (λ (q : List ℕ). has q v) (sym (f .1))
+        ∙ has-those (waitsOn m p g) (p .queue) v ∙ and (l .waits v .1 (w .0, w .1)) (waits-iff m p g v .1 w) in
+        let a = turn-place m p v (w .0, w .1) in
+        let b = turn-place m p u (y .0, y .1) in
+        ⊎-elim (λ e. let z = eqb-true u v e in let q = ap (placeIn (p .queue)) z in omega arith)
+        (λ e. let z = r .0 v e in omega arith) (either (eqb u v) (has (f .0) v) h)

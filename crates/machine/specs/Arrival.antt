@@ -1,15 +1,15 @@
 -- Waiters by arrival (document 02, E4), in words: who is in the queue, what the turns are at a point, what a frame makes of
 -- them, that their order is the one in which the threads began to wait, told from the frames alone, and the count.
--- `proofs/Arrival` shows it of the rules.
+-- `proofs/Reached`, `Turns`, `Arrival` and `Count` show it of the rules.
 use Prim.Native.Nat.{ℕ, suc, _<_}
 use mathlib.Core.Path.{_≡_}
 use mathlib.Core.Bool.{Bool, true, false}
 use mathlib.Core.Logic.{_↔_}
 use mathlib.Core.List.{List, [], _∷_, _++_}
 use lib.ListN.{length}
-use Rattle.machine.specs.Monitor.{Threads, Monitor, Frame, Config, turn}
+use Rattle.machine.specs.Monitor.{Threads, Monitor, Frame, Config, turn, line}
 use Rattle.machine.specs.Queue.{has}
-use Rattle.machine.specs.Rules.{Notices, Waits, Waiting, Rule}
+use Rattle.machine.specs.Rules.{Notices, Waits, Waiting, Front, Rule}
 use Rattle.machine.specs.Recheck.{SentLast00}
 
 -- no member of a list stands in it twice
@@ -34,6 +34,12 @@ module _ (m : Monitor) where
     pub each : (k : ℕ) → k < length (p .queue) → (u : ℕ) × Waiting m (p .place u) × (turn p u ≡ k)
     pub once : (u v : ℕ) → Waiting m (p .place u) → Waiting m (p .place v) → turn p u ≡ turn p v → u ≡ v
     pub none : (u : ℕ) → (Waiting m (p .place u) → ⊥) → turn p u ≡ 0
+
+  -- at the front of the line on a guard stands the waiter on it with the lowest turn (R 9.27)
+  unfoldable pub Fronts : Threads → Type 0
+  Fronts p =
+      (g u : ℕ) → Front (line m p g) u
+      ↔ (Waits m p g u × ((v : ℕ) → Waits m p g v → turn p v < turn p u → ⊥))
 
   -- what a frame makes of them (R 9.40)
   pub record TurnsAfter (p : Threads) (f : Frame) (p′ : Threads) : Type 0 where
@@ -82,25 +88,26 @@ pub record InOrder (m : Monitor) (fs : List Frame) (p : Threads) : Type 0 where
 
 -- The count
 
-module _ (m : Monitor) (notices : Notices) where
+module _ (m : Monitor) where
   -- by the frame a waiter on guard g resumes; idle and due threads that run do not (R 9.41)
   unfoldable pub Resumes : ℕ → Config → Frame → Type 0
   Resumes g c f = Waits m (c .threads) g (f .thread) × (f .flag ≡ true)
-
-  -- the rules lead from one point to another, and on the way the threads of a list resume on guard g, in its order
-  pub data Resuming (g : ℕ) : Config → List Frame → Config → List ℕ → Type 0 where
-    no-frame : {c : Config} → Resuming g c [] c []
-    resumes :
-        {c d e : Config} {f : Frame} {fs : List Frame} {us : List ℕ} → Rule m notices c f d → Resumes g c f
-        → Resuming g d fs e us → Resuming g c (f ∷ fs) e (f .thread ∷ us)
-    goes-on :
-        {c d e : Config} {f : Frame} {fs : List Frame} {us : List ℕ} → Rule m notices c f d → (Resumes g c f → ⊥)
-        → Resuming g d fs e us → Resuming g c (f ∷ fs) e us
 
   -- those of a list are exactly the ones ahead of t on guard g, each once, in the order of their turns (R 9.41)
   pub record ExactlyAhead (g : ℕ) (p : Threads) (t : ℕ) (us : List ℕ) : Type 0 where
     pub exactly : (u : ℕ) → (has us u ≡ true) ↔ (Waits m p g u × (turn p u < turn p t))
     pub in-turn : Rising (turn p) us
+
+module _ (m : Monitor) (notices : Notices) where
+  -- the rules lead from one point to another, and on the way the threads of a list resume on guard g, in its order
+  pub data Resuming (g : ℕ) : Config → List Frame → Config → List ℕ → Type 0 where
+    no-frame : {c : Config} → Resuming g c [] c []
+    resumes :
+        {c d e : Config} {f : Frame} {fs : List Frame} {us : List ℕ} → Rule m notices c f d → Resumes m g c f
+        → Resuming g d fs e us → Resuming g c (f ∷ fs) e (f .thread ∷ us)
+    goes-on :
+        {c d e : Config} {f : Frame} {fs : List Frame} {us : List ℕ} → Rule m notices c f d → (Resumes m g c f → ⊥)
+        → Resuming g d fs e us → Resuming g c (f ∷ fs) e us
 
   -- from a point at which t waits on guard g to the frame by which it resumes, those who resume on g are exactly the ones
   -- ahead of it there (R 9.41)
@@ -108,4 +115,4 @@ module _ (m : Monitor) (notices : Notices) where
   Counts c =
       (t g : ℕ) → Waits m (c .threads) g t → (fs : List Frame) (d : Config) (us : List ℕ) → Resuming g c fs d us
       → Only00 t fs → (f : Frame) (e : Config) → Rule m notices d f e → f .thread ≡ t → f .flag ≡ true
-      → ExactlyAhead g (c .threads) t us
+      → ExactlyAhead m g (c .threads) t us

@@ -28,7 +28,7 @@ overflow = bytes "monitor m { var x = 0 in 0..1; keep true; method a { waituntil
 unfoldable pub example : Case → List ℕ → Example
 example c p = record { case = c; printed = p }
 
--- by number, as in document 01
+-- by number, as in document 01, the fourth as document 02's E4 has it
 unfoldable pub examples : List Example
 examples =
     -- 1
@@ -40,7 +40,8 @@ examples =
     ∷ example (running-of box (bytes "000100\n000101\n")) (bytes "0E00010000\n0E00010000\n")
     ∷ example (running-of box (bytes "000100\n000100\n")) (bytes "0E00010000\n0E00010000\n")
     -- 4
-    ∷ example (running-of box (bytes "010100\n000100\n020001\n010101\n")) (bytes "0E00030000\n0E00030000\n")
+    ∷ example (running-of box (bytes "010100\n000100\n020001\n010101\n"))
+    (bytes "008001FFFFFFFFFFFFFFFFFFFFFFFFFFFFFF\n008001FFFFFFFFFFFFFFFFFFFFFFFFFFFFFF\n")
     -- 5
     ∷ example (running-of box (bytes "000100\n010001\n020101\n000100\n"))
     (bytes "008001FFFFFFFFFFFFFFFFFFFFFFFFFFFFFF\n008001FFFFFFFFFFFFFFFFFFFFFFFFFFFFFF\n")

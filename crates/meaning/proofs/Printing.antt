@@ -2,8 +2,9 @@
 -- `printing` can close an equation between bytes by `refl`.
 use Prim.Native.Nat.{ℕ, suc}
 use Rattle.logic.specs.Tests.{any}
-use Rattle.machine.specs.Monitor.{threads, ahead, allIdle}
-use Rattle.machine.specs.Decide.Step.{put, without, isDue, isWaiting, beginWait, leave, onGuard, waitsOn, next}
+use Rattle.machine.specs.Monitor.{threads, turnAt, turn, onGuard, waitsOn, line, allIdle}
+use Rattle.machine.specs.Queue.{those, joined as joined-behind, left as left-out, placeIn as turn-in}
+use Rattle.machine.specs.Decide.Step.{put, without, isDue, isWaiting, beginWait, leave, atFront, firstIn, next}
 use Rattle.machine.specs.Decide.Step.{firstNotified, own, plainTold, mayBeAt, may, ran, waited, rechecked, allowed, act}
 use Rattle.machine.specs.Decide.Step.{judged, step, run}
 use Rattle.machine.specs.Decide.Table.{runs, someMove, everyMove, stands, unconditional, broadcast, entryOf, acts}
@@ -52,8 +53,8 @@ use Rattle.syntax.specs.Decide.Scan.{tokens, none-at}
 use Rattle.syntax.specs.Tree.{spellInt, spellAtom, signMark, spellTerm, each, spellExpr, comparisonMark, spellConstant}
 use Rattle.syntax.specs.Tree.{spellCond, spellConj, spellSimple, spellBlock, spellStmt, spellRegion, spellMethod}
 use Rattle.syntax.specs.Tree.{spellVar, spellTry, spell, InGrammar, Viable, Var, all}
-use Rattle.meaning.specs.Points.{valueBytes, placeBytes, setBytes, sharedBytes, noticeBytes, noticesAt, plainPart}
-use Rattle.meaning.specs.Points.{tablePart, pointAt, stopAnswer, pointCount, listPoints, framePoints, pointsFrom}
+use Rattle.meaning.specs.Points.{valueBytes, placeBytes, turnBytes, setBytes, sharedBytes, noticeBytes, noticesAt}
+use Rattle.meaning.specs.Points.{plainPart, tablePart, turnPart, pointAt, stopAnswer, pointCount, listPoints, framePoints, pointsFrom}
 use Rattle.meaning.specs.Decide.Touch.{atomNames, termsName, exprNames, condNames, conjNames, simpleNames}
 use Rattle.meaning.specs.Decide.Touch.{blockAssigns, stmtAssigns, anyVar, sumOf, touched, pairsOf}
 use Rattle.meaning.specs.Points.{pointRoom, pointsOf}
@@ -118,7 +119,7 @@ numbersLines file ns =
     ]
 
 unfoldable pub printing : Case → List ℕ
-unfolding any threads put without isDue isWaiting ahead beginWait leave allIdle onGuard waitsOn next firstNotified own plainTold mayBeAt may ran waited rechecked allowed act judged step run runs someMove everyMove stands unconditional broadcast entryOf acts entryTold tableTold written place toldBy eachFrom bits ones recordOf runningOf runList runFrames runFrom running opens closes tally crowded placeOf leftOf pastLimit member misnamed placesOf inByte goodRange illRanged regionsOf keptAfter breaks firstFrom firstWhere broken noTry endsFalse isNone inSet tryAt eachTry allHold binds breaksTry firstBreak pass passes trueAtStart chosenTries chosenBits fateFrom fateOf fateLine triesLines atomNames termsName exprNames condNames conjNames simpleNames blockAssigns stmtAssigns anyVar sumOf touched pairsOf pairsLine wrapped weightIn share numberIn restIn valueIn stateLine heldAs stateLines numbersLines checkMeaning checkTokens check hex4 refusalLine placeByte valueDigits placeDigits recordLine runLine machineLine placer runner valueBytes placeBytes setBytes sharedBytes noticeBytes noticesAt plainPart tablePart pointAt stopAnswer pointCount listPoints framePoints pointsFrom pointRoom pointsOf sameLexeme sameLexemes sameGuard placeIn guardsOf beginsIn goesOnIn noGuard noRegion numberAfter regions guards region guardOf holds kept after follows model hexDigit hex2 hexBool entryLine forEach tableOf size count stateAt numberOf starts linesFrom isHex hexValue allHex pairAt isFrame frameOf prepend framesFrom framesOf intOf negative less compares valueOf inRange assigned atomValue joined termsValue exprValue truth conjTruth simpleTruth andThen runBlock runStmt outcome keptAt bytes between blank letter digit wordByte leading decimal sameBytes startsWith onwards _>>=_ give begins rest choose expect readName readNumber readMany readSome readInt readAtom readSign readTerm isSign readExpr readComparison readCond readConj readSimple readBlock readStmt readRegion readMethod readVar readTry atEnd readMonitor read keywords marks wordOf atMost markOf scan token-prepend tokensFrom tokenize lexemes markNumber keywordNumber isMark isKey isName spellInt spellAtom signMark spellTerm each spellExpr comparisonMark spellConstant spellCond spellConj spellSimple spellBlock spellStmt spellRegion spellMethod spellVar spellTry spell InGrammar Viable
+unfolding any threads put without isDue isWaiting turnAt turn those joined-behind left-out turn-in beginWait leave allIdle onGuard waitsOn line atFront firstIn next firstNotified own plainTold mayBeAt may ran waited rechecked allowed act judged step run runs someMove everyMove stands unconditional broadcast entryOf acts entryTold tableTold written place toldBy eachFrom bits ones recordOf runningOf runList runFrames runFrom running opens closes tally crowded placeOf leftOf pastLimit member misnamed placesOf inByte goodRange illRanged regionsOf keptAfter breaks firstFrom firstWhere broken noTry endsFalse isNone inSet tryAt eachTry allHold binds breaksTry firstBreak pass passes trueAtStart chosenTries chosenBits fateFrom fateOf fateLine triesLines atomNames termsName exprNames condNames conjNames simpleNames blockAssigns stmtAssigns anyVar sumOf touched pairsOf pairsLine wrapped weightIn share numberIn restIn valueIn stateLine heldAs stateLines numbersLines checkMeaning checkTokens check hex4 refusalLine placeByte valueDigits placeDigits recordLine runLine machineLine placer runner valueBytes placeBytes turnBytes setBytes sharedBytes noticeBytes noticesAt plainPart tablePart turnPart pointAt stopAnswer pointCount listPoints framePoints pointsFrom pointRoom pointsOf sameLexeme sameLexemes sameGuard placeIn guardsOf beginsIn goesOnIn noGuard noRegion numberAfter regions guards region guardOf holds kept after follows model hexDigit hex2 hexBool entryLine forEach tableOf size count stateAt numberOf starts linesFrom isHex hexValue allHex pairAt isFrame frameOf prepend framesFrom framesOf intOf negative less compares valueOf inRange assigned atomValue joined termsValue exprValue truth conjTruth simpleTruth andThen runBlock runStmt outcome keptAt bytes between blank letter digit wordByte leading decimal sameBytes startsWith onwards _>>=_ give begins rest choose expect readName readNumber readMany readSome readInt readAtom readSign readTerm isSign readExpr readComparison readCond readConj readSimple readBlock readStmt readRegion readMethod readVar readTry atEnd readMonitor read keywords marks wordOf atMost markOf scan token-prepend tokensFrom tokenize lexemes markNumber keywordNumber isMark isKey isName spellInt spellAtom signMark spellTerm each spellExpr comparisonMark spellConstant spellCond spellConj spellSimple spellBlock spellStmt spellRegion spellMethod spellVar spellTry spell InGrammar Viable
 printing (placing file) = placer file
 printing (running-of file trace) = runner file trace
 printing (whole file trace) = placer file ++ runner file trace

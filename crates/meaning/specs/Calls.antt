@@ -4,10 +4,9 @@ use Prim.Native.Nat.{ℕ, _<_}
 use mathlib.Core.Path.{_≡_}
 use mathlib.Core.Bool.{true}
 use mathlib.Core.List.{List}
-use lib.ListN.{length, getD}
 use lib.IntN.{ℤ}
 use Rattle.syntax.specs.Tree.{Monitor}
-use Rattle.machine.specs.Monitor.{Place, idle, Threads, Config, threads}
+use Rattle.machine.specs.Monitor.{Place, Config, threads, turn}
 use Rattle.machine.specs.Rules.{Notices, PlainNotices, TableNotices}
 use Rattle.machine.specs.Decide.Table.{entryOf}
 use Rattle.meaning.specs.State.{count, stateAt}
@@ -37,24 +36,22 @@ notPlaced a buffer = record { answer = a; length = 0; chosen = 0; pairs = 0; buf
 pub data Machine : Type 0 where
   plain-machine table-machine : Machine
 
--- the record of a run: each variable's value, the place of each of sixteen threads, the set of notified threads and how
--- many (R 10.6, 10.7, 10.8, 10.9)
+-- the record of a run: each variable's value, the place and the turn of each of sixteen threads, the set of notified
+-- threads and how many (R 10.6, 10.7, 10.8, 10.9, 10.10)
 pub record Record : Type 0 where
   pub values : List ℤ
   pub places : List Place
+  pub turns : List ℕ
   pub notified : ℕ
   pub howMany : ℕ
 
--- what a record says of all threads
-abbrev pub threadsOf : Record → Threads
-threadsOf r = record { place = λ u. getD (r .places) u idle }
-
--- the record of a point (R 10.5, 10.6, 10.7, 10.8, 10.9)
+-- the record of a point (R 10.5, 10.6, 10.7, 10.8, 10.9, 10.10)
 unfoldable pub recordOf : Monitor → Config → Record
 recordOf m c =
     record {
       values = stateAt (vars m) (c .state);
       places = eachFrom threads 0 (c .threads .place);
+      turns = eachFrom threads 0 (turn (c .threads));
       notified = bits (eachFrom threads 0 (c .notified));
       howMany = ones (eachFrom threads 0 (c .notified));
     }

@@ -8,7 +8,7 @@ use lib.IntN.{ℤ, pos, _+ℤ_, natAbs}
 use lib.Dec.{ltb}
 use Rattle.syntax.specs.Limits.{mostVars}
 use Rattle.syntax.specs.Tree.{Monitor}
-use Rattle.machine.specs.Monitor.{Threads, Config, Frame, Run, accepted, stopped, threads}
+use Rattle.machine.specs.Monitor.{Threads, Config, Frame, Run, accepted, stopped, threads, turn}
 use Rattle.meaning.specs.Answer.{Answer, answer}
 use Rattle.meaning.specs.Answer as verdict
 use Rattle.meaning.specs.State.{stateAt}
@@ -25,7 +25,7 @@ use Rattle.meaning.specs.Decide.Calls.{runList}
 
 -- (R 15.5)
 abbrev pub pointSize : ℕ
-pointSize = 33
+pointSize = 49
 
 -- each variable's value plus 128, and 128 in the slots without a variable (R 15.6)
 unfoldable pub valueBytes : List ℤ → List ℕ
@@ -34,6 +34,10 @@ valueBytes values = eachFrom mostVars 0 (λ k. natAbs (getD values k (pos 0) +�
 -- the sixteen places, as `runner` prints them (R 15.7, 13.13)
 unfoldable pub placeBytes : Threads → List ℕ
 placeBytes p = eachFrom threads 0 (λ t. placeByte (p .place t))
+
+-- the sixteen turns (R 15.13)
+unfoldable pub turnBytes : Threads → List ℕ
+turnBytes p = eachFrom threads 0 (turn p)
 
 -- a set of sixteen, low byte first (R 15.8)
 unfoldable pub setBytes : (ℕ → Bool) → List ℕ
@@ -64,12 +68,17 @@ unfoldable pub tablePart : Run → Run → List ℕ
 tablePart before (accepted c) = 1 ∷ noticeBytes (noticesAt before) (c .notified)
 tablePart before (stopped a k) = 0 ∷ 0 ∷ 0 ∷ 0 ∷ 0 ∷ []
 
+-- the turns, once for both machines (R 15.13)
+unfoldable pub turnPart : Run → List ℕ
+turnPart (accepted c) = turnBytes (c .threads)
+turnPart (stopped a k) = []
+
 -- point k of a list: the runs of its first k frames; before point 0 nobody is notified (R 15.4, 15.10)
 unfoldable pub pointAt : Monitor → ℕ → List Frame → ℕ → List ℕ
 pointAt m s fs k =
     let run : Machine → ℕ → Run = λ w n. runList m w s (take n fs) in
     plainPart m (run plain-machine (k - 1)) (run plain-machine k)
-    ++ tablePart (run table-machine (k - 1)) (run table-machine k)
+    ++ (tablePart (run table-machine (k - 1)) (run table-machine k) ++ turnPart (run plain-machine k))
 
 -- The call
 
