@@ -49,18 +49,18 @@ module _ (file bytes : List ℕ) (start : ℕ) (buffer : List ℕ) (r : result.P
       let (a, e) = refusal-of file b is other in rw (e, pointsOf) (nothing b r buffer p t n (rw e at is))
 
   module _ (m : Monitor) (e : check file ≡ accepted m) where
-    pub too-short : length buffer / 33 ≤ length bytes / 7 → (b : code.Answer) → Says b (answer 10 0 0) → r .plain ≡ b
+    pub too-short : length buffer / 49 ≤ length bytes / 7 → (b : code.Answer) → Says b (answer 10 0 0) → r .plain ≡ b
         → r .table ≡ b → r .count ≡ 0 → Points (pointsOf file bytes start buffer) r buffer
     unfolding pointsOf pointRoom
     too-short l b s p t n =
-        let short : ltb (length buffer) (33 * (length bytes / 7 + 1)) ≡ true = lt-ltb (length buffer) (33 * (length bytes / 7 + 1)) (omega arith) in
+        let short : ltb (length buffer) (49 * (length bytes / 7 + 1)) ≡ true = lt-ltb (length buffer) (49 * (length bytes / 7 + 1)) (omega arith) in
         rw (e, pointsOf, short) (nothing b r buffer p t n s)
 
-    pub long-enough : length bytes / 7 < length buffer / 33 → (out : List ℕ)
+    pub long-enough : length bytes / 7 < length buffer / 49 → (out : List ℕ)
         → Points (pointsFrom m start bytes buffer) r out → Points (pointsOf file bytes start buffer) r out
     unfolding pointsOf pointRoom
     long-enough l out x =
-        let long : ltb (length buffer) (33 * (length bytes / 7 + 1)) ≡ false = le-ltb (length buffer) (33 * (length bytes / 7 + 1)) (omega arith) in
+        let long : ltb (length buffer) (49 * (length bytes / 7 + 1)) ≡ false = le-ltb (length buffer) (49 * (length bytes / 7 + 1)) (omega arith) in
         rw (e, pointsOf, long) x
 
   module _ (m : Monitor) where

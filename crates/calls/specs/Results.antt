@@ -19,7 +19,7 @@ use Rattle.machine.specs.Monitor.{Frame}
 use Rattle.machine.specs.Recheck.{Recheck}
 use Rattle.machine.specs.Agreement.{AgreeOn}
 use Rattle.syntax.specs.Limits.{mostVars}
-use Rattle.stepper.specs.Shown.{placeOf}
+use Rattle.threads.specs.Held.{placeOf}
 use Rattle.run.specs.Results.{Runs}
 use Rattle.run.specs.declared.Running.{Running}
 use Rattle.meaning.specs.Points as points

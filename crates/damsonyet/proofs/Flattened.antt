@@ -13,8 +13,8 @@ use Rattle.meaning.specs.Calls.{Record, Running, Machine, ran, refused-file, no
 use Rattle.meaning.specs.Decide.Calls.{running}
 use Rattle.demands.proofs.Demand1.{running-iff}
 use Rattle.demands.proofs.Widths.{ran-fits}
-use Rattle.stepper.specs.Shown.{placeOf, placesOf, idleThread}
-use Rattle.stepper.specs.declared.Thread.{Thread}
+use Rattle.threads.specs.Held.{placeOf, placesOf, idleThread}
+use Rattle.threads.specs.declared.Thread.{Thread}
 use Rattle.point.specs.Held.{heldByte}
 use Rattle.points.proofs.Shown.{byte-is}
 use Rattle.run.specs.Results as results

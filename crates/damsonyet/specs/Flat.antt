@@ -20,7 +20,7 @@ use Rattle.meaning.specs.Trace.{FrameRecords, linesOf}
 use Rattle.meaning.specs.Decide.Check.{check}
 use Rattle.meaning.specs.Calls.{Record, Running, ran, refused-file, not-run, plain-machine, table-machine, Startable}
 use Rattle.meaning.specs.Decide.Calls.{runList, running}
-use Rattle.stepper.specs.Shown.{placesOf}
+use Rattle.threads.specs.Held.{placesOf}
 use Rattle.point.specs.Held.{heldByte}
 use Rattle.run.specs.declared.Running as code
 use Rattle.answers.specs.Says.{Says}

@@ -13,8 +13,8 @@ use Rattle.meaning.specs.Calls as calls
 use Rattle.meaning.specs.Hex.{hex2}
 use Rattle.meaning.specs.Decide.Table.{forEach}
 use Rattle.meaning.specs.Lines.{placeByte, valueDigits, placeDigits, recordLine}
-use Rattle.stepper.specs.Shown.{placeOf, idleThread, placesOf}
-use Rattle.stepper.specs.declared.Thread.{Thread}
+use Rattle.threads.specs.Held.{placeOf, idleThread, placesOf}
+use Rattle.threads.specs.declared.Thread.{Thread}
 use Rattle.digits.specs.Written.{Writes}
 use Rattle.digits.proofs.ForEach.{forEach-length}
 use Rattle.lines.specs.Written.{Fits, byteOf, valueAt, placeAt, valuesAt, placesAt, heldLine}

@@ -10,8 +10,8 @@ use Rattle.meaning.specs.Hex.{hex2}
 use Rattle.meaning.specs.Decide.Table.{forEach}
 use Rattle.meaning.specs.Calls as calls
 use Rattle.demands.specs.Widths.{RecordFits}
-use Rattle.stepper.specs.Shown.{placeOf, placesOf}
-use Rattle.stepper.specs.declared.Thread.{Thread}
+use Rattle.threads.specs.Held.{placeOf, placesOf}
+use Rattle.threads.specs.declared.Thread.{Thread}
 use Rattle.digits.specs.Written.{Writes}
 
 -- each value with 128 added, and the threads' places; the record's numbers fit their digits

@@ -1,6 +1,6 @@
 -- The two changes of threads, `beginWait` and `leave`: what each makes of the places, of the queue and of the line on a
 -- guard, and that the tests `waitsOn`, `next` and `firstNotified` decide what `Rules` says.
-use Prim.Native.Nat.{ℕ}
+use Prim.Native.Nat.{ℕ, _<_}
 use mathlib.Core.Path.{_≡_, refl, sym, ap, ap₂, _∙_, fun-ext}
 use mathlib.Core.Bool.{Bool, true, false, not, false≢true, true≢false}
 use mathlib.Core.Logic.{_↔_}
@@ -8,8 +8,8 @@ use mathlib.Core.List.{List, [], _∷_, _++_, append-nil}
 use lib.Dec.{eqb}
 use borrow.Author.Tests.{eqb-true, eq-eqb, ne-eqb}
 use Rattle.machine.specs.Monitor.{Place, idle, waiting, due, Threads, SameThreads, Monitor, onGuard, waitsOn}
-use Rattle.machine.specs.Monitor.{line}
-use Rattle.machine.specs.Queue.{has, those, joined, left}
+use Rattle.machine.specs.Monitor.{line, threads, turn, turnAt}
+use Rattle.machine.specs.Queue.{has, those, joined, left, placeIn}
 use Rattle.machine.specs.Decide.Step.{isWaiting, beginWait, leave, next, firstNotified}
 use Rattle.machine.specs.Rules.{Waits, Front, First, Moved}
 use Rattle.logic.proofs.Bools.{split-eq, clash, both, true-not}
@@ -25,6 +25,11 @@ same-trans a b = record {
   same-place = λ u h. a .same-place u h ∙ b .same-place u h;
   same-queue = a .same-queue ∙ b .same-queue;
 }
+
+pub same-turn : {p p′ : Threads} → SameThreads p p′ → (u : ℕ) → u < threads → turn p u ≡ turn p′ u
+unfolding turn
+same-turn same u h =
+    ap₂ (λ (q : Place) (l : List ℕ). turnAt q (placeIn l u)) (same .same-place u h) (same .same-queue)
 
 -- The two changes of places
 

@@ -33,13 +33,13 @@ heldSet n = n % 256 ∷ n / 256 ∷ []
 unfoldable pub heldValue : List ℕ → ℕ → List ℕ
 heldValue values k = getD values k 0 % 256 ∷ []
 
-unfoldable pub heldPlace : List ℕ → ℕ → List ℕ
-heldPlace bytes t = getD bytes t 0 ∷ []
+unfoldable pub heldEach : List ℕ → ℕ → List ℕ
+heldEach bytes t = getD bytes t 0 ∷ []
 
 -- what both machines have in common, a machine's notices, and the table's part
 unfoldable pub heldShared : List ℕ → List ℕ → ℕ → List ℕ
 heldShared values bytes guards =
-    forEach mostVars 0 (heldValue values) ++ (forEach 16 0 (heldPlace bytes) ++ heldSet guards)
+    forEach mostVars 0 (heldValue values) ++ (forEach 16 0 (heldEach bytes) ++ heldSet guards)
 
 unfoldable pub heldNotices : ℕ → ℕ → List ℕ
 heldNotices now told = heldSet now ++ heldSet told
@@ -47,6 +47,7 @@ heldNotices now told = heldSet now ++ heldSet told
 unfoldable pub heldTable : ℕ → ℕ → ℕ → List ℕ
 heldTable there now told = there ∷ heldNotices now told
 
-unfoldable pub heldPoint : (values bytes : List ℕ) (guards plain told there table woken : ℕ) → List ℕ
-heldPoint values bytes guards plain told there table woken =
-    (heldShared values bytes guards ++ heldNotices plain told) ++ heldTable there table woken
+unfoldable pub heldPoint : (values bytes : List ℕ) (guards plain told there table woken : ℕ) (turns : List ℕ) → List ℕ
+heldPoint values bytes guards plain told there table woken turns =
+    (heldShared values bytes guards ++ heldNotices plain told)
+    ++ (heldTable there table woken ++ forEach 16 0 (heldEach turns))

@@ -10,7 +10,7 @@ ghost use Rattle.meaning.specs.Decide.Table.{forEach};
 ghost use Rattle.threads.specs.Held.{placeOf, placesOf, turnsOf};
 ghost use Rattle.digits.specs.Written.{Writes};
 ghost use Rattle.lines.specs.Written.{PutsLine};
-ghost use Rattle.point.specs.Held.{regionPart, duePart, idlePart, heldByte, heldSet, heldValue, heldPlace};
+ghost use Rattle.point.specs.Held.{regionPart, duePart, idlePart, heldByte, heldSet, heldValue, heldEach};
 ghost use Rattle.point.specs.Held.{heldShared, heldNotices, heldTable, heldPoint};
 
 // The bytes of a point.
@@ -118,7 +118,7 @@ fn put_values(out: &mut [u8], at: usize, values: [u16; syntax::VARIABLES]) -> us
 // A byte for each thread: its place, or its turn.
 fn put_each(out: &mut [u8], at: usize, bytes: [u8; machine::THREADS]) -> usize
     requires { ⌜ at + 16 ≤ length (now out) ⌝ }
-    ensures { λ r. ⌜ Writes (forEach 16 0 (heldPlace bytes)) (now (out .entry)) at r (now (out .exit)) ⌝ }
+    ensures { λ r. ⌜ Writes (forEach 16 0 (heldEach bytes)) (now (out .entry)) at r (now (out .exit)) ⌝ }
 {
     let mut to = at;
     let mut t = 0;

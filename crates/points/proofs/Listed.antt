@@ -86,11 +86,11 @@ module _ {bytes : List ℕ} {s : ℕ} {bounds : Bounds} {layout : Layout} {holds
       }
 
   -- there is room for every point
-  pub room : (k : ℕ) → k ≤ length fs → 33 * k + 33 ≤ length out
+  pub room : (k : ℕ) → k ≤ length fs → 49 * k + 49 ≤ length out
   room k h = let r = a .room in omega arith
 
   -- the first point, and one more
-  pub listed-first : {to : ℕ} {e : List ℕ} → length (pointAt m s fs 0) ≡ 33 → Writes (pointAt m s fs 0) out 0 to e
+  pub listed-first : {to : ℕ} {e : List ℕ} → length (pointAt m s fs 0) ≡ 49 → Writes (pointAt m s fs 0) out 0 to e
       → Listed m s fs (0 + 1) out to e
   unfolding forEach
   listed-first l w =
@@ -98,7 +98,7 @@ module _ {bytes : List ℕ} {s : ℕ} {bounds : Bounds} {layout : Layout} {holds
       record { writes = written-same one w; long = sym (ap length one) ∙ l }
 
   pub listed-next : (k : ℕ) {to to′ : ℕ} {e e′ : List ℕ} → k < length fs → Listed m s fs (k + 1) out to e
-      → length (pointAt m s fs (k + 1)) ≡ 33 → Writes (pointAt m s fs (k + 1)) e to to′ e′
+      → length (pointAt m s fs (k + 1)) ≡ 49 → Writes (pointAt m s fs (k + 1)) e to to′ e′
       → Listed m s fs (k + 1 + 1) out to′ e′
   listed-next k h x l w =
       let r = room (k + 1) (omega arith) in

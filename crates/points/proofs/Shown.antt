@@ -15,7 +15,8 @@ use Rattle.sets.specs.Set.{member}
 use Rattle.syntax.specs.Limits.{mostVars}
 use Rattle.syntax.specs.Tree.{Monitor, Var}
 use Rattle.machine.specs.Monitor.{Place, idle, waiting, due, Threads, SameThreads, Config, Frame, Run}
-use Rattle.machine.specs.Monitor.{threads}
+use Rattle.machine.specs.Monitor.{threads, turn}
+use Rattle.machine.proofs.Order.{same-turn}
 use Rattle.machine.specs.Monitor as machine
 use Rattle.machine.proofs.Reached.{PlaceWithin}
 use Rattle.meaning.specs.Held.{Biased}
@@ -24,20 +25,21 @@ use Rattle.meaning.specs.State.{stateAt, count}
 use Rattle.meaning.specs.Bits.{eachFrom}
 use Rattle.meaning.specs.Decide.Table.{forEach}
 use Rattle.meaning.specs.Lines.{placeByte}
-use Rattle.meaning.specs.Points.{valueBytes, placeBytes, setBytes, sharedBytes, noticeBytes, noticesAt, plainPart, tablePart}
-use Rattle.meaning.specs.Points.{pointAt}
+use Rattle.meaning.specs.Points.{valueBytes, placeBytes, turnBytes, setBytes, sharedBytes, noticeBytes, noticesAt}
+use Rattle.meaning.specs.Points.{plainPart, tablePart, turnPart, pointAt}
 use Rattle.meaning.proofs.ModelLaws.{holds-below, kept-below}
 use Rattle.digits.proofs.ForEach.{forEach-same}
 use Rattle.lines.proofs.Writing.{offset-abs}
-use Rattle.stepper.specs.Shown.{ofMachine, noticesIn, placesOf, threadsOf}
-use Rattle.stepper.specs.declared.Thread.{Thread}
+use Rattle.threads.specs.Held.{placesOf, turnsOf, threadsOf, Turned}
+use Rattle.stepper.specs.Shown.{ofMachine, noticesIn}
+use Rattle.threads.specs.declared.Threads as held
 use Rattle.stepper.specs.declared.Run as code
 use Rattle.run.specs.Results.{machineOf}
 use Rattle.run.specs.Way.{runOf, At, TableAt, goes-on, has-stopped}
 use Rattle.run.specs.declared.frames.Going.{Going}
 use Rattle.run.proofs.Records.{set-shown, list-run}
 use Rattle.variables.specs.declared.Bounds.{Bounds}
-use Rattle.point.specs.Held.{regionPart, duePart, idlePart, heldByte, heldSet, heldValue, heldPlace}
+use Rattle.point.specs.Held.{regionPart, duePart, idlePart, heldByte, heldSet, heldValue, heldEach}
 use Rattle.point.specs.Held.{heldShared, heldNotices, heldTable, heldPoint}
 use Rattle.points.specs.Written.{PointStands}
 
@@ -76,17 +78,27 @@ byte-is (waiting r) h = or-zero-r (bitOr r 0) ∙ or-zero-r r
 byte-is (due r) h =
     let e : bitOr r 16 ≡ 16 + r = or-shifted-r 1 4 r (h r refl) in or-zero-r (bitOr r 16) ∙ e ∙ omega arith
 
-places-are : (ts : List Thread) (p : Threads) (bytes : List ℕ) → SameThreads (threadsOf ts) p
+places-are : (ts : held.Threads) (p : Threads) (bytes : List ℕ) → SameThreads (threadsOf ts) p
     → ((t r : ℕ) → p .place t ≡ due r → r < 16)
-    → ((t : ℕ) → t < 16 → getD bytes t 0 ≡ heldByte (placesOf ts t))
-    → forEach 16 0 (heldPlace bytes) ≡ placeBytes p
-unfolding heldPlace placeBytes threads
+    → ((t : ℕ) → t < 16 → getD bytes t 0 ≡ heldByte (placesOf (ts .each) t))
+    → forEach 16 0 (heldEach bytes) ≡ placeBytes p
+unfolding heldEach placeBytes threads
 places-are ts p bytes same low each =
-    forEach-same 16 0 (heldPlace bytes) (λ t. placeByte (p .place t) ∷ [])
+    forEach-same 16 0 (heldEach bytes) (λ t. placeByte (p .place t) ∷ [])
     (λ j h.
     let l : j < 16 = omega arith in
     ap (λ (n : ℕ). n ∷ []) (each j l ∙ ap heldByte (same .same-place j l) ∙ byte-is (p .place j) (low j)))
     ∙ each-byte 16 0 (λ t. placeByte (p .place t))
+
+turns-are : (ts : held.Threads) (p : Threads) (turns : List ℕ) → SameThreads (threadsOf ts) p → Turned ts
+    → ((t : ℕ) → t < 16 → getD turns t 0 ≡ turnsOf (ts .each) t) → forEach 16 0 (heldEach turns) ≡ turnBytes p
+unfolding heldEach turnBytes threads
+turns-are ts p turns same turned each =
+    forEach-same 16 0 (heldEach turns) (λ t. turn p t ∷ [])
+    (λ j h.
+    let l : j < 16 = omega arith in
+    ap (λ (n : ℕ). n ∷ []) (each j l ∙ turned .turns j l ∙ same-turn same j l))
+    ∙ each-byte 16 0 (turn p)
 
 set-is : (n : ℕ) (f : ℕ → Bool) → n < 2 ^ 16 → ((u : ℕ) → u < 16 → member n u ≡ f u) → heldSet n ≡ setBytes f
 unfolding heldSet setBytes threads
@@ -150,9 +162,10 @@ module _ {m : Monitor} {s : ℕ} {fs : List Frame} {k : ℕ} {bounds : Bounds} {
       let few = x .held .few-regions in
       omega arith
 
-  module _ (values bytes : List ℕ) (holding told : ℕ)
+  module _ (values bytes turns : List ℕ) (holding told : ℕ)
       (valued : Biased (vars m) (stateAt (vars m) (g .run .state)) values)
-      (placed : (t : ℕ) → t < 16 → getD bytes t 0 ≡ heldByte (placesOf (g .run .threads) t))
+      (placed : (t : ℕ) → t < 16 → getD bytes t 0 ≡ heldByte (placesOf (g .run .threads .each) t))
+      (turned : (t : ℕ) → t < 16 → getD turns t 0 ≡ turnsOf (g .run .threads .each) t)
       (held-small : holding < 2 ^ 16)
       (held-are : (u : ℕ) → u < 16 → member holding u ≡ member (getD hs (g .run .state % 4096) 0) u && ltb u count)
       (plain-small : g .run .plain < 2 ^ 16) (told-small : told < 2 ^ 16)
@@ -180,23 +193,31 @@ module _ {m : Monitor} {s : ℕ} {fs : List Frame} {k : ℕ} {bounds : Bounds} {
         (x .plain-before))))
         ∙ sym (ap (plainPart m (runOf (model m) false s (take (k - 1) fs))) (x .way .plain .taken))
 
+    turns-last : forEach 16 0 (heldEach turns) ≡ turnPart (runOf (model m) false s (take k fs))
+    unfolding turnPart
+    turns-last =
+        turns-are (g .run .threads) (here .threads) turns (x .way .plain .shows .threads) (x .way .plain .shows .turns) turned
+        ∙ sym (ap turnPart (x .way .plain .taken))
+
     joined : (there table woken : ℕ)
         → heldTable there table woken
         ≡ tablePart (runOf (model m) true s (take (k - 1) fs)) (runOf (model m) true s (take k fs))
-        → heldPoint values bytes holding (g .run .plain) told there table woken ≡ pointAt m s fs k
+        → heldPoint values bytes holding (g .run .plain) told there table woken turns ≡ pointAt m s fs k
     unfolding heldPoint pointAt machineOf
     joined there table woken e =
         ap₂ (λ (p q : List ℕ). p ++ q)
         (plain-is
         ∙ ap₂ (λ (p q : Run). plainPart m p q) (sym (list-run m false s (take (k - 1) fs)))
         (sym (list-run m false s (take k fs))))
+        (ap₂ (λ (p q : List ℕ). p ++ q)
         (e
         ∙ ap₂ (λ (p q : Run). tablePart p q) (sym (list-run m true s (take (k - 1) fs)))
         (sym (list-run m true s (take k fs))))
+        (turns-last ∙ ap turnPart (sym (list-run m false s (take k fs)))))
 
     -- the table's machine has stopped
     pub point-absent : (g .lost .number ≡ 0 → ⊥)
-        → heldPoint values bytes holding (g .run .plain) told 0 0 0 ≡ pointAt m s fs k
+        → heldPoint values bytes holding (g .run .plain) told 0 0 0 turns ≡ pointAt m s fs k
     unfolding heldTable heldNotices heldSet tablePart
     point-absent other = joined 0 0 0 (go (x .way .table))
       where
@@ -209,7 +230,7 @@ module _ {m : Monitor} {s : ℕ} {fs : List Frame} {k : ℕ} {bounds : Bounds} {
     -- it is there
     pub point-there : g .lost .number ≡ 0 → (woken : ℕ) → g .run .table < 2 ^ 16 → woken < 2 ^ 16
         → ((u : ℕ) → member woken u ≡ member (g .run .table) u && not (member table-before u))
-        → heldPoint values bytes holding (g .run .plain) told 1 (g .run .table) woken ≡ pointAt m s fs k
+        → heldPoint values bytes holding (g .run .plain) told 1 (g .run .table) woken turns ≡ pointAt m s fs k
     unfolding heldTable heldNotices noticeBytes tablePart ofMachine
     point-there zero-number woken table-small woken-small woken-are = joined 1 (g .run .table) woken (go (x .way .table))
       where

@@ -48,10 +48,10 @@ pub record PointStands (m : Monitor) (s : ℕ) (fs : List Frame) (k : ℕ) (boun
       g .lost .number ≡ 0 → (u : ℕ) → u < 16 → member table u
       ≡ noticesAt (runOf (model m) true s (take (k - 1) fs)) u
 
--- what is written up to a point: the points so far, of 33 bytes each
+-- what is written up to a point: the points so far, of 49 bytes each
 pub record Listed (m : Monitor) (s : ℕ) (fs : List Frame) (n : ℕ) (before : List ℕ) (to : ℕ) (after : List ℕ) : Type 0 where
   pub writes : Writes (forEach n 0 (pointAt m s fs)) before 0 to after
-  pub long : length (forEach n 0 (pointAt m s fs)) ≡ 33 * n
+  pub long : length (forEach n 0 (pointAt m s fs)) ≡ 49 * n
 
 -- a stop of the code says an answer
 pub record StopSays (stop : Stop) (a : Answer) : Type 0 where

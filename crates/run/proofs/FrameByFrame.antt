@@ -12,7 +12,8 @@ use Rattle.machine.specs.Monitor.{Monitor, Config, Run, accepted, stopped, allI
 use Rattle.machine.specs.Decide.Step.{Outcome, moved, refused, step, run}
 use Rattle.machine.specs.Monitor as machine
 use Rattle.machine.specs.Agreement.{Checked, Agrees, plainRun, tableRun}
-use Rattle.machine.proofs.Agreement.{agrees}
+use Rattle.machine.proofs.Agreement.{agrees, plain-every-point, table-every-point}
+use Rattle.machine.proofs.Points.{ToldAt}
 use Rattle.machine.proofs.RulesDecided.{run-on, run-stop, refused-number, told-decides}
 use Rattle.machine.proofs.Reached.{start-reached, step-reached}
 use Rattle.meaning.specs.Decide.Frames.{framesOf, frames}
@@ -72,6 +73,13 @@ pub at-start : (m : Monitor) (w : Bool) (s : ℕ) (fs : List machine.Frame) (r :
 unfolding run
 at-start m w s fs r shows k =
     record { point = allIdle s; taken = refl; shows = shows; reached = start-reached m s k }
+
+-- at which it has told those whom its notices are for
+pub at-told : (m : Monitor) → Checked m → (w : Bool) (s : ℕ) → m .kept s ≡ true → (fs : List machine.Frame) {r : code.Run}
+    {k : ℕ} (x : At m w s fs r k) → ToldAt m w (x .point)
+unfolding ToldAt toldOn plainRun tableRun
+at-told m ok true s h fs {k = k} x = table-every-point m ok s h (take k fs) (x .point) (x .taken)
+at-told m ok false s h fs {k = k} x = plain-every-point m ok s h (take k fs) (x .point) (x .taken)
 
 module _ (m : Monitor) (w : Bool) (s : ℕ) (fs : List machine.Frame) {r : code.Run} {k : ℕ} (x : At m w s fs r k)
     (below : k ≤ length fs) where

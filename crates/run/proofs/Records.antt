@@ -15,7 +15,8 @@ use borrow.Author.Tests.{eqb-true, eqb-false}
 use Rattle.sets.specs.Set.{member, size}
 use Rattle.sets.proofs.SetLaws.{member-zero, member-suc, size-ones}
 use Rattle.syntax.specs.Tree.{Monitor}
-use Rattle.machine.specs.Monitor.{SameThreads, Config, Run, accepted, stopped, allIdle, threads}
+use Rattle.machine.specs.Monitor.{SameThreads, Config, Run, accepted, stopped, allIdle, threads, turn}
+use Rattle.machine.proofs.Order.{same-turn}
 use Rattle.machine.specs.Decide.Step.{Told, run}
 use Rattle.machine.specs.Monitor as machine
 use Rattle.machine.specs.Agreement.{Checked}
@@ -34,9 +35,11 @@ use Rattle.meaning.proofs.ModelLaws.{kept-below}
 use Rattle.meaning.specs.Calls.{Machine, not-run, recordOf}
 use Rattle.meaning.specs.Bits.{eachFrom, bits, ones}
 use Rattle.meaning.specs.Decide.Calls.{toldBy, runningOf, runList, runFrames, runFrom}
-use Rattle.stepper.specs.declared.Thread.{Thread}
+use Rattle.threads.specs.declared.Thread.{Thread}
+use Rattle.threads.specs.declared.Threads.{Threads}
 use Rattle.stepper.specs.declared.Run as code
-use Rattle.stepper.specs.Shown.{noticesIn, Shows, placeOf, placesOf, threadsOf, idleThread, toldOn}
+use Rattle.threads.specs.Held.{placeOf, placesOf, turnsOf, threadsOf, idleThread, Turned}
+use Rattle.stepper.specs.Shown.{noticesIn, Shows, toldOn}
 use Rattle.demands.proofs.Demand2.{run-reached, run-stops}
 use Rattle.meaning.proofs.Each.{each-length, each-first}
 use Rattle.run.specs.Way.{runOf}
@@ -47,20 +50,27 @@ use Rattle.run.specs.declared.Running.{Running}
 
 -- ---- the record of a point
 
--- sixteen threads that show the places are the list of the places
-pub places-shown : (ts : List Thread) (c : Config) → length ts ≡ 16
-    → SameThreads (threadsOf ts) (c .threads)
-    → map (λ (t : Thread). placeOf (t .place)) ts ≡ eachFrom threads 0 (c .threads .place)
-unfolding threads placesOf
-places-shown ts c l h =
-    let f : Thread → machine.Place = λ t. placeOf (t .place) in
+-- of sixteen threads, what each shows is the list of it
+each-shown : {A : Type 0} (f : Thread → A) (g : ℕ → A) (ts : List Thread) → length ts ≡ 16
+    → ((u : ℕ) → u < 16 → f (getD ts u idleThread) ≡ g u) → map f ts ≡ eachFrom 16 0 g
+each-shown f g ts l h =
     let n = length-map ts f in
-    ext-getD (f idleThread) (map f ts) (eachFrom 16 0 (c .threads .place))
-    (n ∙ l ∙ sym (each-length 16 0 (c .threads .place)))
+    ext-getD (f idleThread) (map f ts) (eachFrom 16 0 g) (n ∙ l ∙ sym (each-length 16 0 g))
     (λ i b.
     let low : i < 16 = omega arith in
-    List·getD-map f ts i idleThread ∙ h .same-place i low
-    ∙ sym (each-first 16 (c .threads .place) i (f idleThread) low))
+    List·getD-map f ts i idleThread ∙ h i low ∙ sym (each-first 16 g i (f idleThread) low))
+
+-- their places, and their turns
+pub places-shown : (ts : Threads) (c : Config) → length (ts .each) ≡ 16 → SameThreads (threadsOf ts) (c .threads)
+    → map (λ (t : Thread). placeOf (t .place)) (ts .each) ≡ eachFrom threads 0 (c .threads .place)
+unfolding threads placesOf
+places-shown ts c l h = each-shown (λ t. placeOf (t .place)) (c .threads .place) (ts .each) l (h .same-place)
+
+pub turns-shown : (ts : Threads) (c : Config) → length (ts .each) ≡ 16 → SameThreads (threadsOf ts) (c .threads)
+    → Turned ts → map (λ (t : Thread). t .turn) (ts .each) ≡ eachFrom threads 0 (turn (c .threads))
+unfolding threads turnsOf
+turns-shown ts c l h t =
+    each-shown (λ t. t .turn) (turn (c .threads)) (ts .each) l (λ u k. t .turns u k ∙ same-turn h u k)
 
 -- a number below 2 ^ n whose members are given thread by thread is the bits of the list, and has as many ones
 pub set-shown : (n t s : ℕ) (f : ℕ → Bool) → s < 2 ^ n → ((u : ℕ) → u < n → member s u ≡ f (t + u))
@@ -87,12 +97,12 @@ set-shown (suc n) t s f h e =
 
 -- the record of a run that shows a point, with the values of its state
 pub recorded : (m : Monitor) (w : Bool) (c : Config) (end : code.Run) (vs : List ℕ) (vars-held set many : ℕ)
-    → set ≡ noticesIn w end → Shows w end c → length (end .threads) ≡ 16 → set < 2 ^ 16 → vars-held ≡ length (vars m)
+    → set ≡ noticesIn w end → Shows w end c → length (end .threads .each) ≡ 16 → set < 2 ^ 16 → vars-held ≡ length (vars m)
     → Biased (vars m) (stateAt (vars m) (end .state)) vs → many ≡ size set 16
     → Records (recordOf m c) (record {
       vars = vars-held;
       values = vs;
-      threads = end .threads;
+      threads = end .threads .each;
       notified = set;
       «how_many» = many;
     })
@@ -108,6 +118,7 @@ recorded m w c end vs vars-held set many own s l small counted values sized =
       values = λ k h. v .held k (omega arith);
       unused = λ k h b. v .unused k h (omega arith);
       places = places-shown (end .threads) c l (s .threads);
+      turns = turns-shown (end .threads) c l (s .threads) (s .turns);
       notified = same .0;
       how-many = sized ∙ size-ones 16 set small ∙ same .1;
     }

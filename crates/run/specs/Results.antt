@@ -7,7 +7,7 @@ use lib.ListN.{length, getD, replicate}
 use lib.IntN.{pos}
 use Rattle.syntax.specs.Limits.{mostVars}
 use Rattle.machine.specs.Monitor as machine
-use Rattle.stepper.specs.Shown.{placeOf}
+use Rattle.threads.specs.Held.{placeOf}
 use Rattle.meaning.specs.Held.{Offset}
 use Rattle.meaning.specs.Answer.{answer}
 use Rattle.meaning.specs.Calls.{Machine, plain-machine, table-machine, ran, refused-file, not-run}
@@ -22,14 +22,16 @@ pub record Records (rec : calls.Record) (r : code.Record) : Type 0 where
   pub values : (k : ℕ) → k < length (rec .values) → Offset (getD (rec .values) k (pos 0)) (getD (r .values) k 0)
   pub unused : (k : ℕ) → k < mostVars → length (rec .values) ≤ k → getD (r .values) k 0 ≡ 128
   pub places : map (λ t. placeOf (t .place)) (r .threads) ≡ rec .places
+  pub turns : map (λ t. t .turn) (r .threads) ≡ rec .turns
   pub notified : r .notified ≡ rec .notified
   pub how-many : r .«how_many» ≡ rec .howMany
 
--- the record that stands beside a refusal: no values, all idle, none notified
+-- the record that stands beside a refusal: no values, all idle, every turn 0, none notified
 pub record NoRecord (r : code.Record) : Type 0 where
   pub vars : r .vars ≡ 0
   pub values : (k : ℕ) → k < mostVars → getD (r .values) k 0 ≡ 128
   pub places : map (λ t. placeOf (t .place)) (r .threads) ≡ replicate 16 machine.idle
+  pub turns : map (λ t. t .turn) (r .threads) ≡ replicate 16 0
   pub notified : r .notified ≡ 0
   pub how-many : r .«how_many» ≡ 0
 

@@ -1,7 +1,7 @@
 -- `lines::place_byte` meets its contract: each arm is the case of its place.
 use mathlib.Core.Path.{sym, ap}
-use Rattle.stepper.specs.Shown.{placeOf}
-use Rattle.stepper.specs.declared.Place.{Place}
+use Rattle.threads.specs.Held.{placeOf}
+use Rattle.threads.specs.declared.Place.{Place}
 use Rattle.lines.specs.Written.{byteOf}
 use borrow.Author.Needs.{needs}
 use Rattle.lines.proofs.place_byte.Statement.{statement}

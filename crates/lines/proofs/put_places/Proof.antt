@@ -5,7 +5,7 @@ use native.Mathlib.Omega.{arith}
 use mathlib.Core.Path.{_≡_}
 use Rattle.meaning.specs.Hex.{hex2}
 use Rattle.meaning.specs.Decide.Table.{forEach}
-use Rattle.stepper.specs.Shown.{idleThread, placesOf}
+use Rattle.threads.specs.Held.{idleThread, placesOf}
 use Rattle.digits.specs.Written.{Writes}
 use Rattle.lines.specs.Written.{placeAt, placesAt}
 use Rattle.digits.proofs.Writing.{written-none, turn-length, turn-room, turn}

@@ -1,8 +1,8 @@
 -- `point::due_part` meets its contract, at each variant.
 use borrow.Author.Needs.{needs}
 use mathlib.Core.Path.{sym, ap}
-use Rattle.stepper.specs.Shown.{placeOf}
-use Rattle.stepper.specs.declared.Place.{Place}
+use Rattle.threads.specs.Held.{placeOf}
+use Rattle.threads.specs.declared.Place.{Place}
 use Rattle.point.specs.Held.{duePart}
 use Rattle.point.proofs.due_part.Statement.{statement}
 use Rattle.point.proofs.due_part.Tie as tie

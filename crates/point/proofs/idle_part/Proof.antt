@@ -1,8 +1,8 @@
 -- `point::idle_part` meets its contract, at each variant.
 use borrow.Author.Needs.{needs}
 use mathlib.Core.Path.{sym, ap}
-use Rattle.stepper.specs.Shown.{placeOf}
-use Rattle.stepper.specs.declared.Place.{Place}
+use Rattle.threads.specs.Held.{placeOf}
+use Rattle.threads.specs.declared.Place.{Place}
 use Rattle.point.specs.Held.{idlePart}
 use Rattle.point.proofs.idle_part.Statement.{statement}
 use Rattle.point.proofs.idle_part.Tie as tie

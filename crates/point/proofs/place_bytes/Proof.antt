@@ -5,7 +5,7 @@ use mathlib.Core.Path.{_≡_, refl, _∙_}
 use lib.ListN.{length, getD, set, length-set}
 use lib.Seq.{getD-set-same, getD-set-other}
 use borrow.Author.Count.{below-more}
-use Rattle.stepper.specs.Shown.{placesOf, idleThread}
+use Rattle.threads.specs.Held.{placesOf, idleThread}
 use Rattle.point.specs.Held.{heldByte}
 use Rattle.point.proofs.place_bytes.Statement.{statement}
 use Rattle.point.proofs.place_bytes.Tie as tie

@@ -1,10 +1,10 @@
--- `point::put_point` meets its contract: where there is room the point's three parts, one behind the other.
+-- `point::put_point` meets its contract: where there is room the point's parts, one behind the other.
 use borrow.Author.Needs.{needs}
 use native.Mathlib.Omega.{arith}
 use lib.ListN.{length-append}
 use Rattle.digits.proofs.Writing.{written-more, written-length}
 use Rattle.lines.proofs.Writing.{put, not-put}
-use Rattle.point.specs.Held.{heldSet, heldNotices, heldPoint}
+use Rattle.point.specs.Held.{heldSet, heldNotices, heldTable, heldPoint}
 use Rattle.point.proofs.Lengths.{shared-length}
 use Rattle.point.proofs.put_point.Statement.{statement}
 use Rattle.point.proofs.put_point.Tie as tie
@@ -35,20 +35,36 @@ put-table-requires c κs =
     let k = written-length (y .put-notices .ensures) (omega arith) in
     omega (arith, l, k, y .put-notices .ensures .behind)
 
+put-each-requires : tie.Need-put-each-requires
+unfolding heldTable heldNotices heldSet
+put-each-requires c κs =
+    let z = c .before .before .before in
+    let y = z .before .before .before .before in
+    let x = y .before .before .before .before in
+    let a = x .before .before .before .before .before .args in
+    let s = shared-length (a .values) (a .bytes) (a .guards) in
+    let l = written-length (x .put-shared .ensures) (omega arith) in
+    let b = x .put-shared .ensures .behind in
+    let k = written-length (y .put-notices .ensures) (omega arith) in
+    let d = y .put-notices .ensures .behind in
+    let n = written-length (z .put-table .ensures) (omega arith) in
+    omega (arith, l, k, n, z .put-table .ensures .behind)
+
 returns-3 : tie.Need-returns-3
-unfolding heldPoint heldNotices heldSet
+unfolding heldPoint heldTable heldNotices heldSet
 returns-3 c =
-    let z = c .before .before in
+    let w = c .before .before in
+    let z = w .before .before .before .before in
     let y = z .before .before .before .before in
     let x = y .before .before .before .before in
     let a = x .before .before .before .before .before .args in
     let s = shared-length (a .values) (a .bytes) (a .guards) in
     put (omega arith)
     (written-more (written-more (x .put-shared .ensures) (omega arith) (y .put-notices .ensures))
-    (rw length-append (omega arith)) (z .put-table .ensures))
+    (rw length-append (omega arith)) (written-more (z .put-table .ensures) (omega arith) (w .put-each .ensures)))
 
 pub put-point-spec : {M : Type 1} → statement M
 put-point-spec =
     tie.close
     (tie.spec returns (λ c. search needs) returns-2 (λ c κs. search needs) put-notices-requires put-table-requires
-    (λ c. search needs) returns-3)
+    put-each-requires (λ c. search needs) returns-3)

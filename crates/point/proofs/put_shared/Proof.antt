@@ -7,8 +7,8 @@ use Rattle.point.proofs.Lengths.{values-length, places-length}
 use Rattle.point.proofs.put_shared.Statement.{statement}
 use Rattle.point.proofs.put_shared.Tie as tie
 
-put-places-requires : tie.Need-put-places-requires
-put-places-requires c κs =
+put-each-requires : tie.Need-put-each-requires
+put-each-requires c κs =
     let x = c .before .before .before in
     let v = values-length (x .before .before .before .args .values) in
     let l = written-length (x .put-values .ensures) (omega arith) in
@@ -23,8 +23,8 @@ put-set-requires c κs =
     let p = places-length (a .bytes) in
     let l = written-length (x .put-values .ensures) (omega arith) in
     let b = x .put-values .ensures .behind in
-    let k = written-length (y .put-places .ensures) (omega arith) in
-    omega (arith, l, k, y .put-places .ensures .behind)
+    let k = written-length (y .put-each .ensures) (omega arith) in
+    omega (arith, l, k, y .put-each .ensures .behind)
 
 returns : tie.Need-returns
 unfolding heldShared
@@ -38,9 +38,9 @@ returns c =
     let l = written-length (x .put-values .ensures) (omega arith) in
     let b = x .put-values .ensures .behind in
     written-more (x .put-values .ensures) (omega arith)
-    (written-more (y .put-places .ensures) (omega arith) (z .put-set .ensures))
+    (written-more (y .put-each .ensures) (omega arith) (z .put-set .ensures))
 
 pub put-shared-spec : {M : Type 1} → statement M
 put-shared-spec =
     tie.close
-    (tie.spec (λ c κs. search needs) put-places-requires put-set-requires (λ c. search needs) returns)
+    (tie.spec (λ c κs. search needs) put-each-requires put-set-requires (λ c. search needs) returns)

@@ -19,10 +19,12 @@ returns c m s fs k x room =
     let v = u .before .before .before .before in
     let low = state-below x in
     let known = u .before .before .before .struct-known .given in
-    let e = point-absent x (v .before .values-of .result) (v .place-bytes .result) (u .before .below .result) (u .minus .result)
-    (v .before .values-of .ensures .are (vars m) (x .bounded) low) (v .place-bytes .ensures) (omega arith)
+    let e = point-absent x (v .before .before .values-of .result) (v .before .place-bytes .result) (v .turn-bytes .result)
+    (u .before .below .result) (u .minus .result)
+    (v .before .before .values-of .ensures .are (vars m) (x .bounded) low) (v .before .place-bytes .ensures)
+    (v .turn-bytes .ensures) (omega arith)
     (u .before .below .ensures) (omega arith) (omega arith) (u .minus .ensures) (λ z. omega (arith, t .if1 .taken)) in
-    (written-same e (d .put-point .ensures .written room), sym (ap length e) ∙ point-length _ _ _ _ _ _ _ _)
+    (written-same e (d .put-point .ensures .written room), sym (ap length e) ∙ point-length _ _ _ _ _ _ _ _ _)
 
 returns-2 : tie.Need-returns-2
 unfolding model
@@ -33,15 +35,17 @@ returns-2 c m s fs k x room =
     let v = u .before .before .before .before in
     let low = state-below x in
     let known = u .before .before .before .struct-known .given in
-    let e = point-there x (v .before .values-of .result) (v .place-bytes .result) (u .before .below .result) (u .minus .result)
-    (v .before .values-of .ensures .are (vars m) (x .bounded) low) (v .place-bytes .ensures) (omega arith)
+    let e = point-there x (v .before .before .values-of .result) (v .before .place-bytes .result) (v .turn-bytes .result)
+    (u .before .below .result) (u .minus .result)
+    (v .before .before .values-of .ensures .are (vars m) (x .bounded) low) (v .before .place-bytes .ensures)
+    (v .turn-bytes .ensures) (omega arith)
     (u .before .below .ensures) (omega arith) (omega arith) (u .minus .ensures) (omega (arith, n .before .if1 .left))
     (n .minus2 .result) (omega arith) (omega arith) (n .minus2 .ensures) in
-    (written-same e (d .put-point2 .ensures .written room), sym (ap length e) ∙ point-length _ _ _ _ _ _ _ _)
+    (written-same e (d .put-point2 .ensures .written room), sym (ap length e) ∙ point-length _ _ _ _ _ _ _ _ _)
 
 pub write-point-spec : {M : Type 1} → statement M
 write-point-spec =
     tie.close
-    (tie.spec (λ c κs. search needs) (λ c κs. search needs) (λ c. search needs) (λ c. search needs)
+    (tie.spec (λ c κs. search needs) (λ c κs. search needs) (λ c κs. search needs) (λ c. search needs) (λ c. search needs)
     (λ c. search needs) (λ c κs. search needs) (λ c κs. search needs) (λ c κs. search needs) (λ c. search needs) returns
     (λ c κs. search needs) (λ c κs. search needs) (λ c. search needs) returns-2)

@@ -3,7 +3,7 @@ use Prim.Native.Nat.{ℕ, zero, suc, _<_}
 use native.Mathlib.Omega.{arith}
 use mathlib.Core.Path.{_≡_, refl}
 use lib.ListN.{getD, replicate}
-use Rattle.stepper.specs.Shown.{placeOf}
+use Rattle.threads.specs.Held.{placeOf}
 use Rattle.run.proofs.no_record.Statement.{statement}
 use Rattle.run.proofs.no_record.Tie as tie
 
@@ -14,7 +14,14 @@ each-at (suc n) a (suc t) h = each-at n a t (omega arith)
 
 returns : tie.Need-returns
 unfolding placeOf
-returns c = record { vars = refl; values = λ k h. each-at 6 128 k h; places = refl; notified = refl; how-many = refl }
+returns c = record {
+  vars = refl;
+  values = λ k h. each-at 6 128 k h;
+  places = refl;
+  turns = refl;
+  notified = refl;
+  how-many = refl;
+}
 
 pub no-record-spec : {M : Type 1} → statement M
 no-record-spec = tie.close (tie.spec returns)

@@ -16,7 +16,7 @@ count-requires c κs = search needs
 
 returns : tie.Need-returns
 returns c m w d b own s l =
-    let long = c .before .before .before .good .1 .0 .1 .1 .1 .0 .1 .0 .1 in
+    let long = c .before .before .before .before .good .1 .0 .1 .1 .1 .0 .1 .1 .0 .1 .0 .1 in
     let same = s .state in
     recorded m w d _ _ _ _ _ own s (simp length-map at long) (omega arith) (b .counted)
     (c .before .values-of .ensures .are (vars m) b (omega arith))

@@ -3,7 +3,7 @@ use mathlib.Core.Path.{refl}
 use borrow.Author.Needs.{needs}
 use Rattle.stepper.specs.Shown.{frameOf}
 use Rattle.stepper.specs.declared.Frame.{Frame}
-use Rattle.run.proofs.FrameByFrame.{frame-here, passed}
+use Rattle.run.proofs.FrameByFrame.{frame-here, at-told, passed}
 use Rattle.run.proofs.frames.pass.Statement.{statement}
 use Rattle.run.proofs.frames.pass.Tie as tie
 
@@ -18,7 +18,7 @@ returns c m kept s fs asked start more way =
     let h = frame-here (a .bytes .now) fs (a .k) (a .at) (asked .read) start more f r (n .numbers-at .ensures) refl in
     passed m (asked .checked) s (asked .start) fs (a .going) (a .k) way f h (x .step .result)
     (λ w p. x .step .ensures .0 w m (p .point) kept (asked .count) (asked .held) (asked .places) (λ _. asked .table)
-    (h .thread) (p .reached) (p .shows))
+    (h .thread) (asked .checked) (p .reached) (at-told m (asked .checked) w s (asked .start) fs p) (p .shows))
     _ refl refl (c .first-lost .ensures)
 
 pub pass-spec : {M : Type 1} → statement M
