@@ -68,13 +68,13 @@ module _ (file bytes : List ℕ) (start : ℕ) (plain table : result.Running)
     -- where the table's number is 0, both runs have records, which are alike
     alike : table .answer .number ≡ 0
         → (x y : calls.Record) × Records x (plain .record) × Records y (table .record) × (x .values ≡ y .values)
-        × (x .places ≡ y .places)
+        × (x .places ≡ y .places) × (x .turns ≡ y .turns)
     unfolding Runs
     alike z =
         let says = says-run _ table t in
         let (b, e) = zero-iff-ran file bytes start table-machine .0 (sym (says .number) ∙ z) in
-        let (a, f, values, places) = same-running file bytes start .same-record b e in
-        (a, b, (rw f at p) .1, (rw e at t) .1, values, places)
+        let (a, f, values, places, turns) = same-running file bytes start .same-record b e in
+        (a, b, (rw f at p) .1, (rw e at t) .1, values, places, turns)
 
     same-results : SameResults bytes plain table
     unfolding runAnswer
@@ -84,12 +84,15 @@ module _ (file bytes : List ℕ) (start : ℕ) (plain table : result.Running)
           (λ (fs, k, f, b, e, r). inr (fs, k, f, b, rw e at (says-run _ table t), r))
           (same-running file bytes start .same-answer);
       same-vars = λ z.
-          let (x, y, a, b, values, places) = alike z in
+          let (x, y, a, b, values, places, turns) = alike z in
           a .vars ∙ ap length values ∙ sym (b .vars);
-      same-values = λ z. let (x, y, a, b, values, places) = alike z in values-alike a b values;
+      same-values = λ z. let (x, y, a, b, values, places, turns) = alike z in values-alike a b values;
       same-places = λ z.
-          let (x, y, a, b, values, places) = alike z in
+          let (x, y, a, b, values, places, turns) = alike z in
           a .places ∙ places ∙ sym (b .places);
+      same-turns = λ z.
+          let (x, y, a, b, values, places, turns) = alike z in
+          a .turns ∙ turns ∙ sym (b .turns);
     }
 
     pub both-agree : Agrees file bytes start plain table

@@ -56,7 +56,7 @@ pub record SameResults (bytes : List ℕ) (plain table : Running) : Type 0 where
       (plain .answer ≡ table .answer)
       ⊎ ((fs : List Frame) × (k : ℕ) × FrameRecords fs × (bytes ≡ linesOf fs)
       × Says (table .answer) (answer 14 k 0) × Recheck fs k)
-  -- where the table's is 0: as many variables, each value, and the place of each thread (R 12.9)
+  -- where the table's is 0: as many variables, each value, and the place and the turn of each thread (R 12.9)
   pub same-vars : table .answer .number ≡ 0 → plain .record .vars ≡ table .record .vars
   pub same-values :
       table .answer .number ≡ 0 → (k : ℕ) → k < mostVars
@@ -64,6 +64,9 @@ pub record SameResults (bytes : List ℕ) (plain table : Running) : Type 0 where
   pub same-places :
       table .answer .number ≡ 0
       → map (λ t. placeOf (t .place)) (plain .record .threads) ≡ map (λ t. placeOf (t .place)) (table .record .threads)
+  pub same-turns :
+      table .answer .number ≡ 0
+      → map (λ t. t .turn) (plain .record .threads) ≡ map (λ t. t .turn) (table .record .threads)
 
 -- both machines on one list: each result, demand 3 of the two, and of every point of the list (R 12.9, 12.11)
 pub record Agrees (file bytes : List ℕ) (start : ℕ) (plain table : Running) : Type 0 where

@@ -1,4 +1,4 @@
--- From a run's result of the code to the same with bytes for places: what the one says of the meanings, the other does too.
+-- From a run's result of the code to the same with bytes for places and turns: what the one says of the meanings, the other does too.
 use Prim.Native.Nat.{ℕ, _<_}
 use native.Mathlib.Omega.{arith}
 use mathlib.Core.Path.{_≡_, refl, sym, ap, subst, _∙_}
@@ -13,7 +13,7 @@ use Rattle.meaning.specs.Calls.{Record, Running, Machine, ran, refused-file, no
 use Rattle.meaning.specs.Decide.Calls.{running}
 use Rattle.demands.proofs.Demand1.{running-iff}
 use Rattle.demands.proofs.Widths.{ran-fits}
-use Rattle.threads.specs.Held.{placeOf, placesOf, idleThread}
+use Rattle.threads.specs.Held.{placeOf, placesOf, turnsOf, idleThread}
 use Rattle.threads.specs.declared.Thread.{Thread}
 use Rattle.point.specs.Held.{heldByte}
 use Rattle.points.proofs.Shown.{byte-is}
@@ -38,6 +38,15 @@ module _ (y : code.Running) (r : Ran) (f : Flattens y r) where
       ∙ ap heldByte (sym (List·getD-map (λ (u : Thread). placeOf (u .place)) (y .record .threads) t idleThread)
       ∙ ap (λ (xs : List Place). getD xs t idle) e)
 
+  -- and its turn, from the list of turns
+  turn-at : (ns : List ℕ) → map (λ (t : Thread). t .turn) (y .record .threads) ≡ ns → (t : ℕ) → t < 16
+      → getD (r .turns) t 0 ≡ getD ns t 0
+  unfolding turnsOf idleThread
+  turn-at ns e t l =
+      f .turns t l
+      ∙ sym (List·getD-map (λ (u : Thread). u .turn) (y .record .threads) t idleThread)
+      ∙ ap (λ (xs : List ℕ). getD xs t 0) e
+
   no-record : results.NoRecord (y .record) → NoRecord r
   no-record n =
       record {
@@ -46,6 +55,7 @@ module _ (y : code.Running) (r : Ran) (f : Flattens y r) where
         places = λ t l.
             byte-at _ (n .places) t l
             ∙ ap heldByte (getD-replicate 16 t idle idle l) ∙ byte-is idle (λ q e. absurd (no-due e));
+        turns = λ t l. turn-at _ (n .turns) t l ∙ getD-replicate 16 t 0 0 l;
         notified = f .notified ∙ n .notified;
         how-many = f .how-many ∙ n .how-many;
       }
@@ -61,6 +71,7 @@ module _ (y : code.Running) (r : Ran) (f : Flattens y r) where
         values = λ k l. subst (λ (xs : List ℕ). Offset (getD (rec .values) k (pos 0)) (getD xs k 0)) (sym (f .values)) (h .values k l);
         unused = λ k l m. ap (λ (xs : List ℕ). getD xs k 0) (f .values) ∙ h .unused k l m;
         places = λ t l. byte-at _ (h .places) t l ∙ byte-is (getD (rec .places) t idle) (low t);
+        turns = λ t l. turn-at _ (h .turns) t l;
         notified = f .notified ∙ h .notified;
         how-many = f .how-many ∙ h .how-many;
       }
@@ -99,6 +110,7 @@ module _ (x y : code.Running) (p t : Ran) (f : Flattens x p) (g : Flattens y t) 
               ∙ sym (ap (λ (xs : List ℕ). getD xs k 0) (g .values));
           same-places = λ z u l.
               byte-at x p f _ (a .same .same-places (zero z)) u l ∙ sym (byte-at y t g _ refl u l);
+          same-turns = λ z u l. turn-at x p f _ (a .same .same-turns (zero z)) u l ∙ sym (turn-at y t g _ refl u l);
         };
         points = a .points;
       }

@@ -1,4 +1,4 @@
--- The results of a run with each place as a byte, against the meanings: every part of each, for every input. As
+-- The results of a run with each place and each turn as a byte, against the meanings: every part of each, for every input. As
 -- `run/specs/Results` and `calls/specs/Results` say it of the code's own.
 use Prim.Native.Nat.{ℕ, _<_, _≤_}
 use mathlib.Core.Path.{_≡_}
@@ -20,7 +20,7 @@ use Rattle.meaning.specs.Trace.{FrameRecords, linesOf}
 use Rattle.meaning.specs.Decide.Check.{check}
 use Rattle.meaning.specs.Calls.{Record, Running, ran, refused-file, not-run, plain-machine, table-machine, Startable}
 use Rattle.meaning.specs.Decide.Calls.{runList, running}
-use Rattle.threads.specs.Held.{placesOf}
+use Rattle.threads.specs.Held.{placesOf, turnsOf}
 use Rattle.point.specs.Held.{heldByte}
 use Rattle.run.specs.declared.Running as code
 use Rattle.answers.specs.Says.{Says}
@@ -28,20 +28,22 @@ use Rattle.damsonyet.specs.declared.Ran.{Ran}
 use Rattle.damsonyet.specs.declared.BothRan.{BothRan}
 
 -- a record of a run: each value with 128 added, 128 in the slots without a variable; each thread's place as `runner`
--- prints it (R 13.13)
+-- prints it (R 13.13), and its turn
 pub record Records (rec : Record) (r : Ran) : Type 0 where
   pub vars : r .vars ≡ length (rec .values)
   pub values : (k : ℕ) → k < length (rec .values) → Offset (getD (rec .values) k (pos 0)) (getD (r .values) k 0)
   pub unused : (k : ℕ) → k < mostVars → length (rec .values) ≤ k → getD (r .values) k 0 ≡ 128
   pub places : (t : ℕ) → t < 16 → getD (r .places) t 0 ≡ placeByte (getD (rec .places) t idle)
+  pub turns : (t : ℕ) → t < 16 → getD (r .turns) t 0 ≡ getD (rec .turns) t 0
   pub notified : r .notified ≡ rec .notified
   pub how-many : r .«how_many» ≡ rec .howMany
 
--- the record that stands beside a refusal: no values, all idle, none notified (R 16.17)
+-- the record that stands beside a refusal: no values, all idle, every turn 0, none notified (R 16.17)
 pub record NoRecord (r : Ran) : Type 0 where
   pub vars : r .vars ≡ 0
   pub values : (k : ℕ) → k < mostVars → getD (r .values) k 0 ≡ 128
   pub places : (t : ℕ) → t < 16 → getD (r .places) t 0 ≡ placeByte idle
+  pub turns : (t : ℕ) → t < 16 → getD (r .turns) t 0 ≡ 0
   pub notified : r .notified ≡ 0
   pub how-many : r .«how_many» ≡ 0
 
@@ -62,6 +64,8 @@ pub record SameRan (bytes : List ℕ) (plain table : Ran) : Type 0 where
       table .answer .number ≡ 0 → (k : ℕ) → k < mostVars → getD (plain .values) k 0 ≡ getD (table .values) k 0
   pub same-places :
       table .answer .number ≡ 0 → (t : ℕ) → t < 16 → getD (plain .places) t 0 ≡ getD (table .places) t 0
+  pub same-turns :
+      table .answer .number ≡ 0 → (t : ℕ) → t < 16 → getD (plain .turns) t 0 ≡ getD (table .turns) t 0
 
 -- both machines on one list: each result, demand 3 of the two, and of every point of the list (R 12.9, 12.11)
 pub record BothAgree (file bytes : List ℕ) (start : ℕ) (r : BothRan) : Type 0 where
@@ -79,6 +83,7 @@ pub record Flattens (x : code.Running) (r : Ran) : Type 0 where
   pub vars : r .vars ≡ x .record .vars
   pub values : r .values ≡ x .record .values
   pub places : (t : ℕ) → t < 16 → getD (r .places) t 0 ≡ heldByte (placesOf (x .record .threads) t)
+  pub turns : (t : ℕ) → t < 16 → getD (r .turns) t 0 ≡ turnsOf (x .record .threads) t
   pub notified : r .notified ≡ x .record .notified
   pub how-many : r .«how_many» ≡ x .record .«how_many»
   pub of-file : r .«of_file» ≡ x .«of_file»

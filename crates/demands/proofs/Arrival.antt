@@ -9,9 +9,9 @@ use Rattle.machine.specs.Rules.{Rules}
 use Rattle.machine.specs.Arrival.{Counts}
 use Rattle.machine.specs.Agreement.{Checked}
 use Rattle.machine.proofs.Reached.{start-reached, rules-reached}
-use Rattle.machine.proofs.Turns.{lined-turns, lined-fronts, rule-turns}
+use Rattle.machine.proofs.Turns.{lined-turns, lined-lines, rule-turns}
 use Rattle.machine.proofs.Arrival.{in-order}
-use Rattle.machine.proofs.Count.{plain-run-counts, table-run-counts}
+use Rattle.machine.proofs.Count.{listed, plain-run-counts, table-run-counts}
 use Rattle.meaning.specs.Model.{kept, model}
 use Rattle.meaning.specs.Calls.{Machine, plain-machine, table-machine, noticesOf}
 use Rattle.demands.specs.Arrival.{DemandArrival}
@@ -33,8 +33,9 @@ by-arrival = record {
         lined = lined;
         turns = lined-turns (model m) lined;
         in-order = in-order (model m) ok (noticesOf m w) s fs c r;
-        fronts = lined-fronts (model m) lined;
+        lines = lined-lines (model m) lined;
         after = λ f d x. rule-turns (model m) (noticesOf m w) x lined;
+        listed = listed (model m) (noticesOf m w) c;
         counts = run-counts m ok w s k fs c r;
       };
 }

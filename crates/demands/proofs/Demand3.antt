@@ -18,7 +18,7 @@ use Rattle.machine.specs.Decide.Step.{isWaiting}
 use Rattle.machine.proofs.Order.{waiting-iff}
 use Rattle.machine.proofs.Rechecks.{waiting-paused}
 use Rattle.machine.proofs.Reached.{start-reached, rules-reached}
-use Rattle.machine.proofs.Turns.{first-by-turn}
+use Rattle.machine.proofs.Turns.{lined-lines}
 use Rattle.machine.proofs.RulesDecided.{refuses-number}
 use Rattle.logic.proofs.Bools.{no-some, different}
 use Rattle.machine.specs.Agreement.{SamePoint, Agrees, plainRun, tableRun}
@@ -220,11 +220,13 @@ module _ (m : Monitor) (c : Config) where
   is-next lined below u r w =
       let x = thread-place u (waiting r) (w .waits) in (
         x .0,
-        first-by-turn (model m) lined (guardOf m r) u (r, x .1, refl)
-            (λ v y l.
-            let h = below v (y .0, y .1) in
-            w .none-ahead v (y .0) (place-listed v h ∙ ap some (y .1)) (y .2)
-            (omega (arith, l, turn-listed v h, turn-listed u (x .0)))),
+        lined-lines (model m) lined .front (guardOf m r) u .1 (
+          (r, x .1, refl),
+          λ v y l.
+              let h = below v (y .0, y .1) in
+              w .none-ahead v (y .0) (place-listed v h ∙ ap some (y .1)) (y .2)
+              (omega (arith, l, turn-listed v h, turn-listed u (x .0))),
+        ),
         holds-guard m one-cond r (c .state) ∙ w .guard,
       )
 

@@ -1,5 +1,6 @@
--- The points of a list as data (`meaning/specs/Points`): which are there, where each stands, and that its numbers, places,
--- guards and notices are those of the points to which the machines' rules lead. The claim is `DemandPoints`.
+-- The points of a list as data (`meaning/specs/Points`): which are there, where each stands, and that its numbers,
+-- places, guards, notices and turns are those of the points to which the machines' rules lead. The claim is
+-- `DemandPoints`.
 use Prim.Native.Nat.{ℕ, _+_, _*_, _≤_, _<_}
 use mathlib.Core.Path.{_≡_}
 use mathlib.Core.Bool.{true, not, _&&_}
@@ -33,7 +34,7 @@ pub record EveryPoint (m : Monitor) (s : ℕ) (fs : List Frame) (buffer : List �
       (k : ℕ) → k < listPoints m s fs buffer .count
       → take pointSize (drop (pointSize * k) (listPoints m s fs buffer .buffer)) ≡ pointAt m s fs k
   -- they are the numbers, places and guards of the point to which the plain machine's rules lead, and who is notified
-  -- there, behind which stand those told and the table's part (R 15.6, 15.7, 15.8, 15.9)
+  -- there, behind which stand those told, the table's part and the turns (R 15.6, 15.7, 15.8, 15.9)
   pub plain :
       (k : ℕ) (c : Config) → k ≤ length fs
       → Rules (model m) (noticesOf m plain-machine) (allIdle s) (take k fs) c
@@ -43,8 +44,8 @@ pub record EveryPoint (m : Monitor) (s : ℕ) (fs : List Frame) (buffer : List �
   pub table :
       (k : ℕ) (d : Config) → k ≤ length fs
       → Rules (model m) (noticesOf m table-machine) (allIdle s) (take k fs) d
-      → (four told : List ℕ) × (length four ≡ 4)
-      × (pointAt m s fs k ≡ sharedBytes m d ++ (four ++ (1 ∷ (setBytes (d .notified) ++ told))))
+      → (four rest : List ℕ) × (length four ≡ 4)
+      × (pointAt m s fs k ≡ sharedBytes m d ++ (four ++ (1 ∷ (setBytes (d .notified) ++ rest))))
   -- where they lead to none, five bytes of 00 (R 15.12), and the turns behind
   pub absent :
       (k : ℕ) (c : Config) → k ≤ length fs

@@ -176,9 +176,12 @@ module _ (m : Monitor) (ok : Checked m) (notices : Notices) where
     -- whoever begins stands behind one who waits
     rule-last : f .flag ≡ false → waiters c t ≡ false → (u : ℕ) → waiters c u ≡ true → turn p′ u < turn p′ t
     rule-last fl new u h =
-        omega (arith, lined-turns m l .below u (waits u .0 h),
-        after .others-stay u (λ e. clash (ap (waiters c) (sym e) ∙ h) new) (λ _. fl),
-        after .begins fl (λ w. clash (waits t .1 w) new))
+        omega (
+          arith,
+          lined-turns m l .below u (waits u .0 h),
+          after .others-stay u (λ e. clash (ap (waiters c) (sym e) ∙ h) new) (λ _. fl),
+          after .begins fl (λ w. clash (waits t .1 w) new),
+        )
 
     -- those ahead of some turn k keep theirs, and those behind it close up by one
     abbrev Closes : ℕ → Type 0
@@ -188,10 +191,13 @@ module _ (m : Monitor) (ok : Checked m) (notices : Notices) where
 
     -- where nobody resumes, all keep theirs
     keeps-all : (Waiting m (p .place t) → f .flag ≡ false) → Closes (length (p .queue))
-    keeps-all h u w o = inl (lined-turns m l .below u (waits u .0 w), split-eq u t
-        (λ e. subst (λ (v : ℕ). turn p′ v ≡ turn p v) (sym e)
-        (after .recheck-stays (o (sym e)) (waits t .0 (ap (waiters c) (sym e) ∙ w))))
-        (λ e. after .others-stay u e h))
+    keeps-all h u w o = inl (
+      lined-turns m l .below u (waits u .0 w),
+      split-eq u t
+          (λ e. subst (λ (v : ℕ). turn p′ v ≡ turn p v) (sym e)
+          (after .recheck-stays (o (sym e)) (waits t .0 (ap (waiters c) (sym e) ∙ w))))
+          (λ e. after .others-stay u e h),
+    )
 
     closes-up : f .flag ≡ true → Waiting m (p .place t) → Closes (turn p t)
     closes-up fl v u w o = split (ltb (turn p u) (turn p t))

@@ -1,27 +1,24 @@
 -- The count (document 02, E4): where whoever is next in line on a guard that holds has a notice, nobody else resumes on
 -- it, so those who do before thread t are the line up to t. By induction over the frames, on what each does to the
 -- line; then for both machines, whose points are such.
-use Prim.Native.Nat.{ℕ, _<_}
-use native.Mathlib.Omega.{arith}
+use Prim.Native.Nat.{ℕ}
 use mathlib.Core.Path.{_≡_, refl, sym, subst, ap, ap₂, _∙_}
-use mathlib.Core.Bool.{Bool, true, false, _||_}
-use mathlib.Core.Logic.{_↔_, ⊎-elim}
+use mathlib.Core.Bool.{Bool, true, false, _&&_}
 use mathlib.Core.List.{List, [], _∷_, _++_, append-nil, append-assoc}
 use lib.Dec.{eqb}
-use borrow.Author.Tests.{eqb-true, eq-eqb}
-use Rattle.machine.specs.Monitor.{Place, Threads, Monitor, Frame, Config, allIdle, waitsOn, line, turn}
-use Rattle.machine.specs.Queue.{has, joined, left, placeIn}
+use borrow.Author.Tests.{eq-eqb}
+use Rattle.machine.specs.Monitor.{Place, Threads, Monitor, Frame, Config, allIdle, waitsOn, line}
+use Rattle.machine.specs.Queue.{has, joined, left}
 use Rattle.machine.specs.Decide.Step.{Outcome, moved, plainTold, beginWait, step}
 use Rattle.machine.specs.Algorithm1.{Entry}
 use Rattle.machine.specs.Decide.Table.{entryOf, broadcast}
 use Rattle.machine.specs.Rules.{Notices, PlainNotices, TableNotices, Front, Waits, Waiting, Body, Rule, rule-1a}
 use Rattle.machine.specs.Rules.{rule-1b, rule-2a, rule-2b, Rules, no-more, one-more}
-use Rattle.machine.specs.Arrival.{Once, Rising, Lined, Only00, Resumes, Resuming, no-frame, resumes, goes-on}
-use Rattle.machine.specs.Arrival.{ExactlyAhead, Counts}
+use Rattle.machine.specs.Arrival.{Once, Lined, Only00, Resumes, Resuming, no-frame, resumes, nobody-resumes}
+use Rattle.machine.specs.Arrival.{ExactlyAhead, Listed, Counts}
 use Rattle.machine.specs.Agreement.{Checked}
-use Rattle.logic.proofs.Bools.{clash, split-eq, is-false, either, or-left, neither, and}
-use Rattle.machine.proofs.Queue.{has-append, has-at, has-those, has-splits, once-those, left-absent, left-first}
-use Rattle.machine.proofs.Queue.{rising-by, rising-place, rising-those, rising-splits}
+use Rattle.logic.proofs.Bools.{clash, split, split-eq, is-false, neither, both, and}
+use Rattle.machine.proofs.Queue.{has-at, has-splits, left-absent, left-first}
 use Rattle.machine.proofs.Order.{began-moved, left-moved, moved-one, waiting-iff, waits-iff, began-line}
 use Rattle.machine.proofs.Order.{began-line-own, left-line, line-waits, front-waits, next-iff}
 use Rattle.machine.proofs.Order.{first-notified-iff}
@@ -29,60 +26,11 @@ use Rattle.machine.proofs.RulesDecided.{plain-decides, table-decides}
 use Rattle.machine.proofs.Points.{Placed, entries-placed, PlainPoint, Agree, idle-plain, idle-agree}
 use Rattle.machine.proofs.Points.{resumes as may-resume}
 use Rattle.machine.proofs.Reached.{idle-lined, rule-lined}
-use Rattle.machine.proofs.Turns.{turn-place}
+use Rattle.machine.proofs.Turns.{line-iff, line-once, line-ahead}
 use Rattle.machine.proofs.Simulation.{own-region, at, PlainGoesOn, goes-on as plain-goes-on, Match}
 use Rattle.machine.proofs.Simulation.{both-move, step-plain, step-agree}
 
--- The line on a guard
-
-module _ (m : Monitor) {p : Threads} (l : Lined m p) (g : ℕ) where
-  -- its members are those who wait on the guard, in the order of their turns
-
-  line-iff : (u : ℕ) → (has (line m p g) u ≡ true) ↔ Waits m p g u
-  unfolding line Waiting Waits
-  line-iff u = (
-    λ h. waits-iff m p g u .0 (line-waits m p g u h),
-    λ w. has-those (waitsOn m p g) (p .queue) u ∙ and (l .waits u .1 (w .0, w .1)) (waits-iff m p g u .1 w),
-  )
-
-  line-once : Once (line m p g)
-  unfolding line
-  line-once = once-those (waitsOn m p g) (p .queue) (l .once)
-
-  line-turn : (u : ℕ) → has (line m p g) u ≡ true → turn p u ≡ placeIn (p .queue) u
-  unfolding Waiting Waits
-  line-turn u h = let w = line-iff u .0 h in turn-place m p u (w .0, w .1)
-
-  line-rising : Rising (turn p) (line m p g)
-  unfolding line
-  line-rising =
-      rising-by (placeIn (p .queue)) (turn p) (line m p g)
-      (λ u v h k low. omega (arith, low, line-turn u h, line-turn v k))
-      (rising-those (placeIn (p .queue)) (waitsOn m p g) (p .queue) (rising-place (p .queue) (l .once)))
-
-  -- so those up to a member are exactly the ones ahead of it
-  line-ahead : (notices : Notices) (t : ℕ) (ahead behind : List ℕ) → line m p g ≡ ahead ++ (t ∷ behind)
-      → ExactlyAhead m g p t ahead
-  unfolding has
-  line-ahead notices t ahead behind e = record { exactly = λ u. (to u, from u); in-turn = x .0 }
-    where
-      x : Rising (turn p) ahead
-          × ((u : ℕ) → has ahead u ≡ true → turn p u < turn p t) × ((u : ℕ) → has behind u ≡ true → turn p t < turn p u)
-      x = rising-splits (turn p) ahead behind t (subst (Rising (turn p)) e line-rising)
-
-      member : (u : ℕ) → has (line m p g) u ≡ has ahead u || has (t ∷ behind) u
-      member u = ap (λ (k : List ℕ). has k u) e ∙ has-append ahead (t ∷ behind) u
-
-      to : (u : ℕ) → has ahead u ≡ true → Waits m p g u × (turn p u < turn p t)
-      to u h = (line-iff u .0 (member u ∙ or-left (has ahead u) (has (t ∷ behind) u) h), x .1 u h)
-
-      from : (u : ℕ) → Waits m p g u × (turn p u < turn p t) → has ahead u ≡ true
-      from u w = ⊎-elim (λ h. h)
-          (λ h. ⊎-elim (λ q. absurd (omega (arith, w .1, ap (turn p) (eqb-true t u q))))
-          (λ k. absurd (omega (arith, w .1, x .2 u k))) (either (eqb t u) (has behind u) h))
-          (either (has ahead u) (has (t ∷ behind) u) (sym (member u) ∙ line-iff u .1 (w .0)))
-
--- What a frame does to it
+-- What a frame does to the line on a guard
 
 -- whoever is next in line on a guard that holds has a notice
 abbrev pub FrontTold : Monitor → Config → Type 0
@@ -112,8 +60,11 @@ module _ (m : Monitor) (notices : Notices) where
       → (Resumes m g c f → ⊥) → (more : List ℕ) × (line m (d .threads) g ≡ line m (c .threads) g ++ more)
   unfolding Resumes joined Waiting
   line-grows {c} {d} {f} (rule-1a a fl h w s p n) l g nobody = split-eq (m .guardOf r) g
-      (λ e. (t ∷ [], subst (λ (k : ℕ). line m (d .threads) k ≡ line m (c .threads) k ++ (t ∷ [])) e
-      (then (m .guardOf r) ∙ began-line-own m (c .threads) t r (is-false (λ q. w (l .waits t .0 q))))))
+      (λ e. (
+        t ∷ [],
+        subst (λ (k : ℕ). line m (d .threads) k ≡ line m (c .threads) k ++ (t ∷ [])) e
+            (then (m .guardOf r) ∙ began-line-own m (c .threads) t r (is-false (λ q. w (l .waits t .0 q)))),
+      ))
       (λ e. line-stays (then g ∙ began-line m (c .threads) t r g
       (is-false (λ q. w (waiting-iff (c .threads .place t) .0 q))) e))
     where
@@ -159,6 +110,19 @@ module _ (m : Monitor) (notices : Notices) where
           body-line b own ∙ ap (λ (q : List ℕ). left q t) (front .1)
           ∙ left-first t (front .0) t refl (subst Once (front .1) (line-once m l own) .0)
 
+-- every run has a list of those who resume
+pub listed : (m : Monitor) (notices : Notices) (c : Config) → Listed m notices c
+unfolding Listed Resumes
+listed m notices c g fs d no-more = ([], no-frame)
+listed m notices c g (f ∷ fs) d (one-more {d = e} r rs) = split (waitsOn m (c .threads) g (f .thread) && f .flag)
+    (λ h.
+    let b = both (waitsOn m (c .threads) g (f .thread)) (f .flag) h in
+    let x = listed m notices e g fs d rs in
+    (f .thread ∷ x .0, resumes r (waits-iff m (c .threads) g (f .thread) .0 (b .0), b .1) (x .1)))
+    (λ h.
+    let x = listed m notices e g fs d rs in
+    (x .0, nobody-resumes r (λ y. clash (and (waits-iff m (c .threads) g (f .thread) .1 (y .0)) (y .1)) h) (x .1)))
+
 -- Over the frames, for whatever holds at a point and stays
 
 module _ (m : Monitor) (ok : Checked m) (notices : Notices) (Good : Config → Type 0)
@@ -192,7 +156,7 @@ module _ (m : Monitor) (ok : Checked m) (notices : Notices) (Good : Config → T
       ap₂ {C = List ℕ} (λ a b. a ∷ b) own
       (resume-ahead rs t (o .1) (rule-lined m ok notices r l) (stays c d f r x) ahead behind rest
       (neither (eqb v t) (has ahead t) absent .1) last)
-  resume-ahead {g} (goes-on {c} {d} {f} {fs} {us} r y rs) t o l x ahead behind e absent last =
+  resume-ahead {g} (nobody-resumes {c} {d} {f} {fs} {us} r y rs) t o l x ahead behind e absent last =
       let z = line-grows m notices r l g y in
       resume-ahead rs t (o .1) (rule-lined m ok notices r l) (stays c d f r x) ahead (behind ++ z .0)
       (z .1 ∙ ap (λ (k : List ℕ). k ++ z .0) e ∙ append-assoc ahead (t ∷ behind) (z .0)) absent last
@@ -203,13 +167,15 @@ module _ (m : Monitor) (ok : Checked m) (notices : Notices) (Good : Config → T
       let s = has-splits (line m (c .threads) g) t (line-iff m l g t .1 w) in
       subst (ExactlyAhead m g (c .threads) t)
       (sym (resume-ahead rs t o l x (s .0) (s .1) (s .2) (s .3) last))
-      (line-ahead m l g notices t (s .0) (s .1) (s .2))
+      (line-ahead m l g t (s .0) (s .1) (s .2))
     where
       last : Lined m (d .threads) → Good d → Waits m (d .threads) g t → Front (line m (d .threads) g) t
       last l₁ x₁ w₁ =
-          let y : Resumes m g d f = (subst (Waits m (d .threads) g) (sym own) w₁, fl) in
-          (line m (e .threads) g, line-advances m notices r l₁ (tells d x₁) g y
-          ∙ ap (λ (v : ℕ). v ∷ line m (e .threads) g) own)
+          let y : Resumes m g d f = (subst (Waits m (d .threads) g) (sym own) w₁, fl) in (
+            line m (e .threads) g,
+            line-advances m notices r l₁ (tells d x₁) g y
+                ∙ ap (λ (v : ℕ). v ∷ line m (e .threads) g) own,
+          )
 
   -- and so from every point to which the rules lead
   pub run-counts : {c d : Config} {fs : List Frame} → Rules m notices c fs d → Lined m (c .threads) → Good c

@@ -311,10 +311,15 @@ module _ (m : Monitor) (ok : Checked m) (s : ℕ) (p : Threads) (t r : ℕ) (gua
         (λ k. stays n u (newlyBy m bc s s′ p′ u (p′ .place u)) (o .0) (⊎-elim
         (λ b. tp .every (y .0) u (o .1) k (sym (placed .kind r (y .0) (y .2) (y .3) (y .4)) ∙ b))
         (had-notice (y .0) u (λ q. placed .other r (y .2) (y .3) (ap (e r) q ∙ y .4)) k) (y .6)))
-        (λ k. or-right (without n t u) (newlyBy m bc s s′ p′ u (p′ .place u)) (newly-by-iff m bc s s′ p′ u .1
-        (y .0, y .1, ⊎-elim
-        (λ a. placed .sure r (y .0) (y .3) s (y .4 ∙ ap (λ (z : Bool). entry z (y .3)) a) (tp .is-kept) guard k)
-        (λ h. h) (y .5), k, ⊎-elim (λ b. inl (sym (placed .kind r (y .0) (y .2) (y .3) (y .4)) ∙ b)) inr (y .6))))
+        (λ k. or-right (without n t u) (newlyBy m bc s s′ p′ u (p′ .place u)) (newly-by-iff m bc s s′ p′ u .1 (
+          y .0,
+          y .1,
+          ⊎-elim
+              (λ a. placed .sure r (y .0) (y .3) s (y .4 ∙ ap (λ (z : Bool). entry z (y .3)) a) (tp .is-kept) guard k)
+              (λ h. h) (y .5),
+          k,
+          ⊎-elim (λ b. inl (sym (placed .kind r (y .0) (y .2) (y .3) (y .4)) ∙ b)) inr (y .6),
+        )))
 
     pub newly-table : (u : ℕ) → n′ u ≡ without n t u || newlyBy m bc s s′ p′ u (p′ .place u)
     newly-table u = tests-equal (n′ u) (without n t u || newlyBy m bc s s′ p′ u (p′ .place u))

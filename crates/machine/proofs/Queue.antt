@@ -328,6 +328,24 @@ place-kept q t u o h d l = split-eq (placeIn q t) (placeIn q u) (λ e. absurd (d
     go (yes k) e = place-ahead q t u k
     go (no k) e = absurd (let b = place-behind q t u o (omega arith) in omega arith)
 
+-- whoever stands in a list once is not among those before it
+pub once-before : (xs ys : List ℕ) (u : ℕ) → Once (xs ++ (u ∷ ys)) → has xs u ≡ false
+unfolding Once has
+once-before [] ys u o = refl
+once-before (x ∷ xs) ys u o =
+    let n = neither (has xs x) (has (u ∷ ys) x) (sym (has-append xs (u ∷ ys) x) ∙ o .0) in
+    ap₂ (λ (a b : Bool). a || b)
+    (ne-eqb x u (λ e. clash (or-left (eqb u x) (has ys x) (eq-eqb u x (sym e))) (n .1)))
+    (once-before xs ys u (o .1))
+
+-- and those before it are as many as its place says
+pub place-splits : (xs ys : List ℕ) (u : ℕ) → has xs u ≡ false → placeIn (xs ++ (u ∷ ys)) u ≡ length xs
+unfolding has
+place-splits [] ys u h = place-here u ys u refl
+place-splits (x ∷ xs) ys u h =
+    let n = neither (eqb x u) (has xs u) h in
+    place-later x (xs ++ (u ∷ ys)) u (eqb-false x u (n .0)) ∙ ap suc (place-splits xs ys u (n .1))
+
 -- What rises along a list
 
 -- whatever is in the same order on its members

@@ -1,23 +1,25 @@
--- The turns of those who wait (document 02, E4): at a point they are the places in the queue, and a frame does to them
--- what joining and leaving do to places. By the laws of `Queue`, a rule at a time.
+-- The turns of those who wait (document 02, E4): at a point they are the places in the queue, a frame does to them what
+-- joining and leaving do to places, and the line on a guard is in their order. By the laws of `Queue`, a rule at a time.
 use Prim.Native.Nat.{ℕ, suc, _<_}
 use native.Mathlib.Omega.{arith}
 use mathlib.Core.Path.{_≡_, refl, sym, subst, ap, _∙_}
-use mathlib.Core.Bool.{true, false≢true}
-use mathlib.Core.Logic.{⊎-elim}
-use mathlib.Core.List.{List, [], _∷_}
+use mathlib.Core.Bool.{Bool, true, false, _||_, false≢true}
+use mathlib.Core.Logic.{_↔_, ⊎-elim}
+use mathlib.Core.List.{List, [], _∷_, _++_}
 use lib.Dec.{eqb}
 use lib.ListN.{length}
 use borrow.Author.Tests.{eqb-true, eq-eqb}
 use Rattle.machine.specs.Monitor.{Place, idle, waiting, due, Threads, Monitor, Frame, Config, turnAt, turn}
 use Rattle.machine.specs.Monitor.{waitsOn, line}
-use Rattle.machine.specs.Queue.{has, those, placeIn}
-use Rattle.machine.specs.Rules.{Notices, Moved, Waits, Waiting, Front, Rule, rule-1a, rule-1b, rule-2a, rule-2b}
-use Rattle.machine.specs.Arrival.{Rising, Lined, Turns, Fronts, TurnsAfter}
-use Rattle.logic.proofs.Bools.{clash, is-false, split-eq, both, and, either, or-left}
+use Rattle.machine.specs.Queue.{has, placeIn}
+use Rattle.machine.specs.Rules.{Notices, Moved, Waits, Waiting, Front, First, Rule, rule-1a, rule-1b, rule-2a}
+use Rattle.machine.specs.Rules.{rule-2b}
+use Rattle.machine.specs.Arrival.{Once, Rising, Lined, Turns, Lines, TurnsAfter, ExactlyAhead}
+use Rattle.logic.proofs.Bools.{clash, is-false, and, either, or-left}
 use Rattle.machine.proofs.Queue.{left-absent, place-below, place-each, place-once, place-last, place-joined}
-use Rattle.machine.proofs.Queue.{place-ahead, place-behind, has-those, has-behind, rising-place, rising-those}
-use Rattle.machine.proofs.Order.{waits-iff, front-waits}
+use Rattle.machine.proofs.Queue.{place-ahead, place-behind, place-splits, has-those, has-append, has-splits, once-those}
+use Rattle.machine.proofs.Queue.{once-before, first-has, front-has, rising-by, rising-place, rising-those, rising-splits}
+use Rattle.machine.proofs.Order.{waits-iff, line-waits}
 
 module _ (m : Monitor) where
   -- a waiter's turn is its place in the queue
@@ -115,45 +117,101 @@ module _ (m : Monitor) where
         p : Threads
         p = c .threads
 
--- A waiter on a guard such that no other on it has a lower turn stands at the front of its line
+-- The line on a guard
 
-first-rising : (f : ℕ → ℕ) (l : List ℕ) (u : ℕ) → Rising f l → has l u ≡ true → ((v : ℕ) → has l v ≡ true → f v < f u → ⊥)
-    → Front l u
-unfolding Rising has Front
-first-rising f [] u r h none = absurd (false≢true h)
-first-rising f (v ∷ vs) u r h none = split-eq v u (λ e. (vs, ap (λ (x : ℕ). x ∷ vs) e))
-    (λ d. absurd (none v (or-left (eqb v v) (has vs v) (eq-eqb v v refl)) (r .0 u (has-behind v vs u h d))))
+module _ (m : Monitor) {p : Threads} (l : Lined m p) (g : ℕ) where
+  -- its members are those who wait on the guard, in the order of their turns
 
-pub first-by-turn :
-    (m : Monitor) {p : Threads} → Lined m p → (g u : ℕ) → Waits m p g u
-    → ((v : ℕ) → Waits m p g v → turn p v < turn p u → ⊥) → Front (line m p g) u
-unfolding line Waits Waiting
-first-by-turn m {p} l g u w none =
-    first-rising (placeIn (p .queue)) (those (waitsOn m p g) (p .queue)) u
-    (rising-those (placeIn (p .queue)) (waitsOn m p g) (p .queue) (rising-place (p .queue) (l .once)))
-    (has-those (waitsOn m p g) (p .queue) u ∙ and (l .waits u .1 (w .0, w .1)) (waits-iff m p g u .1 w))
-    (λ v h k.
-    let x = both (has (p .queue) v) (waitsOn m p g v) (sym (has-those (waitsOn m p g) (p .queue) v) ∙ h) in
-    let y = waits-iff m p g v .0 (x .1) in
-    none v y (omega (arith, k, turn-place m p v (y .0, y .1), turn-place m p u (w .0, w .1))))
+  pub line-iff : (u : ℕ) → (has (line m p g) u ≡ true) ↔ Waits m p g u
+  unfolding line Waiting Waits
+  line-iff u = (
+    λ h. waits-iff m p g u .0 (line-waits m p g u h),
+    λ w. has-those (waitsOn m p g) (p .queue) u ∙ and (l .waits u .1 (w .0, w .1)) (waits-iff m p g u .1 w),
+  )
 
-pub lined-fronts : (m : Monitor) {p : Threads} → Lined m p → Fronts m p
-unfolding Fronts Front line Waits Waiting Rising has
-lined-fronts m {p} l g u = (
-  λ f. (front-waits m p g u f, none f),
-  λ x. first-by-turn m l g u (x .0) (x .1),
-)
-  where
-    rising : Rising (placeIn (p .queue)) (those (waitsOn m p g) (p .queue))
-    rising = rising-those (placeIn (p .queue)) (waitsOn m p g) (p .queue) (rising-place (p .queue) (l .once))
+  pub line-once : Once (line m p g)
+  unfolding line
+  line-once = once-those (waitsOn m p g) (p .queue) (l .once)
 
-    none : Front (line m p g) u → (v : ℕ) → Waits m p g v → turn p v < turn p u → ⊥
-    none f v w k =
-        let r = subst (Rising (placeIn (p .queue))) (f .1) rising in
-        let y = front-waits m p g u f in
-        let h : has (u ∷ f .0) v ≡ true = ap (λ (q : List ℕ). has q v) (sym (f .1))
-        ∙ has-those (waitsOn m p g) (p .queue) v ∙ and (l .waits v .1 (w .0, w .1)) (waits-iff m p g v .1 w) in
-        let a = turn-place m p v (w .0, w .1) in
-        let b = turn-place m p u (y .0, y .1) in
-        ⊎-elim (λ e. let z = eqb-true u v e in let q = ap (placeIn (p .queue)) z in omega arith)
-        (λ e. let z = r .0 v e in omega arith) (either (eqb u v) (has (f .0) v) h)
+  line-turn : (u : ℕ) → has (line m p g) u ≡ true → turn p u ≡ placeIn (p .queue) u
+  unfolding Waiting Waits
+  line-turn u h = let w = line-iff u .0 h in turn-place m p u (w .0, w .1)
+
+  line-rising : Rising (turn p) (line m p g)
+  unfolding line
+  line-rising =
+      rising-by (placeIn (p .queue)) (turn p) (line m p g)
+      (λ u v h k low. omega (arith, low, line-turn u h, line-turn v k))
+      (rising-those (placeIn (p .queue)) (waitsOn m p g) (p .queue) (rising-place (p .queue) (l .once)))
+
+  -- so those up to a member are exactly the ones ahead of it
+  pub line-ahead : (t : ℕ) (ahead behind : List ℕ) → line m p g ≡ ahead ++ (t ∷ behind)
+      → ExactlyAhead m g p t ahead
+  unfolding has
+  line-ahead t ahead behind e = record {
+    exactly = λ u. (to u, from u);
+    in-turn = x .0;
+    how-many = sym (ap (λ (k : List ℕ). placeIn k t) e
+        ∙ place-splits ahead behind t (once-before ahead behind t (subst Once e line-once)));
+  }
+    where
+      x : Rising (turn p) ahead
+          × ((u : ℕ) → has ahead u ≡ true → turn p u < turn p t) × ((u : ℕ) → has behind u ≡ true → turn p t < turn p u)
+      x = rising-splits (turn p) ahead behind t (subst (Rising (turn p)) e line-rising)
+
+      member : (u : ℕ) → has (line m p g) u ≡ has ahead u || has (t ∷ behind) u
+      member u = ap (λ (k : List ℕ). has k u) e ∙ has-append ahead (t ∷ behind) u
+
+      to : (u : ℕ) → has ahead u ≡ true → Waits m p g u × (turn p u < turn p t)
+      to u h = (line-iff u .0 (member u ∙ or-left (has ahead u) (has (t ∷ behind) u) h), x .1 u h)
+
+      from : (u : ℕ) → Waits m p g u × (turn p u < turn p t) → has ahead u ≡ true
+      from u w = ⊎-elim (λ h. h)
+          (λ h. ⊎-elim (λ q. absurd (omega (arith, w .1, ap (turn p) (eqb-true t u q))))
+          (λ k. absurd (omega (arith, w .1, x .2 u k))) (either (eqb t u) (has behind u) h))
+          (either (has ahead u) (has (t ∷ behind) u) (sym (member u) ∙ line-iff u .1 (w .0)))
+
+  -- the first of a set in it, and the one at its front, by turns
+  line-first : (n : ℕ → Bool) (u : ℕ) → First (line m p g) n u
+      ↔ (Waits m p g u × ((v : ℕ) → Waits m p g v → n v ≡ true → turn p v < turn p u → ⊥))
+  line-first n u = (
+    λ x. (
+      line-iff u .0 (first-has x),
+      λ v w b k. x .none-ahead v (line-ahead u (x .ahead) (x .behind) (x .splits) .exactly v .1 (w, k)) b,
+    ),
+    λ x.
+        let s = has-splits (line m p g) u (line-iff u .1 (x .0)) in
+        record {
+          ahead = s .0;
+          behind = s .1;
+          splits = s .2;
+          none-ahead = λ v h b.
+              let y = line-ahead u (s .0) (s .1) (s .2) .exactly v .0 h in x .1 v (y .0) b (y .1);
+        },
+  )
+
+  line-front : (u : ℕ) → Front (line m p g) u
+      ↔ (Waits m p g u × ((v : ℕ) → Waits m p g v → turn p v < turn p u → ⊥))
+  unfolding Front has
+  line-front u = (
+    λ x. (
+      line-iff u .0 (front-has (line m p g) u x),
+      λ v w k. false≢true (line-ahead u [] (x .0) (x .1) .exactly v .1 (w, k)),
+    ),
+    λ x.
+        let s = has-splits (line m p g) u (line-iff u .1 (x .0)) in
+        go (s .0) (s .1) (s .2) (λ v h. let y = line-ahead u (s .0) (s .1) (s .2) .exactly v .0 h in x .1 v (y .0) (y .1)),
+  )
+    where
+      go : (ahead behind : List ℕ) → line m p g ≡ ahead ++ (u ∷ behind) → ((v : ℕ) → has ahead v ≡ true → ⊥)
+          → (behind : List ℕ) × (line m p g ≡ u ∷ behind)
+      go [] behind e none = (behind, e)
+      go (v ∷ ahead) behind e none = absurd (none v (or-left (eqb v v) (has ahead v) (eq-eqb v v refl)))
+
+pub lined-lines : (m : Monitor) {p : Threads} → Lined m p → Lines m p
+lined-lines m l = record {
+  members = line-iff m l;
+  rising = line-rising m l;
+  front = line-front m l;
+  first = λ n g. line-first m l g n;
+}

@@ -47,17 +47,18 @@ pub record Threads : Type 0 where
   pub place : ℕ → Place
   pub queue : List ℕ
 
--- two that are alike on the sixteen threads
+-- two that are alike on the sixteen threads, and with one queue
 pub record SameThreads (p p′ : Threads) : Type 0 where
   pub same-place : (u : ℕ) → u < threads → p .place u ≡ p′ .place u
   pub same-queue : p .queue ≡ p′ .queue
 
--- "its turn among all who wait": how many of them began before it; 0 of a thread that is idle or due (R 9.38, 9.39)
+-- a waiter's place in the queue; 0 of a thread that is idle or due (R 9.39)
 unfoldable pub turnAt : Place → ℕ → ℕ
 turnAt idle n = 0
 turnAt (waiting r) n = n
 turnAt (due r) n = 0
 
+-- "its turn among all who wait": its place in the queue, so how many of them began before it (R 9.38)
 unfoldable pub turn : Threads → ℕ → ℕ
 turn p u = turnAt (p .place u) (placeIn (p .queue) u)
 

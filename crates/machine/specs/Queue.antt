@@ -22,7 +22,7 @@ joined queue t = queue ++ (t ∷ [])
 unfoldable pub left : List ℕ → ℕ → List ℕ
 left queue t = those (λ u. not (eqb u t)) queue
 
--- how many stand ahead of a thread in a queue; of one that is not in it, all
+-- how many stand ahead of a thread in a queue; of one that is not in it, how many there are
 unfoldable pub placeIn : List ℕ → ℕ → ℕ
 placeIn [] u = 0
 placeIn (v ∷ vs) u = elim (eqb v u) [ true ↦ 0 | false ↦ suc (placeIn vs u) ]

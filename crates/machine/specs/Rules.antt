@@ -1,5 +1,5 @@
--- The published step rules 1a, 1b, 2a, 2b (source document 001, Figures 4 to 6), as document 01 narrows them: a
--- relation, over what states are and over whom a body notifies. At the end, states are numbers: `RulesDecided` shows
+-- The published step rules 1a, 1b, 2a, 2b (source document 001, Figures 4 to 6), as document 01 narrows them and document
+-- 02's E4 orders those who wait: a relation, over what states are and over whom a body notifies. At the end, states are numbers: `RulesDecided` shows
 -- that the step of `Decide/Step` takes a frame exactly where this relation does. Demand 2 has them as values.
 use Prim.Native.Nat.{ℕ, _+_, _<_}
 use mathlib.Core.Path.{_≡_}
@@ -23,11 +23,12 @@ pub record Semantics (S : Type 0) : Type 1 where
 abbrev pub NoticesOver : Type 0 → Type 1
 NoticesOver S = S → Threads → ℕ → ℕ → Type 0
 
--- u stands at the front of a line: the source's min, among those of one guard (R 9.27)
+-- u stands at the front of a line: where the source has min(Events(B, g)), by arrival (R 9.27)
 unfoldable pub Front : List ℕ → ℕ → Type 0
 Front line u = (behind : List ℕ) × (line ≡ u ∷ behind)
 
--- u stands in a line, and none of those ahead of it there is one of a set (R 9.19, 9.20)
+-- u stands in a line, and none of those ahead of it there is one of a set: where the source has min(N), among those of one
+-- guard and by arrival (R 9.19, 9.20)
 pub record First (line : List ℕ) (among : ℕ → Bool) (u : ℕ) : Type 0 where
   pub ahead : List ℕ
   pub behind : List ℕ
@@ -45,10 +46,10 @@ module _ (m : Monitor) where
     PlainNoticesBy s p r u = (g : ℕ) × Waits p g u × (sense .holds g s ≡ true)
 
     -- Figure 6: GetSignals and GetBroadcasts of a table, by what it has for a region and a guard: unconditional or not,
-    -- broadcast or signal (R 9.25, 9.26, 9.28, 9.29)
+    -- broadcast or signal; a signal picks the front of the line, notified or not (R 9.25, 9.26, 9.28, 9.29)
     unfoldable pub TableNoticesBy : (ℕ → ℕ → Bool → Bool → Type 0) → NoticesOver S
-    TableNoticesBy has s p r u =
-        (g : ℕ) × Waits p g u × (a b : Bool) × has r g a b × ((a ≡ true) ⊎ (sense .holds g s ≡ true))
+    TableNoticesBy entered s p r u =
+        (g : ℕ) × Waits p g u × (a b : Bool) × entered r g a b × ((a ≡ true) ⊎ (sense .holds g s ≡ true))
         × ((b ≡ true) ⊎ Front (line m p g) u)
 
   -- where a thread may be next (13; R 9.11, 9.12)
@@ -66,7 +67,7 @@ module _ (m : Monitor) where
   unfoldable pub Waiting : Place → Type 0
   Waiting q = (w : ℕ) × (q ≡ waiting w)
 
-  -- after a frame of thread t, t is at q, nobody else has moved, and the queue is what is said (R 9.16, 9.22, 9.40)
+  -- after a frame of thread t, t is at q, nobody else has moved, and the queue is the one given (R 9.16, 9.22, 9.40)
   pub record Moved (p p′ : Threads) (t : ℕ) (q : Place) (queue : List ℕ) : Type 0 where
     pub own-place : p′ .place t ≡ q
     pub others : (u : ℕ) → (u ≡ t → ⊥) → p′ .place u ≡ p .place u

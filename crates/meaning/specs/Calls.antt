@@ -37,7 +37,7 @@ pub data Machine : Type 0 where
   plain-machine table-machine : Machine
 
 -- the record of a run: each variable's value, the place and the turn of each of sixteen threads, the set of notified
--- threads and how many (R 10.6, 10.7, 10.8, 10.9, 10.10)
+-- threads and how many (R 10.6, 10.7, 10.8, 10.9, 10.13)
 pub record Record : Type 0 where
   pub values : List ℤ
   pub places : List Place
@@ -45,7 +45,7 @@ pub record Record : Type 0 where
   pub notified : ℕ
   pub howMany : ℕ
 
--- the record of a point (R 10.5, 10.6, 10.7, 10.8, 10.9, 10.10)
+-- the record of a point (R 10.5, 10.6, 10.7, 10.8, 10.9, 10.13)
 unfoldable pub recordOf : Monitor → Config → Record
 recordOf m c =
     record {

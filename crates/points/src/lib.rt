@@ -48,7 +48,8 @@ fn write_point(
     let bytes = point::place_bytes(each);
     let turns = point::turn_bytes(each);
     let holding = sets::below(holds[(run.state % machine::STATE_END) as usize], guards);
-    let told = sets::minus(run.plain, plain);
+    let now = run.plain;
+    let told = sets::minus(now, plain);
     if lost.number != 0 {
         return point::put_point(
             out,
@@ -56,7 +57,7 @@ fn write_point(
             values,
             bytes,
             holding,
-            run.plain,
+            now,
             told,
             0,
             0,
@@ -71,7 +72,7 @@ fn write_point(
         values,
         bytes,
         holding,
-        run.plain,
+        now,
         told,
         1,
         run.table,

@@ -10,7 +10,7 @@ ghost use Rattle.io.specs.Counts.{Counts};
 const CASES: usize = 1000;
 
 // Bytes for the points of the longest trace, and for one point more.
-const BUFFER: usize = 309012;
+const BUFFER: usize = 458836;
 
 // What stands in a buffer before it is lent.
 const UNWRITTEN: u8 = 165;

@@ -15,7 +15,7 @@ use Rattle.machine.specs.Monitor.{turnAt}
 use Rattle.machine.specs.Queue.{has, those, joined, placeIn}
 use Rattle.machine.specs.Arrival.{Once}
 use Rattle.machine.specs.Decide.Step.{isWaiting, atFront, firstIn, next}
-use Rattle.machine.proofs.Queue.{those-kept, those-append, those-dropped, has-append, has-those, first-iff, place-below}
+use Rattle.machine.proofs.Queue.{once-before, those-kept, those-append, those-dropped, has-append, has-those, first-iff, place-below}
 use Rattle.logic.proofs.Bools.{split, clash, is-false, either, both, neither, or-left, or-right}
 use Rattle.queue.specs.Packed.{queueOf, behindOf}
 use Rattle.queue.proofs.Lists.{queue-below, queue-length, queue-splits, at-place}
@@ -34,16 +34,6 @@ some-append : (xs ys : List ℕ) → some (xs ++ ys) ≡ some xs || some ys
 unfolding some
 some-append [] ys = refl
 some-append (x ∷ xs) ys = refl
-
--- whoever stands in a list once is not among those before it
-pub once-before : (xs ys : List ℕ) (u : ℕ) → Once (xs ++ (u ∷ ys)) → has xs u ≡ false
-unfolding Once has
-once-before [] ys u o = refl
-once-before (x ∷ xs) ys u o =
-    let n = neither (has xs x) (has (u ∷ ys) x) (sym (has-append xs (u ∷ ys) x) ∙ o .0) in
-    ap₂ (λ (a b : Bool). a || b)
-    (ne-eqb x u (λ e. clash (or-left (eqb u x) (has ys x) (eq-eqb u x (sym e))) (n .1)))
-    (once-before xs ys u (o .1))
 
 front-splits : (xs ys : List ℕ) (u : ℕ) → has xs u ≡ false → atFront (xs ++ (u ∷ ys)) u ≡ not (some xs)
 unfolding atFront has some
@@ -170,9 +160,11 @@ pub none-on : (gs es : List ℕ) (asked : ℕ → Bool) (p : Threads) (r u : ℕ
     → (onOne gs asked q ≡ false) × (newFirst gs es asked p r u q ≡ false)
 unfolding onOne newFirst
 none-on gs es asked p r u idle e = (refl, refl)
-none-on gs es asked p r u (waiting w) e =
-    (e (guardAt gs w), ap (λ (b : Bool). b && (broadcastAt es r (guardAt gs w) || next (guardsOnly gs) p (guardAt gs w) u))
-    (e (guardAt gs w)))
+none-on gs es asked p r u (waiting w) e = (
+  e (guardAt gs w),
+  ap (λ (b : Bool). b && (broadcastAt es r (guardAt gs w) || next (guardsOnly gs) p (guardAt gs w) u))
+      (e (guardAt gs w)),
+)
 none-on gs es asked p r u (due w) e = (refl, refl)
 
 -- who waits on one of some guards waits

@@ -137,16 +137,16 @@ fn line_ahead(threads: Threads, turn: u8, guard_of: &[u8; machine::REGIONS], gua
 {
     let each = threads.each;
     let mut set: u16 = 0;
-    let mut rest = threads.order;
+    let mut order = threads.order;
     let mut k: u8 = 0;
     while k < turn {
-        let u = queue::first(rest);
+        let u = queue::first(order);
         let thread = each[u as usize];
         let place = thread.place;
         if waits_on(place, guard_of, guard) {
             set = sets::with(set, u as u32);
         }
-        rest = rest / 16;
+        order = order / 16;
         k += 1;
     }
     set

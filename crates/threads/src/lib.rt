@@ -65,7 +65,12 @@ pub fn is_waiting(place: Place) -> bool
 }
 
 // The threads with thread t replaced.
-fn put(each: [Thread; machine::THREADS], t: usize, place: Place, turn: u8) -> [Thread; machine::THREADS]
+fn put(
+    each: [Thread; machine::THREADS],
+    t: usize,
+    place: Place,
+    turn: u8,
+) -> [Thread; machine::THREADS]
     requires { ⌜ t < 16 ⌝ }
     ensures { λ r. ⌜ Puts each t (placeOf place) turn r ⌝ }
 {
@@ -78,7 +83,12 @@ fn put(each: [Thread; machine::THREADS], t: usize, place: Place, turn: u8) -> [T
 }
 
 // The turns of those in the queue from a place on, written anew; the others keep theirs.
-fn closed_up(each: [Thread; machine::THREADS], order: u64, from: u8, waiting: u8) -> [Thread; machine::THREADS]
+fn closed_up(
+    each: [Thread; machine::THREADS],
+    order: u64,
+    from: u8,
+    waiting: u8,
+) -> [Thread; machine::THREADS]
     ensures { λ r. ⌜ ((u : ℕ) → u < 16 → placesOf r u ≡ placesOf each u) ⌝ }
     ensures { λ r. ⌜ (from < 16 → Once (queueOf order waiting) → (u : ℕ) → u < 16
         → turnsOf r u ≡ between from waiting (placeIn (queueOf order waiting) u) (turnsOf each u)) ⌝ }

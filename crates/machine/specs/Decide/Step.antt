@@ -58,7 +58,7 @@ module _ (m : Monitor) where
   unfoldable pub next : Threads → ℕ → ℕ → Bool
   next p g u = atFront (line m p g) u
 
-  -- no thread notified on guard g stands ahead of t in its line
+  -- t stands in the line on guard g, and none ahead of it there is notified
   unfoldable pub firstNotified : Threads → (ℕ → Bool) → ℕ → ℕ → Bool
   firstNotified p n g t = firstIn (line m p g) n t
 
