@@ -33,7 +33,7 @@ extern "C" {
 #define DAMSONYET_FRAME_BYTES 7
 /* A buffer with room for any table, and for all that the programs print; the bytes of one point. */
 #define DAMSONYET_OUTPUT_BYTES 4096
-#define DAMSONYET_POINT_BYTES 33
+#define DAMSONYET_POINT_BYTES 49
 /* A buffer with room for the points of a trace of so many bytes. */
 #define DAMSONYET_POINTS_BYTES(trace_len) (DAMSONYET_POINT_BYTES * ((size_t)(trace_len) / DAMSONYET_FRAME_BYTES + 1))
 /* The stack that a call may need: 553,680 bytes were measured, by a condition of 998 marks `!`, and 250,000 for most files. */
@@ -64,7 +64,9 @@ typedef struct {
 
 /* What a machine answers to a trace. Where the answer is 0, its last point: the values of `vars` variables, each with 128 added (128 in the
  * slots behind), each thread's place as a byte (255 idle; r waits at region r; 16 + r due at region r), who is notified (bit t for thread
- * t) and how many they are. Beside a refusal: no variables, all idle, none notified. `of_file`: the refusal is the file's, not the run's. */
+ * t) and how many they are. `turns`: of each thread that waits, how many of all who wait, on whichever guard, began to wait before it, so 0
+ * for the earliest; 0 of one that does not wait. Those who wait on a guard, by their turns, are its line, and the first of them is its
+ * first waiter. Beside a refusal: no variables, all idle, none notified, all turns 0. `of_file`: the refusal is the file's, not the run's. */
 typedef struct {
     damsonyet_answer answer;
     size_t vars;
@@ -73,6 +75,7 @@ typedef struct {
     uint16_t notified;
     uint32_t how_many;
     bool of_file;
+    uint8_t turns[DAMSONYET_THREADS];
 } damsonyet_running;
 
 typedef struct {
@@ -209,8 +212,9 @@ size_t damsonyet_runner_lines(const uint8_t *file, size_t file_len, const uint8_
  *    6  16  places, as in damsonyet_running
  *   22   2  which guards hold (two bytes of a set: low byte first)
  *   24   2  plain machine: who is notified      26   2  and who of them was not at the point before
- *   28   1  1 where the table's machine is still there, else 0 and 0 behind
- *   29   2  table's machine: who is notified    31   2  and who of them was not at the point before */
+ *   28   1  1 where the table's machine is still there, else 0, and 29 to 32 too
+ *   29   2  table's machine: who is notified    31   2  and who of them was not at the point before
+ *   33  16  turns, as in damsonyet_running */
 damsonyet_pointing damsonyet_points(const uint8_t *file, size_t file_len, const uint8_t *trace, size_t trace_len, size_t start,
                                     uint8_t *out, size_t out_len);
 
@@ -241,15 +245,16 @@ DAMSONYET_SIZE(damsonyet_placing, 40);
 DAMSONYET_AT(damsonyet_placing, length, 24);
 DAMSONYET_AT(damsonyet_placing, chosen, 32);
 DAMSONYET_AT(damsonyet_placing, pairs, 34);
-DAMSONYET_SIZE(damsonyet_running, 72);
+DAMSONYET_SIZE(damsonyet_running, 88);
 DAMSONYET_AT(damsonyet_running, vars, 24);
 DAMSONYET_AT(damsonyet_running, values, 32);
 DAMSONYET_AT(damsonyet_running, places, 44);
 DAMSONYET_AT(damsonyet_running, notified, 60);
 DAMSONYET_AT(damsonyet_running, how_many, 64);
 DAMSONYET_AT(damsonyet_running, of_file, 68);
-DAMSONYET_SIZE(damsonyet_both, 144);
-DAMSONYET_AT(damsonyet_both, table, 72);
+DAMSONYET_AT(damsonyet_running, turns, 69);
+DAMSONYET_SIZE(damsonyet_both, 176);
+DAMSONYET_AT(damsonyet_both, table, 88);
 DAMSONYET_SIZE(damsonyet_pointing, 56);
 DAMSONYET_AT(damsonyet_pointing, table, 24);
 DAMSONYET_AT(damsonyet_pointing, count, 48);

@@ -39,7 +39,7 @@ pub fn runner(file: &[u8], trace: &[u8]) -> Vec<u8> {
 }
 
 /// What `points` gives from the start values with a buffer that is just long enough:
-/// both machines' answers, then the points, each as 66 digits.
+/// both machines' answers, then the points, each as 98 digits.
 pub fn points_lines(file: &[u8], trace: &[u8]) -> Vec<u8> {
     let (given, buffer) = points_in(file, trace, needed(trace.len()));
     let mut lines = answer_line(given.plain) + &answer_line(given.table);

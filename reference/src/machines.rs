@@ -1,5 +1,5 @@
 //! The plain machine and the table's ("Frames and the two machines"), and the
-//! refusals 11, 13 and 14.
+//! refusals 11, 13 and 14. Who is first on a guard goes by arrival (document 02, E4).
 
 use crate::answer::Answer;
 use crate::check::check;
@@ -32,18 +32,26 @@ impl Place {
     }
 }
 
-/// Where a run stands: the values, each thread's place, and who is notified.
+/// Where a run stands: the values, each thread's place, who is notified, and the turns.
 #[derive(Clone, Debug, PartialEq, Eq)]
 pub struct Record {
     pub values: Vec<i64>,
     pub places: [Place; THREADS],
     pub notified: [bool; THREADS],
+    /// Of a waiter, how many of all who wait, on whichever guard, began before it; of any
+    /// other thread 0.
+    pub turns: [u8; THREADS],
 }
 
 impl Record {
     /// At the start all are idle and none notified.
     fn start(values: Vec<i64>) -> Record {
-        Record { values, places: [Place::Idle; THREADS], notified: [false; THREADS] }
+        Record {
+            values,
+            places: [Place::Idle; THREADS],
+            notified: [false; THREADS],
+            turns: [0; THREADS],
+        }
     }
 
     /// The notified threads as sixteen bits, thread 0 the lowest bit.
@@ -60,13 +68,32 @@ impl Record {
         matches!(self.places[thread], Place::Waiting(_))
     }
 
-    /// The threads waiting on a guard, at whichever region, lowest first.
+    /// The threads waiting on a guard, at whichever region, the earliest to begin first.
     pub fn waiters(&self, monitor: &Monitor, guard: usize) -> Vec<usize> {
         let waits = |place| match place {
             Place::Waiting(region) => monitor.regions[region].guard == guard,
             _ => false,
         };
-        (0..THREADS).filter(|thread| waits(self.places[*thread])).collect()
+        let mut waiters: Vec<usize> =
+            (0..THREADS).filter(|thread| waits(self.places[*thread])).collect();
+        waiters.sort_by_key(|thread| self.turns[*thread]);
+        waiters
+    }
+
+    /// A thread that was not waiting begins to wait, behind all who wait already.
+    fn begin_to_wait(&mut self, thread: usize, region: usize) {
+        self.turns[thread] = (0..THREADS).filter(|other| self.is_waiting(*other)).count() as u8;
+        self.places[thread] = Place::Waiting(region);
+    }
+
+    /// After its body a thread is no waiter: those who began after it close up.
+    fn leave_the_queue(&mut self, thread: usize) {
+        for other in 0..THREADS {
+            if self.is_waiting(other) && self.turns[other] > self.turns[thread] {
+                self.turns[other] -= 1;
+            }
+        }
+        self.turns[thread] = 0;
     }
 
     /// The due thread, if there is one; it is the only one.
@@ -122,10 +149,11 @@ impl Machines {
         if frame.flag {
             self.run_body(&mut next, frame, machine);
         } else if record.is_waiting(frame.thread) {
-            // A recheck uses up the notice.
+            // A recheck uses up the notice, and keeps its place in the queue.
             next.notified[frame.thread] = false;
         } else {
-            next.places[frame.thread] = Place::Waiting(frame.region);
+            // Idle or due before, it begins to wait now.
+            next.begin_to_wait(frame.thread, frame.region);
         }
         Ok(next)
     }
@@ -154,16 +182,19 @@ impl Machines {
         if !record.is_waiting(frame.thread) {
             return true;
         }
-        // A waiting thread must be notified, and to run its body must also have
-        // the lowest number among those notified on its guard.
+        // A waiting thread must be notified, and to run its body must also be the
+        // earliest to begin waiting among those notified on its guard.
         let waiters = record.waiters(&self.monitor, guard);
-        let lowest = waiters.into_iter().find(|thread| record.notified[*thread]);
-        record.notified[frame.thread] && (!frame.flag || lowest == Some(frame.thread))
+        let earliest = waiters.into_iter().find(|thread| record.notified[*thread]);
+        record.notified[frame.thread] && (!frame.flag || earliest == Some(frame.thread))
     }
 
     fn run_body(&self, record: &mut Record, frame: Frame, machine: Machine) {
         record.values = after(&self.monitor, frame.region, &record.values);
         // The thread is no waiter and not notified before any notice is given.
+        if record.is_waiting(frame.thread) {
+            record.leave_the_queue(frame.thread);
+        }
         record.notified[frame.thread] = false;
         record.places[frame.thread] = match self.monitor.regions[frame.region].next {
             Some(next) => Place::Due(next),
@@ -187,7 +218,8 @@ impl Machines {
     }
 
     /// The table's machine takes the region's entries: a conditional one acts only
-    /// if its guard holds; a signal picks the first waiter, a broadcast all.
+    /// if its guard holds; a signal picks the first waiter, the earliest, notified already
+    /// or not, a broadcast all.
     fn notify_by_table(&self, record: &mut Record, region: usize) {
         for entry in self.entries.iter().filter(|entry| entry.region == region) {
             if entry.unconditional || self.monitor.guard_holds(entry.guard, &record.values) {

@@ -10,6 +10,7 @@ use std::str::FromStr;
 use reference::cases::counted::{self, counted};
 use reference::cases::made::{made, small_list};
 use reference::cases::numbered::{self, numbered};
+use reference::cases::queued::{self, queued};
 use reference::cases::{write_cases, Size};
 use reference::hostile::compare::{compare, Plan};
 use reference::hostile::Bases;
@@ -26,6 +27,7 @@ const USAGE: &str = "usage:
   reference tries-cases [DIR]
   reference pairs-cases [DIR]
   reference numbers-cases [DIR]
+  reference queue-cases [DIR]
   reference tally DIR
   reference hostile-cases SEED COUNT DIR
   reference hostile SEED COUNT WORKERS PROGRAMS KEPT [UNDER..]";
@@ -48,6 +50,8 @@ fn main() -> ExitCode {
         ["pairs-cases", directory] => pairs_cases(Path::new(directory)),
         ["numbers-cases"] => io::stdout().write_all(numbered::list().as_bytes()),
         ["numbers-cases", directory] => numbers_cases(Path::new(directory)),
+        ["queue-cases"] => io::stdout().write_all(queued::small_list().as_bytes()),
+        ["queue-cases", directory] => queue_cases(Path::new(directory)),
         ["tally", directory] => tally(Path::new(directory)),
         ["hostile-cases", seed, count, directory] => hostile_cases(seed, count, directory),
         ["hostile", seed, count, workers, programs, kept, ref under @ ..] => {
@@ -107,6 +111,11 @@ fn pairs_cases(directory: &Path) -> io::Result<()> {
 /// Writes all cases whose states' numbers are worked out by hand.
 fn numbers_cases(directory: &Path) -> io::Result<()> {
     numbered().iter().enumerate().try_for_each(|(number, one)| one.case.write(directory, number))
+}
+
+/// Writes all cases about the order of waiters.
+fn queue_cases(directory: &Path) -> io::Result<()> {
+    queued().iter().enumerate().try_for_each(|(number, one)| one.case.write(directory, number))
 }
 
 fn tally(directory: &Path) -> io::Result<()> {

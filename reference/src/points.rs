@@ -3,7 +3,7 @@
 //! - It takes a file, a trace, the number of a start state and a lent buffer, runs
 //!   both machines from that state with all threads idle, and gives both answers,
 //!   how many points it wrote, and the points in the buffer from byte 0.
-//! - Order of checks: 1 to 9; then 10 (places 0), the buffer is shorter than 33
+//! - Order of checks: 1 to 9; then 10 (places 0), the buffer is shorter than 49
 //!   times one more than the trace's length divided by 7, rounded down; then 11; then
 //!   12 over the whole trace; then 13 and 14 frame by frame. An answer of 1 to 12 is
 //!   that of both machines; then no byte changes and the count is 0.
@@ -15,7 +15,8 @@
 //!   plain machine's notified threads; 26 and 27 those of them that were not notified at
 //!   the point before (at point 0 none); 28 is 01 where the table's machine has this
 //!   point, 00 where it has stopped before; 29 to 32 as 24 to 27 on the table's machine,
-//!   or 00 where it has stopped.
+//!   or 00 where it has stopped; 33 to 48 the sixteen threads' turns, thread 0 first, 0
+//!   where a thread does not wait.
 
 use crate::answer::Answer;
 use crate::check::check;
@@ -24,7 +25,7 @@ use crate::limits::MOST_VARIABLES;
 use crate::machines::{Machine, Machines, Record};
 
 /// The bytes of a point.
-pub const POINT: usize = 33;
+pub const POINT: usize = 49;
 
 /// What the call gives besides the bytes of the buffer.
 #[derive(Clone, Copy, Debug, PartialEq, Eq)]
@@ -94,8 +95,8 @@ fn run_of(machines: &Machines, start: &Record, frames: &[Frame], machine: Machin
     Run { records, answer: Ok(()) }
 }
 
-/// The bytes of one point. Values and places are the plain machine's: they stand once
-/// for both, and while the table's machine accepts, both agree on them.
+/// The bytes of one point. Values, places and turns are the plain machine's: they stand
+/// once for both, and while the table's machine accepts, both agree on them.
 fn point_bytes(machines: &Machines, plain: &Run, table: &Run, point: usize) -> [u8; POINT] {
     let monitor = &machines.monitor;
     let record = &plain.records[point];
@@ -120,7 +121,9 @@ fn point_bytes(machines: &Machines, plain: &Run, table: &Run, point: usize) -> [
     } else {
         bytes.extend([0; 5]);
     }
-    bytes.try_into().expect("33 bytes")
+    // 33 to 48: the turns.
+    bytes.extend(record.turns);
+    bytes.try_into().expect("49 bytes")
 }
 
 /// A machine's notified threads at a point, and those of them that were not notified

@@ -26,10 +26,14 @@ fn example_3_not_notified() {
     assert_eq!(runner_lines(BOX, "000100 000101"), "0E00010000\n".repeat(2));
 }
 
+/// Both accept, and end with full at 0 and thread 0 waiting at region 1.
 #[test]
-fn example_4_the_lower_waiter_goes_first() {
-    assert_eq!(both_answers(BOX, "010100 000100 020001 010101"), [(14, 3); 2]);
-    assert_eq!(runner_lines(BOX, "010100 000100 020001 010101"), "0E00030000\n".repeat(2));
+fn example_4_the_earlier_waiter_goes_first() {
+    assert_eq!(both_answers(BOX, "010100 000100 020001 010101"), [(0, 0); 2]);
+    let line = "008001FFFFFFFFFFFFFFFFFFFFFFFFFFFFFF\n";
+    assert_eq!(runner_lines(BOX, "010100 000100 020001 010101"), line.repeat(2));
+    // The other one is refused, though its number is lower.
+    assert_eq!(runner_lines(BOX, "010100 000100 020001 000101"), "0E00030000\n".repeat(2));
 }
 
 #[test]

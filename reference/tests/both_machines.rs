@@ -1,5 +1,6 @@
 //! Demand 3 as a property: both machines on one list of frames, from every kept
-//! start state of many monitors ("Both machines on one list").
+//! start state of many monitors ("Both machines on one list"), the turns compared
+//! with the rest (document 02, E4).
 
 use reference::cases::draws::Draws;
 use reference::cases::monitors::any_accepted;
@@ -7,7 +8,7 @@ use reference::cases::traces::{any_frame, walk_from};
 use reference::cases::Size;
 use reference::frames::{trace_of, Frame, THREADS};
 use reference::machines::Machines;
-use reference::{Machine, Record};
+use reference::{Machine, Place, Record};
 
 /// How often each end was met, so that the property is known not to be empty.
 #[derive(Default, Debug)]
@@ -15,6 +16,8 @@ struct Ends {
     accepted: usize,
     refused_alike: usize,
     parted: usize,
+    /// Points at which the first waiter on a guard that holds has not the lowest number.
+    by_arrival: usize,
 }
 
 /// A recheck, told from the frames alone.
@@ -24,12 +27,32 @@ fn is_recheck(frames: &[Frame], index: usize) -> bool {
     !frame.flag && last.is_some_and(|last| !last.flag)
 }
 
+/// The waiter on a guard that is next in line: the one with the least turn.
+fn first_waiter(machines: &Machines, record: &Record, guard: usize) -> Option<usize> {
+    let waits = |place| match place {
+        Place::Waiting(region) => machines.monitor.regions[region].guard == guard,
+        _ => false,
+    };
+    let waiters = (0..THREADS).filter(|thread| waits(record.places[*thread]));
+    waiters.min_by_key(|thread| record.turns[*thread])
+}
+
 /// Under the table, the first waiter on any guard that holds is notified.
 fn first_waiters_are_notified(machines: &Machines, record: &Record) -> bool {
     (0..machines.monitor.guards.len())
         .filter(|guard| machines.monitor.guard_holds(*guard, &record.values))
-        .filter_map(|guard| record.waiters(&machines.monitor, guard).first().copied())
+        .filter_map(|guard| first_waiter(machines, record, guard))
         .all(|first| record.notified[first])
+}
+
+/// Whether the first waiter on some guard that holds has not the lowest number there.
+fn by_arrival(machines: &Machines, record: &Record) -> bool {
+    (0..machines.monitor.guards.len())
+        .filter(|guard| machines.monitor.guard_holds(*guard, &record.values))
+        .any(|guard| {
+            let first = first_waiter(machines, record, guard);
+            record.waiters(&machines.monitor, guard).iter().any(|thread| Some(*thread) < first)
+        })
 }
 
 fn compare(machines: &Machines, start: &Record, frames: &[Frame], ends: &mut Ends) {
@@ -41,6 +64,8 @@ fn compare(machines: &Machines, start: &Record, frames: &[Frame], ends: &mut End
             (Ok(next_plain), Ok(next_table)) => {
                 assert_eq!(next_plain.values, next_table.values);
                 assert_eq!(next_plain.places, next_table.places);
+                assert_eq!(next_plain.turns, next_table.turns);
+                ends.by_arrival += usize::from(by_arrival(machines, &next_table));
                 assert!(first_waiters_are_notified(machines, &next_table));
                 for thread in 0..THREADS {
                     assert!(!next_table.notified[thread] || next_table.is_waiting(thread));
@@ -89,12 +114,14 @@ fn property(seed: u64, monitors: usize, size: Size, most_states: usize) -> Ends 
 fn small_monitors_from_every_kept_state() {
     let ends = property(3, 600, Size::SMALL, usize::MAX);
     assert!(ends.accepted > 1000 && ends.refused_alike > 1000 && ends.parted > 100, "{ends:?}");
+    assert!(ends.by_arrival > 1000, "{ends:?}");
 }
 
 #[test]
 fn large_monitors() {
     let ends = property(4, 300, Size::FULL, 12);
     assert!(ends.accepted > 200 && ends.refused_alike > 200 && ends.parted > 20, "{ends:?}");
+    assert!(ends.by_arrival > 1000, "{ends:?}");
 }
 
 /// A point is a prefix taken as a trace from the same state: a whole run is its

@@ -125,3 +125,11 @@ fn the_same_seed_gives_the_same_cases() {
         assert_eq!((one.monitor, one.trace), (other.monitor, other.trace));
     }
 }
+
+/// A refused file's variable may have its lowest value above its highest, and tries are drawn all
+/// the same.
+#[test]
+fn a_bad_range_can_be_drawn_from() {
+    let mut draws = Draws::of(12, 0);
+    assert_eq!([draws.between(3, 2), draws.between(3, -9), draws.between(3, 3)], [3; 3]);
+}

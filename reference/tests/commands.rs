@@ -56,11 +56,12 @@ fn points_read_a_directory() {
     let at = directory("points");
     let run = |name| command(&[name, at.to_str().unwrap()], b"");
     assert_eq!(run("points"), "0400000000\n".repeat(2));
-    let kept = "000000F6D1\n0400000000\n000000A75A\n";
+    let kept = "000000C399\n0400000000\n000000F69F\n";
     assert_eq!(run("replay-points"), "0400000000\n".repeat(2) + kept);
     fs::write(at.join("monitor.txt"), BOX).unwrap();
     fs::write(at.join("trace.txt"), "000100\n").unwrap();
-    let point = |places| format!("808080808080{places}0100000000000100000000\n");
+    let turns = "00".repeat(16);
+    let point = |places| format!("808080808080{places}0100000000000100000000{turns}\n");
     let points = point("FF".repeat(16)) + &point("01".to_string() + &"FF".repeat(15));
     assert_eq!(run("points"), "0000000000\n".repeat(2) + &points);
     assert_eq!(run("replay-points").lines().nth(3), Some("0A00000000"));
@@ -173,6 +174,33 @@ fn cases_for_numbers_are_listed_and_written() {
     assert_eq!(fs::read_dir(&at).unwrap().count(), 82);
     assert_eq!(fs::read(at.join("00000/monitor.txt")).unwrap(), file.as_bytes());
     assert_eq!(fs::read(at.join("00000/placer.txt")).unwrap(), b"0900010FFF\n");
+}
+
+#[test]
+fn cases_for_queues_are_listed_and_written() {
+    let list = command(&["queue-cases"], b"");
+    let blocks: Vec<&str> = list.split("\n\n").collect();
+    let line = format!("008001{}", "FF".repeat(15));
+    let lines = [
+        "case 0: example 4",
+        &format!("file: {BOX}"),
+        "trace: 010100 000100 020001 010101",
+        "placer: 00010100 01000100",
+        &format!("runner: {line} {line}"),
+        &format!("turns: {}", "00".repeat(16)),
+    ];
+    assert_eq!(blocks[0].lines().collect::<Vec<&str>>(), lines);
+    // Of a refused run there are none.
+    assert!(blocks[1].ends_with("runner: 0E00030000 0E00030000\nturns: "));
+    // Threads 5, 1 and 0 wait, in this order.
+    let four = blocks.iter().find(|block| block.contains("turns over both guards")).unwrap();
+    assert!(four.ends_with(&format!("\nturns: 0201{}", "00".repeat(14))));
+    assert!(list.matches("\nturns: ").count() >= 14);
+    let at = directory("queued");
+    command(&["queue-cases", at.to_str().unwrap()], b"");
+    assert_eq!(fs::read_dir(&at).unwrap().count(), 76);
+    assert_eq!(fs::read(at.join("00000/monitor.txt")).unwrap(), BOX.as_bytes());
+    assert_eq!(fs::read(at.join("00001/runner.txt")).unwrap(), b"0E00030000\n0E00030000\n");
 }
 
 #[test]

@@ -32,21 +32,27 @@ fn answers(given: Points) -> [(u8, usize); 2] {
 /// digits with blanks between its parts, and all bytes behind them kept.
 fn wants(file: &str, frames: &str, start: usize, both: [(u8, usize); 2], points: &[&str]) {
     let trace = trace(frames);
-    let (given, buffer) = call(file, &trace, start, 33 * (trace.len() / 7 + 6));
+    let (given, buffer) = call(file, &trace, start, 49 * (trace.len() / 7 + 6));
     assert_eq!(answers(given), both, "{frames}");
     assert_eq!(given.count, points.len(), "{frames}");
-    let (written, behind) = buffer.split_at(33 * points.len());
-    for (number, (point, wanted)) in written.chunks(33).zip(points).enumerate() {
+    let (written, behind) = buffer.split_at(49 * points.len());
+    for (number, (point, wanted)) in written.chunks(49).zip(points).enumerate() {
         let digits: String = point.iter().map(|byte| format!("{byte:02X}")).collect();
         assert_eq!(digits, wanted.replace(' ', ""), "{frames}, point {number}");
     }
     assert!(behind.iter().all(|byte| *byte == BEFORE), "{frames}");
 }
 
-/// Six slots with one variable, and places of which the first are given.
+/// Six slots with one variable, places of which the first are given, and turns that are 0.
 fn at(value: &str, first: &str, rest: &str) -> String {
+    in_line(value, first, rest, "")
+}
+
+/// The same with turns, of which the first are given.
+fn in_line(value: &str, first: &str, rest: &str, turns: &str) -> String {
     let idle = "FF".repeat(16 - first.len() / 2);
-    format!("{value} 8080808080 {first}{idle} {rest}")
+    let none = "00".repeat(16 - turns.len() / 2);
+    format!("{value} 8080808080 {first}{idle} {rest} {turns}{none}")
 }
 
 fn wants_from_0(file: &str, frames: &str, both: [(u8, usize); 2], points: &[String]) {
@@ -56,7 +62,8 @@ fn wants_from_0(file: &str, frames: &str, both: [(u8, usize); 2], points: &[Stri
 
 // Of Box, guard 0 is `full == 0` and guard 1 `full == 1`; region 0 puts and signals
 // guard 1, region 1 gets and signals guard 0. Behind the places stand: the guards; who
-// is notified on the plain machine, who was told; 01, then the same of the table's.
+// is notified on the plain machine, who was told; 01, then the same of the table's; the
+// turns.
 
 #[test]
 fn example_2_a_get_that_waits() {
@@ -71,18 +78,23 @@ fn example_2_a_get_that_waits() {
 }
 
 #[test]
-fn example_4_points_before_a_14() {
+fn example_4_the_earliest_resumes() {
     let points = [
         at("80", "", "0100 0000 0000 01 0000 0000"),
         at("80", "FF01", "0100 0000 0000 01 0000 0000"),
-        at("80", "0101", "0100 0000 0000 01 0000 0000"),
-        // The plain machine tells both, the table's the lower one.
-        at("81", "0101", "0200 0300 0300 01 0100 0100"),
+        // Thread 0 comes second: its turn is 1.
+        in_line("80", "0101", "0100 0000 0000 01 0000 0000", "01"),
+        // The plain machine tells both, the table's the earlier one, thread 1.
+        in_line("81", "0101", "0200 0300 0300 01 0200 0200", "01"),
+        // Thread 1 leaves, and thread 0 closes up.
+        at("80", "01", "0100 0100 0000 01 0000 0000"),
     ];
-    let frames = "010100 000100 020001 010101";
-    wants_from_0(BOX, frames, [(14, 3); 2], &points);
-    // What stands behind the refused frame changes nothing, if it is a frame.
-    wants_from_0(BOX, &format!("{frames} 000101 0FFF00"), [(14, 3); 2], &points);
+    wants_from_0(BOX, "010100 000100 020001 010101", [(0, 0); 2], &points);
+    // Thread 0 is refused before it. What stands behind a refused frame changes nothing,
+    // if it is a frame.
+    let frames = "010100 000100 020001 000101";
+    wants_from_0(BOX, frames, [(14, 3); 2], &points[..4]);
+    wants_from_0(BOX, &format!("{frames} 010101 0FFF00"), [(14, 3); 2], &points[..4]);
 }
 
 #[test]
@@ -103,17 +115,18 @@ fn example_6_the_table_stops_first() {
     let points = [
         at("80", "", "0100 0000 0000 01 0000 0000"),
         at("80", "01", "0100 0000 0000 01 0000 0000"),
-        at("80", "0101", "0100 0000 0000 01 0000 0000"),
-        at("81", "0101", "0200 0300 0300 01 0100 0100"),
-        at("80", "0101", "0100 0300 0000 01 0100 0000"),
+        in_line("80", "0101", "0100 0000 0000 01 0000 0000", "0001"),
+        in_line("81", "0101", "0200 0300 0300 01 0100 0100", "0001"),
+        in_line("80", "0101", "0100 0300 0000 01 0100 0000", "0001"),
         // Thread 1 rechecks, which the table's machine refuses: it has no such point.
-        at("80", "0101", "0100 0100 0000 00 0000 0000"),
+        in_line("80", "0101", "0100 0100 0000 00 0000 0000", "0001"),
     ];
     let frames = "000100 010100 020001 030101 010100";
     wants_from_0(BOX, frames, [(0, 0), (14, 4)], &points);
     // The plain machine goes on, and is refused later: each has its own answer. Thread 4
     // puts, so thread 1 is told again, and thread 0 still has its notice.
-    let further = [&points[..], &[at("81", "0101", "0200 0300 0200 00 0000 0000")]].concat();
+    let further =
+        [&points[..], &[in_line("81", "0101", "0200 0300 0200 00 0000 0000", "0001")]].concat();
     let frames = format!("{frames} 040001 020200");
     wants_from_0(BOX, &frames, [(13, 6), (14, 4)], &further);
 }
@@ -125,23 +138,25 @@ fn told_are_only_those_without_a_notice_before() {
         at("80", "01", "0100 0000 0000 01 0000 0000"),
         at("81", "01", "0200 0100 0100 01 0100 0100"),
         at("80", "01", "0100 0100 0000 01 0100 0000"),
-        at("80", "01FFFF01", "0100 0100 0000 01 0100 0000"),
+        in_line("80", "01FFFF01", "0100 0100 0000 01 0100 0000", "00000001"),
         // The second put finds thread 0 notified: the plain machine tells thread 3 alone,
         // and the table's nobody, since it picks thread 0.
-        at("81", "01FFFF01", "0200 0900 0800 01 0100 0000"),
+        in_line("81", "01FFFF01", "0200 0900 0800 01 0100 0000", "00000001"),
     ];
     wants_from_0(BOX, "000100 010001 020101 030100 010001", [(0, 0); 2], &points);
 }
 
 #[test]
 fn low_bytes_come_first() {
-    let last = format!("01{}01", "FF".repeat(6));
+    let both = format!("{}01{}01", "FF".repeat(8), "FF".repeat(6));
+    // Thread 8 comes behind thread 15.
+    let turns = format!("{}01", "00".repeat(8));
     let points = [
         at("80", "", "0100 0000 0000 01 0000 0000"),
         at("80", &format!("{}01", "FF".repeat(15)), "0100 0000 0000 01 0000 0000"),
-        at("80", &format!("{}{last}", "FF".repeat(8)), "0100 0000 0000 01 0000 0000"),
-        // Threads 8 and 15 are told: 0x8100.
-        at("81", &format!("{}{last}", "FF".repeat(8)), "0200 0081 0081 01 0001 0001"),
+        in_line("80", &both, "0100 0000 0000 01 0000 0000", &turns),
+        // Threads 8 and 15 are told, 0x8100, or thread 15 alone.
+        in_line("81", &both, "0200 0081 0081 01 0080 0080", &turns),
     ];
     wants_from_0(BOX, "0F0100 080100 070001", [(0, 0); 2], &points);
 }
@@ -180,11 +195,12 @@ fn six_variables_from_another_state() {
         var d = 1 in 0..1; var e = -5 in -5..-4; var f = 9 in 8..9;";
     let file = file(variables, "true", "method m { waituntil (f == 9) { a := -127; } }");
     let idle = "FF".repeat(16);
-    let rest = "0100 0000 0000 01 0000 0000";
+    let turns = "00".repeat(16);
+    let rest = format!("0100 0000 0000 01 0000 0000 {turns}");
     // The start values' state is 0b011101; state 0 has every lowest value.
     let points = [format!("00FF80817B89 {idle} {rest}"), format!("01FF80817B89 {idle} {rest}")];
     wants(&file, "000001", 0b011101, [(0, 0); 2], &[&points[0], &points[1]]);
-    let lowest = format!("00FE7F807B88 {idle} 0000 0000 0000 01 0000 0000");
+    let lowest = format!("00FE7F807B88 {idle} 0000 0000 0000 01 0000 0000 {turns}");
     wants(&file, "000001", 0, [(14, 0); 2], &[&lowest]);
 }
 
@@ -212,8 +228,8 @@ fn a_broadcast_tells_all_on_both_machines() {
     let points = [
         at("80", "", "0200 0000 0000 01 0000 0000"),
         at("80", "00", "0200 0000 0000 01 0000 0000"),
-        at("80", "0000", "0200 0000 0000 01 0000 0000"),
-        at("81", "0000", "0100 0300 0300 01 0300 0300"),
+        in_line("80", "0000", "0200 0000 0000 01 0000 0000", "0001"),
+        in_line("81", "0000", "0100 0300 0300 01 0300 0300", "0001"),
         at("81", "FF00", "0100 0200 0000 01 0200 0000"),
     ];
     wants_from_0(&file, "000000 010000 020101 000001", [(0, 0); 2], &points);
@@ -241,18 +257,18 @@ fn the_buffer_a_byte_too_short_and_long_enough() {
         (&good[..8], 2),
         (&good[..13], 2),
     ] {
-        for length in [0, 1, 32, 33 * most - 1] {
+        for length in [0, 1, 48, 33 * most, 49 * most - 1] {
             refuses(BOX, trace, 0, length, (10, 0, 0));
         }
         match trace.len() % 7 {
             0 => {
-                let (given, buffer) = call(BOX, trace, 0, 33 * most);
+                let (given, buffer) = call(BOX, trace, 0, 49 * most);
                 assert_eq!((given.plain, given.table, given.count), (Ok(()), Ok(()), most));
-                let (_, longer) = call(BOX, trace, 0, 33 * most + 1);
-                assert_eq!(longer[..33 * most], buffer);
-                assert_eq!(longer[33 * most..], [BEFORE]);
+                let (_, longer) = call(BOX, trace, 0, 49 * most + 1);
+                assert_eq!(longer[..49 * most], buffer);
+                assert_eq!(longer[49 * most..], [BEFORE]);
             }
-            _ => refuses(BOX, trace, 0, 33 * most, (12, trace.len() / 7, 0)),
+            _ => refuses(BOX, trace, 0, 49 * most, (12, trace.len() / 7, 0)),
         }
     }
 }
@@ -268,20 +284,20 @@ fn the_empty_trace_has_one_point() {
 fn refusals_in_their_order() {
     let leaves = file("var x = 0 in 0..1;", "true", "method m { waituntil (true) { x := 2; } }");
     let kept = regions("x < 2", &["waituntil (true) { }"]);
-    let room = 33 * 100;
+    let room = 49 * 100;
     let (bad, wrong) = (b"zz\n".as_slice(), trace("000900 zz"));
     // Each input below would get every higher number that it can, too.
     refuses("", bad, 9999, 0, (4, 0, 0));
     refuses(&" ".repeat(8193), bad, 9999, 0, (1, 0, 0));
     refuses(&leaves, bad, 9999, 0, (9, 0, 0));
     refuses(&leaves, bad, 9999, room, (9, 0, 0));
-    refuses(&kept, bad, 9999, 32, (10, 0, 0));
-    refuses(&kept, bad, 4, 32, (10, 0, 0));
+    refuses(&kept, bad, 9999, 48, (10, 0, 0));
+    refuses(&kept, bad, 4, 48, (10, 0, 0));
     for unkept in [2, 3, 4, 9999, usize::MAX] {
-        refuses(&kept, bad, unkept, 33, (11, 0, 0));
-        refuses(&kept, b"", unkept, 33, (11, 0, 0));
+        refuses(&kept, bad, unkept, 49, (11, 0, 0));
+        refuses(&kept, b"", unkept, 49, (11, 0, 0));
     }
-    refuses(&kept, bad, 1, 33, (12, 0, 0));
+    refuses(&kept, bad, 1, 49, (12, 0, 0));
     // 12 looks at the whole trace before any frame gets 13 or 14.
     refuses(&kept, &wrong, 1, room, (12, 1, 0));
     // Both places of 9 are given.
@@ -319,17 +335,20 @@ fn lines_of_replay() {
     };
     // The checksums are those of the points above, or of bytes A5 alone, summed apart.
     let parted = trace("000100 010100 020001 030101 010100");
-    let wanted = "0000000000\n0E00040000\n000006201A\n0A00000000\n000000E730\n";
+    let wanted = "0000000000\n0E00040000\n0000065777\n0A00000000\n0000009BD5\n";
     assert_eq!(lines(BOX, &parted), wanted);
+    let queued = trace("010100 000100 020001 010101");
+    let wanted = "0000000000\n0000000000\n0000055030\n0A00000000\n00000050AE\n";
+    assert_eq!(lines(BOX, &queued), wanted);
     let refused = trace("000100 000100");
-    let wanted = "0E00010000\n0E00010000\n000002694C\n0A00000000\n000000C399\n";
+    let wanted = "0E00010000\n0E00010000\n0000023E9E\n0A00000000\n0000002983\n";
     assert_eq!(lines(BOX, &refused), wanted);
-    let wanted = "0000000000\n0000000000\n000001CD8D\n0A00000000\n000000A75A\n";
+    let wanted = "0000000000\n0000000000\n0000018FE4\n0A00000000\n000000F69F\n";
     assert_eq!(lines(BOX, b""), wanted);
     // A refused file stands before 10, and a bad line behind it.
-    let wanted = "0400000000\n0400000000\n000000F6D1\n0400000000\n000000A75A\n";
+    let wanted = "0400000000\n0400000000\n000000C399\n0400000000\n000000F69F\n";
     assert_eq!(lines("", b""), wanted);
-    let wanted = "0C00010000\n0C00010000\n000000B185\n0A00000000\n000000DE9A\n";
+    let wanted = "0C00010000\n0C00010000\n00000007CD\n0A00000000\n0000004015\n";
     assert_eq!(lines(BOX, b"000100\n0"), wanted);
 }
 
@@ -341,6 +360,7 @@ struct Said {
     holding: Vec<usize>,
     plain: Notices,
     table: Option<Notices>,
+    turns: Vec<u8>,
 }
 
 /// Who is notified, and who of them was told by the frame before.
@@ -380,6 +400,7 @@ fn read(point: &[u8], variables: usize) -> Said {
             1 => Some(notices(&point[29..33])),
             other => panic!("{other:02X} is no answer"),
         },
+        turns: point[33..].to_vec(),
     }
 }
 
@@ -400,6 +421,7 @@ struct Ends {
     refused_whole: usize,
     points: usize,
     told: usize,
+    turned: usize,
     due: usize,
 }
 
@@ -409,11 +431,11 @@ struct Ends {
 fn compare(case: &Case, start: usize, ends: &mut Ends) {
     let (file, trace) = (&case.monitor, &case.trace);
     let most = trace.len() / 7 + 1;
-    let (given, buffer) = call(file, trace, start, 33 * most + 7);
-    let behind = &buffer[33 * given.count..];
+    let (given, buffer) = call(file, trace, start, 49 * most + 7);
+    let behind = &buffer[49 * given.count..];
     assert!(behind.iter().all(|byte| *byte == BEFORE) && behind.len() >= 7);
-    let exact = call(file, trace, start, 33 * most);
-    assert_eq!((exact.0, &exact.1[..]), (given, &buffer[..33 * most]));
+    let exact = call(file, trace, start, 49 * most);
+    assert_eq!((exact.0, &exact.1[..]), (given, &buffer[..49 * most]));
 
     let machines = match check(file) {
         Ok(monitor) => Machines::of(monitor),
@@ -424,7 +446,7 @@ fn compare(case: &Case, start: usize, ends: &mut Ends) {
             return;
         }
     };
-    let short = call(file, trace, start, 33 * most - 1);
+    let short = call(file, trace, start, 49 * most - 1);
     let ten = Err(Answer::at(10, 0));
     assert_eq!(short.0, Points { plain: ten, table: ten, count: 0 });
     assert!(short.1.iter().all(|byte| *byte == BEFORE));
@@ -455,6 +477,7 @@ fn compare(case: &Case, start: usize, ends: &mut Ends) {
         let before = |machine| k.checked_sub(1).map(|k| run(7 * k, machine).unwrap());
         if let Some(table) = &table {
             assert_eq!((&table.values, table.places), (&plain.values, plain.places));
+            assert_eq!(table.turns, plain.turns);
         }
         let holds = |guard: &usize| machines.monitor.guard_holds(*guard, &plain.values);
         let wanted = Said {
@@ -463,11 +486,13 @@ fn compare(case: &Case, start: usize, ends: &mut Ends) {
             holding: (0..machines.monitor.guards.len()).filter(holds).collect(),
             plain: notices(before(Machine::Plain).as_ref(), &plain),
             table: table.map(|table| notices(before(Machine::Table).as_ref(), &table)),
+            turns: plain.turns.to_vec(),
         };
         ends.points += 1;
         ends.told += usize::from(!wanted.plain.told.is_empty());
+        ends.turned += usize::from(wanted.turns.iter().any(|turn| *turn > 0));
         ends.due += usize::from(plain.places.iter().any(|place| matches!(place, Place::Due(_))));
-        let point = &buffer[33 * k..33 * (k + 1)];
+        let point = &buffer[49 * k..49 * (k + 1)];
         assert_eq!(read(point, plain.values.len()), wanted, "point {k}");
     }
 }
@@ -496,7 +521,7 @@ fn points_are_runs_of_the_first_lines() {
     }
     assert!(ends.accepted > 100 && ends.refused_alike > 50 && ends.parted > 20, "{ends:?}");
     assert!(ends.refused_whole > 100 && ends.points > 2000, "{ends:?}");
-    assert!(ends.told > 200 && ends.due > 200, "{ends:?}");
+    assert!(ends.told > 200 && ends.turned > 200 && ends.due > 200, "{ends:?}");
 }
 
 #[test]

@@ -430,11 +430,15 @@ fn a_waiter_names_only_its_own_region() {
     // Even one with the same guard is another region.
     assert_eq!(both_answers(&shared, "000000 000100"), [(13, 1); 2]);
     assert_eq!(both_answers(&shared, "000000 010201 000101"), [(13, 2); 2]);
-    // Waiters on one guard are one queue, whatever their regions: thread 1 at
-    // region 0 stands behind thread 0 at region 1.
-    assert_eq!(both_answers(&shared, "010000 000100 020201 010001"), [(14, 3); 2]);
-    assert_eq!(both_answers(&shared, "010000 000100 020201 000101 010001"), [(0, 0); 2]);
-    // On another guard a lower thread does not stand before.
+    // Waiters on one guard are one queue, whatever their regions: thread 0 at
+    // region 1 stands behind thread 1 at region 0, which came first.
+    assert_eq!(both_answers(&shared, "010000 000100 020201 000101"), [(14, 3); 2]);
+    // Thread 1 takes it away again, and thread 0 may recheck.
+    assert_eq!(both_answers(&shared, "010000 000100 020201 010001 000100"), [(0, 0); 2]);
+    // The other way round thread 0's body leaves it, and thread 1 runs too.
+    assert_eq!(both_answers(&shared, "000100 010000 020201 010001"), [(14, 3); 2]);
+    assert_eq!(both_answers(&shared, "000100 010000 020201 000101 010001"), [(0, 0); 2]);
+    // On another guard an earlier thread does not stand before.
     let apart = regions(
         "true",
         &["waituntil (x == 1) { }", "waituntil (x > 0) { }", "waituntil (true) { x := 1; }"],
@@ -459,17 +463,21 @@ fn notices_stay_until_used_up() {
 }
 
 #[test]
-fn a_signal_picks_the_lowest_waiter_though_it_has_a_notice() {
+fn a_signal_picks_the_earliest_waiter_though_it_has_a_notice() {
     // Threads 0 and 1 wait; put, get by an idle thread, put: the plain machine has
     // notified both, the table's thread 0 twice and thread 1 never.
     let [plain, of_table] = both(BOX, "000100 010100 020001 030101 020001");
     assert_eq!(plain.unwrap().notified_bits(), 0b11);
     assert_eq!(of_table.unwrap().notified_bits(), 0b01);
-    // A lower thread that comes later is picked from then on.
+    // So with thread 1 before thread 0, the table's tells thread 1 twice.
+    let [plain, of_table] = both(BOX, "010100 000100 020001 030101 020001");
+    assert_eq!(plain.unwrap().notified_bits(), 0b11);
+    assert_eq!(of_table.unwrap().notified_bits(), 0b10);
+    // A lower thread that comes later is picked by nobody while thread 5 waits.
     let [plain, of_table] = both(BOX, "050100 020001 030101 010100 020001");
     assert_eq!(plain.unwrap().notified_bits(), 0b100010);
-    assert_eq!(of_table.unwrap().notified_bits(), 0b100010);
-    // Without a put after it, the lower one is not notified.
+    assert_eq!(of_table.unwrap().notified_bits(), 0b100000);
+    // Without a put after it, the later one is not notified.
     let [plain, of_table] = both(BOX, "050100 020001 030101 010100");
     assert_eq!(plain.unwrap().notified_bits(), 0b100000);
     assert_eq!(of_table.unwrap().notified_bits(), 0b100000);

@@ -4,7 +4,7 @@ use std::mem::{offset_of, size_of};
 pub const FAULT: u16 = 65534;
 pub const NEVER: u16 = 65535;
 pub const OUTPUT_BYTES: usize = 4096;
-pub const POINT_BYTES: usize = 33;
+pub const POINT_BYTES: usize = 49;
 
 #[repr(C)]
 #[derive(Clone, Copy)]
@@ -31,6 +31,7 @@ pub struct Running {
     pub notified: u16,
     pub how_many: u32,
     pub of_file: bool,
+    pub turns: [u8; 16],
 }
 
 #[repr(C)]
@@ -160,10 +161,11 @@ const _: () = {
     assert!(size_of::<Answer>() == 24 && offset_of!(Answer, first) == 8 && offset_of!(Answer, second) == 16);
     assert!(size_of::<Placing>() == 40 && offset_of!(Placing, length) == 24 && offset_of!(Placing, chosen) == 32);
     assert!(offset_of!(Placing, pairs) == 34);
-    assert!(size_of::<Running>() == 72 && offset_of!(Running, vars) == 24 && offset_of!(Running, values) == 32);
+    assert!(size_of::<Running>() == 88 && offset_of!(Running, vars) == 24 && offset_of!(Running, values) == 32);
     assert!(offset_of!(Running, places) == 44 && offset_of!(Running, notified) == 60);
     assert!(offset_of!(Running, how_many) == 64 && offset_of!(Running, of_file) == 68);
-    assert!(size_of::<Both>() == 144 && offset_of!(Both, table) == 72);
+    assert!(offset_of!(Running, turns) == 69);
+    assert!(size_of::<Both>() == 176 && offset_of!(Both, table) == 88);
     assert!(size_of::<Pointing>() == 56 && offset_of!(Pointing, table) == 24 && offset_of!(Pointing, count) == 48);
     assert!(size_of::<Span>() == 16 && offset_of!(Span, to) == 8);
     assert!(size_of::<Variable>() == 24 && offset_of!(Variable, start) == 16 && offset_of!(Variable, high) == 20);

@@ -15,6 +15,7 @@
 mod ffi;
 mod outline;
 mod points;
+mod queue;
 mod refusal;
 mod tries;
 
@@ -70,7 +71,7 @@ pub struct Entry {
     pub guard: u8,
     /// Always, or only where the guard holds after the region's body.
     pub unconditional: bool,
-    /// All waiters, or the first.
+    /// All waiters, or the first, which is the earliest to begin waiting.
     pub broadcast: bool,
 }
 
@@ -102,6 +103,18 @@ pub struct Record {
     pub places: [Place; 16],
     /// The threads that are notified, in order.
     pub notified: Vec<u8>,
+    /// Of each thread that waits, how many of all who wait began before it, 0 of the others: [`Record::turn`] tells these apart,
+    /// [`Record::queue`] and [`Record::line`] list who waits in order.
+    ///
+    /// ```
+    /// let file = b"monitor Box { var full = 0 in 0..1; keep true;
+    ///     method put { waituntil (full == 0) { full := 1; } }
+    ///     method get { waituntil (full == 1) { full := 0; } } }";
+    /// let record = damsonyet::run(file, b"050100\n000100\n", 0, damsonyet::Machine::Table).unwrap();
+    /// assert_eq!((record.turn(5), record.turn(0), record.turn(1)), (Some(0), Some(1), None));
+    /// assert_eq!(record.queue(), [5, 0]);
+    /// ```
+    pub turns: [u8; 16],
 }
 
 /// What both machines answer to one trace.
@@ -167,6 +180,7 @@ fn record(running: &ffi::Running) -> Result<Record, Refusal> {
         values: running.values[..running.vars].iter().map(|&held| value(held)).collect(),
         places: running.places.map(Place::from_byte),
         notified: members(running.notified),
+        turns: running.turns,
     })
 }
 

@@ -51,6 +51,11 @@ impl Outline {
         self.methods.iter().position(|method| method.regions.contains(&region))
     }
 
+    /// The number of a region's guard.
+    pub fn guard_of(&self, region: usize) -> Option<usize> {
+        self.regions.get(region).map(|region| usize::from(region.guard_number))
+    }
+
     /// The first region with a guard.
     pub fn first_with(&self, guard: usize) -> Option<usize> {
         self.regions.iter().position(|region| usize::from(region.guard_number) == guard)

@@ -16,6 +16,9 @@ pub struct Point {
     /// A value a variable; slots without one hold 0.
     pub values: [i16; 6],
     pub places: [Place; 16],
+    /// Of each thread that waits, how many of all who wait began before it, 0 of the others: [`Point::turn`] tells these apart,
+    /// [`Point::queue`] and [`Point::line`] list who waits in order.
+    pub turns: [u8; 16],
     /// The guards that hold, as bits.
     pub guards: u16,
     pub plain: Notices,
@@ -37,6 +40,7 @@ fn point(bytes: &[u8]) -> Point {
     Point {
         values: std::array::from_fn(|k| i16::from(bytes[k]) - 128),
         places: std::array::from_fn(|t| Place::from_byte(bytes[6 + t])),
+        turns: std::array::from_fn(|t| bytes[33 + t]),
         guards: set(22),
         plain: Notices { notified: set(24), told: set(26) },
         table: (bytes[28] == 1).then(|| Notices { notified: set(29), told: set(31) }),
@@ -49,11 +53,11 @@ fn point(bytes: &[u8]) -> Point {
 /// let file = b"monitor Box { var full = 0 in 0..1; keep true;
 ///     method put { waituntil (full == 0) { full := 1; } }
 ///     method get { waituntil (full == 1) { full := 0; } } }";
-/// // Two wait to get, one puts: the plain machine tells both, a signal of the table's only the first.
-/// let points = damsonyet::points(file, b"000100\n010100\n020001\n", 0).unwrap();
+/// // Two wait to get, one puts: the plain machine tells both, a signal of the table's only the first, which is the earliest.
+/// let points = damsonyet::points(file, b"010100\n000100\n020001\n", 0).unwrap();
 /// let last = &points.points[3];
 /// assert_eq!(damsonyet::members(last.plain.told), [0, 1]);
-/// assert_eq!(damsonyet::members(last.table.unwrap().told), [0]);
+/// assert_eq!(damsonyet::members(last.table.unwrap().told), [1]);
 /// ```
 pub fn points(file: &[u8], trace: &[u8], start: usize) -> Result<Points, Refusal> {
     let mut out = vec![0; ffi::POINT_BYTES * (trace.len() / 7 + 1)];

@@ -2,11 +2,12 @@
 use damsonyet::{Entry, Fate, Machine, Notices, Outcome, Place, Point, Points, Record, Refusal};
 use reference::cases::counted::counted;
 use reference::cases::made::made;
+use reference::cases::queued::queued;
 use reference::cases::{make_case, Case, Size};
 use reference::hostile::Bases;
 use reference::machines::Machines;
 use reference::outline as second;
-use reference::points::needed;
+use reference::points::{needed, POINT};
 use reference::{pairs, table, Answer};
 use std::fmt::Debug;
 use std::time::Instant;
@@ -53,6 +54,11 @@ fn counted_by_hand() -> impl Iterator<Item = (Input, usize)> {
     counted().into_iter().map(|one| (Input::of(format!("case counted by hand: {}", one.what), one.case), one.pairs))
 }
 
+/// The cases about the order of waiters, each with how it ends, worked out by hand.
+fn queued_by_hand() -> impl Iterator<Item = (Input, String)> {
+    queued().into_iter().map(|one| (Input::of(format!("case about the queue: {}", one.what), one.case), one.ends))
+}
+
 fn hostile(seed: u64, count: usize) -> impl Iterator<Item = Input> {
     let mut bases = Bases::of(seed);
     (0..count).map(move |number| Input::of(format!("hostile input {number} of seed {seed}"), bases.input(number)))
@@ -87,6 +93,7 @@ fn record(record: reference::Record) -> Record {
         values: values(&record.values),
         places: record.places.map(place_of),
         notified: (0..16).filter(|&thread| record.notified[usize::from(thread)]).collect(),
+        turns: record.turns,
     }
 }
 
@@ -105,6 +112,7 @@ fn point(bytes: &[u8]) -> Point {
     Point {
         values: std::array::from_fn(|slot| i16::from(bytes[slot]) - 128),
         places: std::array::from_fn(|thread| place(bytes[6 + thread])),
+        turns: std::array::from_fn(|thread| bytes[33 + thread]),
         guards: set(22),
         plain: Notices { notified: set(24), told: set(26) },
         table: if bytes[28] == 1 { Some(Notices { notified: set(29), told: set(31) }) } else { None },
@@ -119,7 +127,7 @@ fn points(file: &[u8], trace: &[u8], start: usize) -> Result<Points, Refusal> {
         _ => Ok(Points {
             plain: given.plain.map_err(refusal),
             table: given.table.map_err(refusal),
-            points: buffer.chunks(33).take(given.count).map(point).collect(),
+            points: buffer.chunks(POINT).take(given.count).map(point).collect(),
         }),
     }
 }
@@ -216,6 +224,8 @@ struct Counts {
     runs: [usize; 15],
     points: usize,
     parted: usize,
+    /// Points at which the queue is not in the order of the threads' numbers.
+    by_arrival: usize,
     /// Files of which fates are told and that have tries; the tries by their fates, the broken ones by their passes from the second on; and
     /// files refused with 9 of which fates are told.
     tried: usize,
@@ -332,7 +342,10 @@ fn runs(input: &Input, machines: &Result<Machines, Refusal>, counts: &mut Counts
         input.same(("run plain", start), damsonyet::run(file, trace, start, Machine::Plain), plain);
         input.same(("run table", start), damsonyet::run(file, trace, start, Machine::Table), table);
         let points = points(file, trace, start);
-        counts.points += points.as_ref().map_or(0, |points| points.points.len());
+        if let Ok(points) = &points {
+            counts.points += points.points.len();
+            counts.by_arrival += points.points.iter().filter(|point| !point.queue().is_sorted()).count();
+        }
         input.same(("points", start), damsonyet::points(file, trace, start), points);
     }
 }
@@ -403,14 +416,16 @@ fn compare_slots(input: &Input) {
         for (table, machine) in [(false, reference::Machine::Plain), (true, reference::Machine::Table)] {
             let given = unsafe { ffi::damsonyet_run(file.as_ptr(), file.len(), trace.as_ptr(), trace.len(), start, table) };
             let run = machines.as_ref().map_err(|answer| *answer).and_then(|machines| machines.run(trace, start, machine));
-            let (values, places, notified, how_many) = match &run {
-                Ok(record) => (&record.values[..], record.places.map(reference::Place::byte), record.notified_bits(), record.how_many()),
-                Err(_) => (&[][..], [255; 16], 0, 0),
+            let (values, places, turns) = match &run {
+                Ok(record) => (&record.values[..], record.places.map(reference::Place::byte), record.turns),
+                Err(_) => (&[][..], [255; 16], [0; 16]),
             };
-            let library =
-                (three(given.answer), given.vars, given.values, given.places, given.notified, given.how_many as usize, given.of_file);
-            let second = (numbers(run.as_ref().err()), values.len(), held(values), places, notified, how_many, machines.is_err());
+            let (notified, how_many) = run.as_ref().map_or((0, 0), |record| (record.notified_bits(), record.how_many()));
+            let library = (given.vars, given.values, given.places, given.notified, given.how_many as usize, given.turns);
+            let second = (values.len(), held(values), places, notified, how_many, turns);
             input.same(("run's slots", start, table), library, second);
+            let second = (numbers(run.as_ref().err()), machines.is_err());
+            input.same(("run's answer", start, table), (three(given.answer), given.of_file), second);
         }
     }
     let (verdict, told) = second::outline(file);
@@ -477,7 +492,7 @@ fn lent_buffers(input: &Input, machines: &Result<Machines, Answer>, start: usize
     let count = unsafe { ffi::damsonyet_runner_lines(file.as_ptr(), file.len(), trace.as_ptr(), trace.len(), &mut *buffer) };
     let lines = reference::lines::runner(file, trace);
     input.same("runner_lines' buffer", (count, buffer.to_vec()), (lines.len(), written(&lines, buffer.len())));
-    for room in [0, needed(trace.len()) - 1, needed(trace.len()) + 33] {
+    for room in [0, needed(trace.len()) - 1, needed(trace.len()) + POINT] {
         let [mut library, mut second] = [vec![BEFORE; room], vec![BEFORE; room]];
         let (file_at, trace_at, out) = (file.as_ptr(), trace.as_ptr(), library.as_mut_ptr());
         let given = unsafe { ffi::damsonyet_points(file_at, file.len(), trace_at, trace.len(), start, out, room) };
@@ -579,13 +594,13 @@ fn generated_cases() {
     with_stack(|| {
         let begun = Instant::now();
         let mut counts = Counts::default();
-        for input in cases(31, 200, Size::SMALL, "small").chain(cases(32, 100, Size::FULL, "full")) {
+        for input in cases(37, 200, Size::SMALL, "small").chain(cases(38, 100, Size::FULL, "full")) {
             compare(&input, &mut counts);
         }
         println!("{counts:?} in {:?}", begun.elapsed());
         assert!(counts.accepted >= 100 && counts.refused[1..].iter().all(|&refused| refused >= 6), "{counts:?}");
         assert!([0, 11, 12, 13, 14].iter().all(|&answer| counts.runs[answer] >= 20), "{counts:?}");
-        assert!(counts.parted >= 10 && counts.faults >= 5 && counts.not_kept >= 50, "{counts:?}");
+        assert!(counts.parted >= 10 && counts.by_arrival >= 100 && counts.faults >= 5 && counts.not_kept >= 50, "{counts:?}");
         assert!(counts.tried >= 30 && counts.chosen >= 50 && counts.false_at_start >= 20 && counts.broken >= 20, "{counts:?}");
         let others = counts.pairs - counts.touched;
         assert!(counts.partly_touched >= 50 && counts.touched >= 500 && others >= 500, "{counts:?}");
@@ -605,6 +620,36 @@ fn cases_counted_by_hand() {
         }
         println!("{counts:?} in {:?}", begun.elapsed());
         assert!(counts.accepted >= 20 && counts.accepted < counts.inputs && counts.partly_touched >= 10, "{counts:?}");
+    });
+}
+
+/// How a run ends: a refusal, or the values and who waits, the earliest first, each with its region.
+fn end(run: &Result<Record, Refusal>) -> String {
+    match run {
+        Err(refusal) => format!("{} at {}", refusal.number, refusal.first),
+        Ok(record) => {
+            let values: Vec<String> = record.values.iter().map(i16::to_string).collect();
+            let waiter = |thread: u8| format!(" {thread}@{}", record.places[usize::from(thread)].byte());
+            format!("{}:{}", values.join(","), record.queue().into_iter().map(waiter).collect::<String>())
+        }
+    }
+}
+
+#[test]
+fn cases_about_the_queue() {
+    with_stack(|| {
+        let begun = Instant::now();
+        let mut counts = Counts::default();
+        for (input, ends) in queued_by_hand() {
+            let both = damsonyet::run_both_from_start(&input.file, &input.trace).expect("an accepted file");
+            let (plain, table) = (end(&both.plain), end(&both.table));
+            assert_eq!(if plain == table { plain } else { format!("{plain} / {table}") }, ends, "{}", input.name);
+            compare(&input, &mut counts);
+            compare_slots(&input);
+        }
+        println!("{counts:?} in {:?}", begun.elapsed());
+        assert!(counts.inputs >= 24 && counts.accepted == counts.inputs && counts.by_arrival >= 100, "{counts:?}");
+        assert!(counts.runs[0] >= 24 && counts.runs[14] >= 24 && counts.parted >= 3, "{counts:?}");
     });
 }
 
@@ -628,7 +673,7 @@ fn hostile_inputs() {
     with_stack(|| {
         let begun = Instant::now();
         let mut counts = Counts::default();
-        for input in hostile(40, 600) {
+        for input in hostile(44, 700) {
             compare(&input, &mut counts);
         }
         println!("{counts:?} in {:?}", begun.elapsed());

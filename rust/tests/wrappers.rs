@@ -77,6 +77,8 @@ fn examples_have_their_tables_and_lines() {
                 ("monitor.txt", "trace.txt", "table.txt", "lines.txt"),
                 ("monitor.txt", "trace-plain-only.txt", "table.txt", "lines-plain-only.txt"),
                 ("monitor.txt", "trace-recheck.txt", "table.txt", "lines-recheck.txt"),
+                ("monitor.txt", "trace-arrival.txt", "table.txt", "lines-arrival.txt"),
+                ("monitor.txt", "trace-by-number.txt", "table.txt", "lines-by-number.txt"),
                 ("monitor-kept.txt", "", "table-kept.txt", ""),
                 ("monitor-tried.txt", "", "table-tried.txt", ""),
                 ("monitor-without.txt", "", "table-without.txt", ""),
@@ -169,11 +171,49 @@ fn agree(file: &[u8], trace: &[u8], start: usize) {
             let last = points.points.last().expect("a point");
             if let Ok(record) = &both.plain {
                 assert_eq!(record.places, last.places);
+                assert_eq!(record.turns, last.turns);
                 assert_eq!(record.values, last.values[..record.values.len()]);
                 assert_eq!(record.notified, damsonyet::members(last.plain.notified));
             }
             if let Ok(record) = &both.table {
+                assert_eq!((record.places, record.turns), (last.places, last.turns));
                 assert_eq!(record.notified, damsonyet::members(last.table.expect("to the end").notified));
+            }
+            turns_agree(&outline, &points.points);
+        }
+    }
+}
+
+/// The turns beside the places, from point to point: who begins to wait comes to the back, who goes on was the first in line on its guard, and
+/// who rechecks stays where it is. On a guard that holds, the first in line is notified in both machines.
+fn turns_agree(outline: &damsonyet::Outline, points: &[damsonyet::Point]) {
+    let waits = |place: Place| matches!(place, Place::Waiting(_));
+    let mut queue: Vec<u8> = Vec::new();
+    for (k, point) in points.iter().enumerate() {
+        for thread in 0..16 {
+            let before = k.checked_sub(1).map_or(Place::Idle, |k| points[k].places[usize::from(thread)]);
+            match (before, point.places[usize::from(thread)]) {
+                (Place::Waiting(region), now) if !waits(now) => {
+                    let guard = outline.guard_of(region.into()).expect("a guard");
+                    assert_eq!(points[k - 1].line(outline, guard).first(), Some(&thread));
+                    queue.retain(|&other| other != thread);
+                }
+                (before, now) if !waits(before) && waits(now) => queue.push(thread),
+                _ => {}
+            }
+        }
+        assert_eq!(point.queue(), queue);
+        for thread in 0..=16 {
+            let turn = queue.iter().position(|&other| other == thread).map(|turn| turn as u8);
+            assert_eq!(point.turn(thread), turn);
+            assert_eq!(point.turns.get(usize::from(thread)).copied().unwrap_or(0), turn.unwrap_or(0));
+        }
+        let lines: Vec<Vec<u8>> = (0..outline.guards).map(|guard| point.line(outline, guard)).collect();
+        assert_eq!(lines.iter().map(Vec::len).sum::<usize>(), queue.len());
+        for (guard, line) in lines.iter().enumerate() {
+            assert!(line.windows(2).all(|two| point.turn(two[0]) < point.turn(two[1])));
+            if let Some(first) = line.first().filter(|_| point.guards >> guard & 1 == 1) {
+                assert!(point.plain.notified >> first & 1 == 1 && point.table.is_none_or(|table| table.notified >> first & 1 == 1));
             }
         }
     }
@@ -357,6 +397,36 @@ fn tries_that_are_refused() {
     });
 }
 
+/// The turns and lines of examples/queue, as its README tells them, and of document 01's example 4.
+#[test]
+fn turns_of_the_examples() {
+    with_stack(|| {
+        let file = read(&root().join("queue/monitor.txt"));
+        let (outline, start) = (damsonyet::outline(&file).expect("an outline").0, damsonyet::start_state(&file));
+        let lines = |trace: &str| -> Vec<Vec<u8>> {
+            let points = damsonyet::points(&file, &read(&root().join("queue").join(trace)), start).expect("points").points;
+            assert!(points.iter().all(|point| point.line(&outline, 1).is_empty() && point.queue() == point.line(&outline, 0)));
+            points.iter().map(|point| point.line(&outline, 0)).collect()
+        };
+        let by_hand: [&[u8]; 12] = [&[], &[], &[5], &[5, 0], &[5, 0], &[0], &[0, 1], &[0, 1], &[1], &[1, 5], &[1, 5], &[5]];
+        assert_eq!(lines("trace.txt"), by_hand);
+        assert_eq!(lines("trace-by-number.txt"), by_hand[..5]);
+        let by_hand: [&[u8]; 11] = [&[], &[], &[5], &[5, 0], &[5, 0], &[5, 0], &[5, 0], &[5, 0], &[0], &[0], &[]];
+        assert_eq!(lines("trace-recheck.txt"), by_hand);
+        let (file, trace) = (read(&root().join("box/monitor.txt")), read(&root().join("box/trace-arrival.txt")));
+        for machine in [Machine::Plain, Machine::Table] {
+            let record = damsonyet::run(&file, &trace, 0, machine).expect("accepted");
+            assert_eq!((record.values, record.places[0], record.turns), (vec![0], Place::Waiting(1), [0; 16]));
+            let record = damsonyet::run(&file, &trace[..14], 0, machine).expect("accepted");
+            assert_eq!((record.queue(), record.turn(0), record.turn(1), record.turn(2)), (vec![1, 0], Some(1), Some(0), None));
+        }
+        // Beside a refusal all turns are 0.
+        let (trace, start) = (read(&root().join("refusals/14-not-first/trace.txt")), 0);
+        let both = unsafe { ffi::damsonyet_run_both(file.as_ptr(), file.len(), trace.as_ptr(), trace.len(), start) };
+        assert_eq!((both.plain.answer.number, both.plain.turns, both.table.turns), (14, [0; 16], [0; 16]));
+    });
+}
+
 /// Touched pairs of the examples, each counted by hand: for each region, the guards that name a variable which its body assigns.
 #[test]
 fn pairs_of_the_examples() {
@@ -368,6 +438,7 @@ fn pairs_of_the_examples() {
             ("breaker/monitor.txt", 3 + 3 + 3 + 3 + 1),
             ("breaker-guesses/monitor.txt", 4 + 4 + 4 + 3 + 2 + 1),
             ("breaker-guesses/monitor-without.txt", 4 + 4 + 4 + 3 + 2 + 1),
+            ("queue/monitor.txt", 1 + 1 + 1),
             ("readers-limit/monitor.txt", 2 + 2 + 2 + 2),
             ("readers-writers/monitor.txt", 1 + 1 + 2 + 2),
             ("readers-writers/monitor-published.txt", 1 + 1 + 2 + 2),

@@ -6,6 +6,7 @@ use crate::table::Entry;
 use crate::Refusal;
 
 pub const THREADS: usize = 16;
+const MOST_GUARDS: usize = 16;
 
 #[derive(Clone, Copy, Debug, PartialEq, Eq)]
 pub struct Frame {
@@ -35,6 +36,8 @@ pub struct Run {
     pub places: [Place; THREADS],
     /// The notified threads, one bit a thread.
     pub notified: u16,
+    /// How many of all who wait began before a waiting thread; 0 of any other.
+    pub turns: [u8; THREADS],
 }
 
 /// The frames of a trace, or refusal 12 at the first line that is none.
@@ -111,7 +114,7 @@ impl<'a> Machines<'a> {
     pub fn start(&self) -> Run {
         let monitor = &self.checked.monitor;
         let state = monitor.number_of(&monitor.start_values()) as u16;
-        Run { state, places: [Place::Idle; THREADS], notified: 0 }
+        Run { state, places: [Place::Idle; THREADS], notified: 0, turns: [0; THREADS] }
     }
 
     /// One frame; a refusal's number, 13 or 14, leaves the run as it was.
@@ -133,17 +136,21 @@ impl<'a> Machines<'a> {
             if run.notified & own == 0 {
                 return Err(14);
             }
-            let ahead = own - 1;
-            if flag && self.waiters(run, guard) & run.notified & ahead != 0 {
+            let notified = self.waiters(run)[usize::from(guard)] & run.notified;
+            if flag && run.earliest(notified) != own {
                 return Err(14);
             }
         }
         if flag {
+            if is_waiting {
+                run.leave(thread);
+            }
             self.run_body(run, thread, region, machine);
         } else if is_waiting {
-            // A recheck uses up the notice.
+            // A recheck uses up the notice and keeps its turn.
             run.notified &= !own;
         } else {
+            run.turns[thread] = run.count_of_waiters();
             run.places[thread] = Place::Waiting(region);
         }
         Ok(())
@@ -162,12 +169,12 @@ impl<'a> Machines<'a> {
         }
     }
 
-    /// The threads that wait on a guard, one bit a thread.
-    fn waiters(&self, run: &Run, guard: u8) -> u16 {
-        let mut waiters = 0;
+    /// The threads that wait on each guard, one bit a thread.
+    fn waiters(&self, run: &Run) -> [u16; MOST_GUARDS] {
+        let mut waiters = [0; MOST_GUARDS];
         for (thread, place) in run.places.iter().enumerate() {
             if let Place::Waiting(region) = *place {
-                waiters |= u16::from(self.guard_of[usize::from(region)] == guard) << thread;
+                waiters[usize::from(self.guard_of[usize::from(region)])] |= 1 << thread;
             }
         }
         waiters
@@ -202,17 +209,103 @@ impl<'a> Machines<'a> {
     /// Those whom a region's entries notify: of a signal's guard the first waiter.
     fn told_by_table(&self, run: &Run, truths: u16, wakes: Wakes) -> u16 {
         let acting = wakes.any & (wakes.unconditional | truths);
-        let mut told = 0;
-        let mut met = 0;
-        for (thread, place) in run.places.iter().enumerate() {
-            if let Place::Waiting(region) = *place {
-                let guard = 1 << self.guard_of[usize::from(region)];
-                if guard & acting & (wakes.broadcast | !met) != 0 {
-                    told |= 1 << thread;
-                }
-                met |= guard;
-            }
+        if acting == 0 {
+            return 0;
         }
-        told
+        let waiters = self.waiters(run);
+        members(acting).fold(0, |told, guard| match wakes.broadcast >> guard & 1 {
+            1 => told | waiters[guard],
+            _ => told | run.earliest(waiters[guard]),
+        })
+    }
+}
+
+impl Run {
+    fn count_of_waiters(&self) -> u8 {
+        self.places.iter().filter(|place| matches!(place, Place::Waiting(_))).count() as u8
+    }
+
+    /// A waiter leaves, and those behind it close up.
+    fn leave(&mut self, thread: usize) {
+        let own = std::mem::take(&mut self.turns[thread]);
+        for turn in &mut self.turns {
+            *turn -= u8::from(*turn > own);
+        }
+    }
+
+    /// Of a set of waiters the one that has waited longest, as a set.
+    fn earliest(&self, waiters: u16) -> u16 {
+        let first = members(waiters).min_by_key(|thread| self.turns[*thread]);
+        first.map_or(0, |thread| 1 << thread)
+    }
+}
+
+/// The numbers in a set of sixteen bits.
+fn members(set: u16) -> impl Iterator<Item = usize> {
+    let mut left = set;
+    std::iter::from_fn(move || {
+        let member = (left != 0).then_some(left.trailing_zeros() as usize);
+        left &= left.wrapping_sub(1);
+        member
+    })
+}
+
+#[cfg(test)]
+mod tests {
+    use super::{frames, Machine, Machines, Place};
+    use crate::check::check;
+    use crate::table::place;
+
+    /// The waiters at the end of a run, by turn, or the refusal's number and frame.
+    type Ended = Result<Vec<usize>, (u8, usize)>;
+
+    /// What both machines say to the frames. A thread that begins at region 0 is due at region 1
+    /// and gets there; region 2 gets and region 3 puts.
+    fn both(frames_of: &str) -> [Ended; 2] {
+        let file = "monitor m { var x = 0 in 0..1; keep true;
+            method a { waituntil (true) { } waituntil (x == 1) { x := 0; } }
+            method b { waituntil (x == 1) { x := 0; } }
+            method c { waituntil (x == 0) { x := 1; } } }";
+        let checked = check(file.as_bytes()).expect("an accepted file");
+        let machines = Machines::new(&checked, &place(&checked).entries);
+        let trace: String = frames_of.split(' ').map(|frame| format!("{frame}\n")).collect();
+        let frames = frames(trace.as_bytes()).expect("frames");
+        [Machine::Plain, Machine::Table].map(|machine| {
+            let run = machines.run(&frames, machine).map_err(|r| (r.number, r.first))?;
+            let waits = |thread: &usize| matches!(run.places[*thread], Place::Waiting(_));
+            let mut waiters: Vec<usize> = (0..run.places.len()).filter(waits).collect();
+            waiters.sort_by_key(|thread| run.turns[*thread]);
+            let turns: Vec<usize> =
+                waiters.iter().map(|thread| usize::from(run.turns[*thread])).collect();
+            assert!(turns.into_iter().eq(0..waiters.len()));
+            Ok(waiters)
+        })
+    }
+
+    #[test]
+    fn the_earliest_waiter_resumes() {
+        let waits = "090200 000200 050200 030301";
+        assert_eq!(both(waits), [Ok(vec![9, 0, 5]), Ok(vec![9, 0, 5])]);
+        assert_eq!(both(&format!("{waits} 090201")), [Ok(vec![0, 5]), Ok(vec![0, 5])]);
+        assert_eq!(both(&format!("{waits} 000201")), [Err((14, 4)), Err((14, 4))]);
+    }
+
+    #[test]
+    fn a_recheck_keeps_its_turn() {
+        // Thread 3 puts, thread 4 gets before thread 9, which finds nothing; thread 3 puts again.
+        let again = "090200 000200 030301 040201 090200 030301";
+        assert_eq!(both(&format!("{again} 090201")), [Ok(vec![0]), Ok(vec![0])]);
+        assert_eq!(both(&format!("{again} 000201")), [Err((14, 6)), Err((14, 6))]);
+        // Told twice, thread 9 alone has a notice on the table's machine.
+        let twice = "090200 000200 030301 040201 030301 040201 000200";
+        assert_eq!(both(twice), [Ok(vec![9, 0]), Err((14, 6))]);
+    }
+
+    #[test]
+    fn a_due_thread_waits_at_the_back() {
+        let waits = "090200 000001 000100 030301";
+        assert_eq!(both(&format!("{waits} 090201 000001")), [Err((13, 5)), Err((13, 5))]);
+        assert_eq!(both(&format!("{waits} 090201")), [Ok(vec![0]), Ok(vec![0])]);
+        assert_eq!(both(&format!("{waits} 000101")), [Err((14, 4)), Err((14, 4))]);
     }
 }

@@ -13,4 +13,5 @@ pub mod Cases11
 pub mod Points
 pub mod Tries
 pub mod Pairs
+pub mod Queues
 pub mod Numbers

@@ -51,19 +51,7 @@ fn write_point(
     let now = run.plain;
     let told = sets::minus(now, plain);
     if lost.number != 0 {
-        return point::put_point(
-            out,
-            at,
-            values,
-            bytes,
-            holding,
-            now,
-            told,
-            0,
-            0,
-            0,
-            turns,
-        );
+        return point::put_point(out, at, values, bytes, holding, now, told, 0, 0, 0, turns);
     }
     let woken = sets::minus(run.table, table);
     point::put_point(

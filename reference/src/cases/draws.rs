@@ -31,9 +31,9 @@ impl Draws {
         low + self.below(high - low + 1)
     }
 
-    /// One of `low` to `high`, both included.
+    /// One of `low` to `high`, both included; `low` if there is none, as of a bad range.
     pub fn between(&mut self, low: i64, high: i64) -> i64 {
-        low + self.below((high - low + 1) as usize) as i64
+        low + self.below((high - low + 1).max(1) as usize) as i64
     }
 
     /// True this many times in a hundred.

@@ -8,9 +8,11 @@ pub mod words;
 pub mod monitors;
 pub mod tries;
 pub mod pairs;
+pub mod crowds;
 pub mod made;
 pub mod counted;
 pub mod numbered;
+pub mod queued;
 pub mod exact;
 pub mod damage;
 pub mod refused;
@@ -28,7 +30,7 @@ use draws::Draws;
 use exact::{any_limit, exact};
 use monitors::{any_accepted, Accepted};
 use refused::refused;
-use traces::{any_frame, reasons, refused_frames, walk, with_bad_line};
+use traces::{any_frame, reasons, refused_frames, walk, with_bad_line, Walk};
 use words::laid_out_to_fit;
 
 /// How large cases may be.
@@ -206,36 +208,48 @@ fn beside_any_trace(monitor: Vec<u8>, draws: &mut Draws, size: Size) -> Case {
 
 /// The frames of a walk of the table's machine, so that both machines accept.
 fn walked_frames(draws: &mut Draws, size: Size, machines: &Machines) -> Vec<Frame> {
+    any_walk(draws, size, machines).frames
+}
+
+fn any_walk(draws: &mut Draws, size: Size, machines: &Machines) -> Walk {
     let (least, most) = match draws.below(10) {
         0 => (0, 2),
         1..=6 => (3, size.frames.min(20)),
         _ => (3, size.frames),
     };
     let count = draws.count(least, most);
-    walk(draws, machines, Machine::Table, count).frames
+    walk(draws, machines, Machine::Table, count)
 }
 
-/// An accepted walk, preferably one in which a waiter runs its body.
+/// An accepted walk, preferably one in which a waiter runs its body, and in half of the cases
+/// one that runs it before a waiter of a lower number.
 fn walked(draws: &mut Draws, size: Size, monitor: impl Fn(&mut Draws, Size) -> Accepted) -> Case {
+    let is_wanted = if draws.chance(50) { goes_before_a_lower } else { resumes };
     let mut drawn = monitor(draws, size);
-    let mut frames = walked_frames(draws, size, &drawn.machines);
+    let mut walk = any_walk(draws, size, &drawn.machines);
     for _ in 0..20 {
-        if has_resumed(&frames) {
+        if is_wanted(&drawn.machines, &walk) {
             break;
         }
         drawn = monitor(draws, size);
-        frames = walked_frames(draws, size, &drawn.machines);
+        walk = any_walk(draws, size, &drawn.machines);
     }
-    Case { monitor: drawn.file, trace: trace_of(&frames) }
+    Case { monitor: drawn.file, trace: trace_of(&walk.frames) }
 }
 
-/// Whether some thread's frame with 00 is followed by one with 01.
-fn has_resumed(frames: &[Frame]) -> bool {
-    let mut waits = [false; crate::frames::THREADS];
-    frames.iter().any(|frame| {
-        let resumed = frame.flag && waits[frame.thread];
-        waits[frame.thread] = !frame.flag;
-        resumed
+/// Whether some waiter runs its body.
+fn resumes(_: &Machines, walk: &Walk) -> bool {
+    let mut steps = walk.frames.iter().zip(&walk.records);
+    steps.any(|(frame, record)| frame.flag && record.is_waiting(frame.thread))
+}
+
+/// Whether some waiter runs its body while one of a lower number waits on the same guard.
+fn goes_before_a_lower(machines: &Machines, walk: &Walk) -> bool {
+    let mut steps = walk.frames.iter().zip(&walk.records);
+    steps.any(|(frame, record)| {
+        let guard = machines.monitor.regions[frame.region].guard;
+        let waiters = record.waiters(&machines.monitor, guard);
+        frame.flag && waiters.contains(&frame.thread) && waiters.iter().any(|t| t < &frame.thread)
     })
 }
 

@@ -2,6 +2,7 @@
 
 use std::slice::from_ref;
 
+use super::crowds::crowded;
 use super::draws::Draws;
 use super::pairs::{any_touching, set_apart, wide, wide_counts};
 use super::tries::add_tries;
@@ -114,14 +115,15 @@ pub struct Accepted {
 }
 
 pub fn any_accepted(draws: &mut Draws, size: Size) -> Accepted {
-    if draws.chance(25) {
-        let counts = wide_counts(draws, size);
-        return wide(draws, size, &counts);
-    }
-    if size.states == MOST_STATES && draws.chance(25) {
-        return many_states(draws, size);
-    }
-    let counts = Counts::any(draws, size);
+    let counts = match draws.below(100) {
+        0..=24 => {
+            let counts = wide_counts(draws, size);
+            return wide(draws, size, &counts);
+        }
+        25..=49 => return crowded(draws, size),
+        50..=69 if size.states == MOST_STATES => return many_states(draws, size),
+        _ => Counts::any(draws, size),
+    };
     accepted(draws, size, &counts, |_, _| ())
 }
 
@@ -264,8 +266,8 @@ fn any_sketch(draws: &mut Draws, size: Size, counts: &Counts, variables: Vec<Var
     let mut methods: Vec<Method> = Vec::new();
     for number in 0..counts.regions {
         let mut region = match draws.below(10) {
-            0..=3 => matched_region(draws, &variables),
-            4 | 5 => any_touching(draws, &variables),
+            0..=2 => matched_region(draws, &variables),
+            3..=5 => any_touching(draws, &variables),
             _ => Region {
                 guard: any_guard(draws, &variables),
                 body: any_body(draws, &variables, size.statements),
@@ -288,8 +290,8 @@ fn any_sketch(draws: &mut Draws, size: Size, counts: &Counts, variables: Vec<Var
     }
     let mut sketch = Sketch { variables, keep, tries: Vec::new(), methods };
     match draws.below(100) {
-        0..=39 => add_tries(draws, size, &mut sketch),
-        40..=46 => set_apart(draws, &mut sketch),
+        0..=49 => add_tries(draws, size, &mut sketch),
+        50..=63 => set_apart(draws, &mut sketch),
         _ => (),
     }
     sketch

@@ -26,10 +26,10 @@ pub fn walk_from(
     frames: usize,
     mut record: Record,
 ) -> Walk {
-    let threads = any_threads(draws);
+    let way = Way::any(draws);
     let mut walk = Walk { frames: Vec::new(), records: vec![record.clone()] };
     while walk.frames.len() < frames {
-        let Some(frame) = allowed_frame(draws, machines, machine, &record, &threads) else {
+        let Some(frame) = allowed_frame(draws, machines, machine, &record, &way) else {
             break;
         };
         record = machines.step(&record, frame, machine).expect("an allowed frame");
@@ -39,28 +39,54 @@ pub fn walk_from(
     walk
 }
 
-/// Some of the threads, in no order.
-fn any_threads(draws: &mut Draws) -> Vec<usize> {
-    let mut threads: Vec<usize> = (0..THREADS).collect();
-    for place in 0..THREADS {
-        threads.swap(place, draws.below(THREADS));
+/// Who walks, and how a frame is drawn.
+struct Way {
+    threads: Vec<usize>,
+    /// How many shall queue: up to then, to begin waiting is drawn more often. 0 if every kind
+    /// of frame is drawn alike.
+    crowd: usize,
+}
+
+impl Way {
+    /// Half of the walks are of a crowd, which has more threads.
+    fn any(draws: &mut Draws) -> Way {
+        let mut threads: Vec<usize> = (0..THREADS).collect();
+        for place in 0..THREADS {
+            threads.swap(place, draws.below(THREADS));
+        }
+        let is_crowd = draws.chance(50);
+        let count = match is_crowd {
+            true => draws.pick(&[4, 5, 6, 8, 12, THREADS]),
+            false => draws.pick(&[2, 3, 3, 4, 4, 5, 6, THREADS]),
+        };
+        threads.truncate(count);
+        let crowd = if is_crowd { draws.count(2, count - 1) } else { 0 };
+        Way { threads, crowd }
     }
-    let count = draws.pick(&[2, 3, 3, 4, 4, 5, 6, THREADS]);
-    threads.truncate(count);
-    threads
+
+    /// How often each kind of frame is put to the draw: to begin waiting, to run at once, to
+    /// recheck, to resume.
+    fn shares(&self, record: &Record) -> [usize; 4] {
+        let waiting = self.threads.iter().filter(|thread| record.is_waiting(**thread)).count();
+        match self.crowd {
+            0 => [1, 1, 1, 1],
+            crowd if waiting < crowd => [6, 1, 1, 1],
+            _ => [1, 2, 2, 4],
+        }
+    }
 }
 
 /// A frame that the machine allows. First its kind is drawn (a waiter or not, the
-/// guard held or not), so that rechecks come as often as the rest.
+/// guard held or not), so that rechecks come too.
 fn allowed_frame(
     draws: &mut Draws,
     machines: &Machines,
     machine: Machine,
     record: &Record,
-    threads: &[usize],
+    way: &Way,
 ) -> Option<Frame> {
     let mut kinds: [Vec<Frame>; 4] = Default::default();
-    for thread in threads {
+    for thread in &way.threads {
         for region in 0..machines.monitor.regions.len() {
             for flag in [false, true] {
                 let frame = Frame { thread: *thread, region, flag };
@@ -70,12 +96,16 @@ fn allowed_frame(
             }
         }
     }
-    let present: Vec<&Vec<Frame>> = kinds.iter().filter(|kind| !kind.is_empty()).collect();
-    if present.is_empty() {
-        return None;
+    let present: Vec<(&Vec<Frame>, usize)> =
+        kinds.iter().zip(way.shares(record)).filter(|(kind, _)| !kind.is_empty()).collect();
+    let mut left = draws.below(present.iter().map(|(_, share)| share).sum::<usize>().max(1));
+    for (kind, share) in present {
+        if left < share {
+            return Some(draws.pick(kind));
+        }
+        left -= share;
     }
-    let kind = draws.pick(&present);
-    Some(draws.pick(kind))
+    None
 }
 
 fn kind_of(record: &Record, frame: Frame) -> usize {
@@ -95,7 +125,7 @@ pub enum Reason {
     FlagOfOther,
     RecheckWithoutNotice,
     RunWithoutNotice,
-    RunBeforeALower,
+    RunBeforeAnEarlier,
 }
 
 /// The reasons for a number, 13 or 14.
@@ -115,7 +145,7 @@ pub fn reasons(number: u8) -> Vec<Reason> {
             Reason::FlagOfOther,
             Reason::RecheckWithoutNotice,
             Reason::RunWithoutNotice,
-            Reason::RunBeforeALower,
+            Reason::RunBeforeAnEarlier,
         ]
     }
 }
@@ -146,7 +176,7 @@ fn reason(machines: &Machines, record: &Record, frame: Frame, number: u8) -> Rea
             false => Reason::FlagOfOther,
         }
     } else if record.notified[frame.thread] {
-        Reason::RunBeforeALower
+        Reason::RunBeforeAnEarlier
     } else if frame.flag {
         Reason::RunWithoutNotice
     } else {

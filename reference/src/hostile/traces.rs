@@ -49,6 +49,8 @@ enum Kind {
     Lines,
     /// One frame with another thread, region or flag that still makes a frame.
     Fields,
+    /// Threads for one another, or frames with 00 in another order: who came first changes.
+    Order,
     /// One line that is no frame, by little: the thread 10, the flag 02 and the like.
     Edges,
     /// One line that is no frame.
@@ -59,11 +61,12 @@ enum Kind {
     Repeated,
 }
 
-const SHARES: [(Kind, usize); 8] = [
-    (Kind::Whole, 50),
+const SHARES: [(Kind, usize); 9] = [
+    (Kind::Whole, 42),
     (Kind::Bytes, 6),
-    (Kind::Lines, 14),
-    (Kind::Fields, 14),
+    (Kind::Lines, 12),
+    (Kind::Fields, 12),
+    (Kind::Order, 12),
     (Kind::Edges, 4),
     (Kind::BadLine, 3),
     (Kind::Endings, 6),
@@ -143,6 +146,7 @@ fn damaged(draws: &mut Draws, mut trace: Vec<u8>) -> Vec<u8> {
         }
         Kind::Lines => lines(draws, &mut trace),
         Kind::Fields => fields(draws, &mut trace),
+        Kind::Order => order(draws, &mut trace),
         Kind::Edges => edges(draws, &mut trace),
         Kind::BadLine => {
             if let Ok(frames) = frames(&trace) {
@@ -190,6 +194,39 @@ fn fields(draws: &mut Draws, trace: &mut Vec<u8>) {
         }
     }
     *trace = trace_of(&frames);
+}
+
+fn order(draws: &mut Draws, trace: &mut Vec<u8>) {
+    let Ok(mut frames) = frames(trace) else { return };
+    if frames.is_empty() {
+        return;
+    }
+    let [one, other] = [0, 1].map(|_| draws.pick(&frames).thread);
+    let begin = draws.below(frames.len());
+    match draws.below(6) {
+        0..=2 => frames.iter_mut().for_each(|frame| frame.thread = THREADS - 1 - frame.thread),
+        3 => exchange(&mut frames, one, other),
+        4 => exchange(&mut frames[begin..], one, other),
+        _ => {
+            let waits: Vec<usize> = (0..frames.len()).filter(|at| !frames[*at].flag).collect();
+            if waits.len() > 1 {
+                let place = draws.below(waits.len() - 1);
+                frames.swap(waits[place], waits[place + 1]);
+            }
+        }
+    }
+    *trace = trace_of(&frames);
+}
+
+/// Each thread's frames for the other's.
+fn exchange(frames: &mut [Frame], one: usize, other: usize) {
+    for frame in frames {
+        if frame.thread == one {
+            frame.thread = other;
+        } else if frame.thread == other {
+            frame.thread = one;
+        }
+    }
 }
 
 fn edges(draws: &mut Draws, trace: &mut [u8]) {

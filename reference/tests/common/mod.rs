@@ -1,6 +1,8 @@
 //! What the tests share.
 #![allow(dead_code)]
 
+pub mod queues;
+
 use reference::{check, run, Answer, Machine, Record};
 
 pub const BOX: &str = "monitor box { var full = 0 in 0..1; keep true; \

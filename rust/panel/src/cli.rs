@@ -127,8 +127,9 @@ Places the wake-up table of a monitor file: a sentence an
 entry, and a matrix of regions and guards. It says how many
 pairs of these are touched, that is, the body assigns a
 variable that the guard names (no other pair has an entry).
-Of tries it says which are chosen, and why each other one is
-not.
+A signal goes to a guard's first waiter, the one that began
+to wait earliest. Of tries it says which are chosen, and why
+each other one is not.
 
 Usage: panel place FILE [OPTIONS]
 
@@ -145,9 +146,10 @@ Exit status: 0 accepted, 1 refused, 2 an error.
 
 const RUN: &str = "\
 Runs a trace on the plain machine and on the table's, frame
-by frame: the values, who waits where, who is notified (+
-where just told), where the machines part, and what both
-answer.
+by frame: the values, who waits on each guard, who is
+notified (+ where just told), where the machines part, and
+what both answer. Who waits stands in order: the first is
+the one that began to wait earliest, and goes on first.
 
 Usage: panel run FILE TRACE [OPTIONS]
 

@@ -37,6 +37,11 @@ fn places(places: &[Place; 16]) -> String {
     list(places.map(Place::byte))
 }
 
+/// A thread's turn, null where it does not wait.
+fn turns(turn: impl Fn(u8) -> Option<u8>) -> String {
+    list((0..16).map(|thread| turn(thread).map_or_else(|| "null".into(), |turn| turn.to_string())))
+}
+
 fn members(set: u16) -> String {
     list(damsonyet::members(set))
 }
@@ -44,9 +49,10 @@ fn members(set: u16) -> String {
 fn machine(run: &Result<Record, Refusal>) -> String {
     match run {
         Ok(record) => format!(
-            "{{\"answer\":[0,0,0],\"values\":{},\"places\":{},\"notified\":{}}}",
+            "{{\"answer\":[0,0,0],\"values\":{},\"places\":{},\"turns\":{},\"notified\":{}}}",
             list(&record.values),
             places(&record.places),
+            turns(|thread| record.turn(thread)),
             list(&record.notified)
         ),
         Err(refusal) => format!("{{\"answer\":{}}}", answer(&Err(*refusal))),
@@ -59,9 +65,10 @@ fn notices(notices: &Notices) -> String {
 
 fn point(point: &Point, vars: usize) -> String {
     format!(
-        "{{\"values\":{},\"places\":{},\"guards\":{},\"plain\":{},\"table\":{}}}",
+        "{{\"values\":{},\"places\":{},\"turns\":{},\"guards\":{},\"plain\":{},\"table\":{}}}",
         list(&point.values[..vars.min(point.values.len())]),
         places(&point.places),
+        turns(|thread| point.turn(thread)),
         members(point.guards),
         notices(&point.plain),
         point.table.as_ref().map_or_else(|| "null".into(), notices)

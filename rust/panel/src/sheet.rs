@@ -88,7 +88,7 @@ impl<'a> Sheet<'a> {
 
     /// The number of a region's guard.
     pub fn guard_of(&self, r: usize) -> Option<usize> {
-        self.outline.regions.get(r).map(|region| usize::from(region.guard_number))
+        self.outline.guard_of(r)
     }
 
     /// A guard as its first region has it.

@@ -261,18 +261,31 @@ fn listing(out: &mut Out, sheet: &Sheet) -> io::Result<()> {
     Ok(())
 }
 
-/// Who waits where: `00 01 at get, 02 at put`.
+/// Who waits: the line on each guard that has one, the earliest first: `waiting on guard 00: 02 at put; guard 01: 05 00 at get`.
 fn waiting(sheet: &Sheet, point: &Point) -> String {
-    let at = |r: usize| {
-        let here = (0..16u8).filter(|&t| point.places[usize::from(t)] == Place::Waiting(r as u8)).map(pair).collect::<Vec<_>>();
-        (!here.is_empty()).then(|| format!("{} at {}", here.join(" "), sheet.region_name(r)))
+    let on = |g: usize| {
+        let line = point.line(&sheet.outline, g);
+        (!line.is_empty()).then(|| format!("guard{NO_BREAK}{}: {}", pair(g as u8), standing(sheet, point, &line)))
     };
-    let groups: Vec<String> = (0..sheet.outline.regions.len()).filter_map(at).collect();
-    if groups.is_empty() {
-        "none".into()
+    let lines: Vec<String> = (0..sheet.outline.guards).filter_map(on).collect();
+    if lines.is_empty() {
+        "waiting: none".into()
     } else {
-        groups.join(", ")
+        format!("waiting on {}", lines.join("; "))
     }
+}
+
+/// A line with the regions at which it waits: `01 at closed1, 00 03 at open2`.
+fn standing(sheet: &Sheet, point: &Point, line: &[u8]) -> String {
+    let place = |t: &u8| point.places[usize::from(*t)];
+    let group = |group: &[u8]| {
+        let at = match place(&group[0]) {
+            Place::Waiting(r) => sheet.region_name(r.into()),
+            _ => String::new(),
+        };
+        format!("{} at {at}", group.iter().copied().map(pair).collect::<Vec<_>>().join(" "))
+    };
+    line.chunk_by(|a, b| place(a) == place(b)).map(group).collect::<Vec<_>>().join(", ")
 }
 
 fn due(sheet: &Sheet, point: &Point) -> String {
@@ -293,7 +306,7 @@ fn notified(notices: &damsonyet::Notices) -> String {
 /// A point: what both machines share once, and the notices of each where they differ.
 fn point(out: &mut Out, sheet: &Sheet, point: &Point) -> io::Result<()> {
     let state = sheet.state_text(&point.values).replace(" = ", &format!("{NO_BREAK}={NO_BREAK}"));
-    let shared = format!("{state} | waiting: {}{}", waiting(sheet, point), due(sheet, point));
+    let shared = format!("{state} | {}{}", waiting(sheet, point), due(sheet, point));
     let mut line = |who: &str, text: &str| out.text(Style::Plain, &format!("  {who:5}  "), "         ", text);
     match &point.table {
         Some(table) if table.notified == point.plain.notified && table.told == point.plain.told => {

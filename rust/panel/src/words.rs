@@ -51,7 +51,12 @@ pub fn listed(items: &[String]) -> String {
 
 /// `thread 02`, or `threads 00 and 02`.
 pub fn threads(set: u16) -> String {
-    let members: Vec<String> = damsonyet::members(set).into_iter().map(pair).collect();
+    in_order(&damsonyet::members(set))
+}
+
+/// The same of a line, in its order: `threads 05 and 00`.
+pub fn in_order(line: &[u8]) -> String {
+    let members: Vec<String> = line.iter().copied().map(pair).collect();
     format!("thread{} {}", if members.len() == 1 { "" } else { "s" }, listed(&members))
 }
 
@@ -139,8 +144,8 @@ pub fn parts_at(plain: &Result<(), Refusal>, table: &Result<(), Refusal>) -> Opt
 
 /// Why the machines part at a frame, from the point before it.
 pub fn parting(sheet: &Sheet, frame: &Frame, before: &Point) -> String {
-    let others = before.table.map_or(0, |notices| on_guard(sheet, before, frame.region, notices.notified));
-    let only = if others == 0 { String::new() } else { format!("; on this guard it has notified {} only", threads(others)) };
+    let others = before.table.map_or_else(Vec::new, |notices| on_guard(sheet, before, frame.region, notices.notified));
+    let only = if others.is_empty() { String::new() } else { format!("; on this guard it has notified {} only", in_order(&others)) };
     format!(
         "Here the machines part: the table's machine stops, the plain one goes on. The table's machine has not notified thread {}{only}. \
          The recheck is in vain, as {} does not hold: the table spares it.",
@@ -149,14 +154,26 @@ pub fn parting(sheet: &Sheet, frame: &Frame, before: &Point) -> String {
     )
 }
 
-/// Those of a set that wait on a region's guard.
-fn on_guard(sheet: &Sheet, point: &Point, region: u8, set: u16) -> u16 {
-    let guard = sheet.guard_of(region.into());
-    (0..16).filter(|t| set >> t & 1 == 1).filter(|&t| waits_on(sheet, point, t, guard)).map(|t| 1 << t).sum()
+/// Those of a set that wait on a region's guard, the earliest first.
+fn on_guard(sheet: &Sheet, point: &Point, region: u8, set: u16) -> Vec<u8> {
+    let line = sheet.guard_of(region.into()).map_or_else(Vec::new, |guard| point.line(&sheet.outline, guard));
+    line.into_iter().filter(|t| set >> t & 1 == 1).collect()
 }
 
-fn waits_on(sheet: &Sheet, point: &Point, thread: usize, guard: Option<usize>) -> bool {
-    matches!(point.places[thread], Place::Waiting(r) if sheet.guard_of(r.into()) == guard)
+/// What stands before a guard's line in a sentence of the page.
+pub fn line_on(g: usize) -> String {
+    format!(" In line on g{}: ", pair(g as u8))
+}
+
+/// A guard's line where a frame has changed it, which can only be the one on its own region's guard.
+pub fn line_behind(sheet: &Sheet, frame: &Frame, before: &Point, after: Option<&Point>) -> String {
+    let (Some(g), Some(after)) = (sheet.guard_of(frame.region.into()), after) else { return String::new() };
+    let line = after.line(&sheet.outline, g);
+    if line == before.line(&sheet.outline, g) {
+        return String::new();
+    }
+    let line: Vec<String> = line.into_iter().map(pair).collect();
+    format!("{}{}.", line_on(g), if line.is_empty() { "nobody".into() } else { line.join(", ") })
 }
 
 // ---- refusals of a file
@@ -627,6 +644,9 @@ fn not_taken(sheet: &Sheet, frame: &Frame, before: &Point, machine: Machine) -> 
             format!("The flag must be the guard's truth at that moment: {remedy}"),
         );
     }
+    // Who stands ahead of it in the line on its guard, and who of these is notified.
+    let earlier = ahead(sheet, before, frame);
+    let told: Vec<u8> = earlier.iter().copied().filter(|t| notices.notified >> t & 1 == 1).collect();
     if !is_in(notices.notified) {
         if machine == Machine::Table && is_in(before.plain.notified) && !flag {
             return (
@@ -635,10 +655,14 @@ fn not_taken(sheet: &Sheet, frame: &Frame, before: &Point, machine: Machine) -> 
             );
         }
         // The guard holds, so the first waiter on it is notified (demand 3): that one goes on, and not this.
-        if let (true, Some(&first)) = (flag, damsonyet::members(on_guard(sheet, before, r, notices.notified)).first()) {
+        if let (true, Some(first)) = (flag, told.first()) {
             return (
-                format!("thread {} waits and is not notified; thread {} is, on the same guard", pair(thread), pair(first)),
-                format!("A waiter goes on only with a notice: let thread {} run first.", pair(first)),
+                format!(
+                    "thread {} waits and is not notified; thread {} began to wait before it on this guard and is notified",
+                    pair(thread),
+                    pair(*first)
+                ),
+                goes_first(&earlier),
             );
         }
         return (
@@ -646,14 +670,24 @@ fn not_taken(sheet: &Sheet, frame: &Frame, before: &Point, machine: Machine) -> 
             "A waiter looks again only with a notice: leave this frame out, or let a body make its guard true first.".into(),
         );
     }
-    let lower = on_guard(sheet, before, r, notices.notified) & ((1u16 << (thread & 15)) - 1);
-    match damsonyet::members(lower).first() {
-        Some(&first) => (
-            format!("thread {} is notified on the same guard and comes first", pair(first)),
-            format!("The lowest number goes first, whoever came first: let thread {} run before.", pair(first)),
-        ),
-        None => ("the machine does not allow the event".into(), "docs/GUIDE.md has the rules in section 3.".into()),
+    if told.is_empty() {
+        return ("the machine does not allow the event".into(), "docs/GUIDE.md has the rules in section 3.".into());
     }
+    let are = if told.len() == 1 { "is" } else { "are" };
+    (format!("{} began to wait before thread {} on this guard and {are} notified", in_order(&told), pair(thread)), goes_first(&earlier))
+}
+
+/// Those who began to wait on the frame's guard before its thread, the earliest first.
+fn ahead(sheet: &Sheet, before: &Point, frame: &Frame) -> Vec<u8> {
+    let mut line = on_guard(sheet, before, frame.region, u16::MAX);
+    line.truncate(line.iter().position(|&t| t == frame.thread).unwrap_or(0));
+    line
+}
+
+/// Who must run before a waiter may.
+fn goes_first(earlier: &[u8]) -> String {
+    let order = if earlier.len() > 1 { ", in this order" } else { "" };
+    format!("The earliest to begin waiting on a guard goes first: let {} run before{order}.", in_order(earlier))
 }
 
 /// A run's refusal, 11 to 14, on one machine, in words. The points are those of the run; of 11 and 12 there are none.

@@ -333,6 +333,7 @@ fn what_is_drawn_is_what_the_points_say() {
         let both = sum(&|t| begins(ps, notices(t), |has| *has == (true, true)));
         let one = sum(&|t| begins(ps, notices(t), |has| has.0 != has.1));
         assert_eq!((has("waits"), has("due"), has("both"), has("one")), (waits, due, both, one), "{name}");
+        lines_are_drawn(&name, &file, ps, picture);
         let taken = &all[..ps.len() - 1];
         assert_eq!(has("ran"), taken.iter().filter(|frame| frame.flag).count(), "{name}");
         assert_eq!(has("came"), taken.iter().filter(|frame| !frame.flag).count(), "{name}");
@@ -345,6 +346,36 @@ fn what_is_drawn_is_what_the_points_say() {
         assert_eq!(has("alone"), usize::from(points.plain != points.table), "{name}");
     }
     assert!(drawn > 15);
+}
+
+/// The lines: boxes for all who wait on a guard wherever its line or a notice changes, and each change marked.
+fn lines_are_drawn(name: &str, file: &[u8], points: &[Point], picture: &str) {
+    let outline = damsonyet::outline(file).unwrap().0;
+    let [mut groups, mut alone, mut both, mut half, mut joined, mut gone] = [0; 6];
+    for g in 0..outline.guards {
+        let line = |p: &Point| {
+            let has = |set: u16, t: u8| set >> t & 1 == 1;
+            let notices = |t: u8| (t, has(p.plain.notified, t), p.table.is_some_and(|table| has(table.notified, t)));
+            p.line(&outline, g).into_iter().map(notices).collect::<Vec<_>>()
+        };
+        let mut last = Vec::new();
+        for now in points.iter().map(line) {
+            let is_in = |line: &[(u8, bool, bool)], t: u8| line.iter().any(|waiter| waiter.0 == t);
+            if now != last {
+                groups += usize::from(!now.is_empty());
+                both += now.iter().filter(|(_, plain, table)| *plain && *table).count();
+                half += now.iter().filter(|(_, plain, table)| plain != table).count();
+                alone += now.iter().filter(|(_, plain, table)| !(*plain && *table)).count();
+                joined += now.iter().filter(|waiter| !is_in(&last, waiter.0)).count();
+                gone += usize::from(last.first().is_some_and(|front| !is_in(&now, front.0)));
+            }
+            last = now;
+        }
+    }
+    let has = |mark: &str| picture.matches(mark).count();
+    let drawn = ["class=\"stands\"", "class=\"stands told\"", "class=\"half\"", "class=\"joined\"", "class=\"gone\""].map(has);
+    assert_eq!(drawn, [alone, both, half, joined, gone], "{name}");
+    assert_eq!(has("<g role=\"img\" aria-label=\"line on g"), groups, "{name}");
 }
 
 /// The elements of a class in a picture, each as its tag's text and the text behind it.
@@ -412,6 +443,16 @@ fn a_picture_can_be_read_back() {
         let covers =
             |rects: &[[i32; 4]], x: i32, y: i32| rects.iter().any(|[l, t, w, h]| (*l..l + w).contains(&x) && (*t..t + h).contains(&y));
         let (waits, both, one) = (rects("waits"), rects("both"), rects("one"));
+        // The boxes of a line are moved to its place: where each is, and whose it is.
+        let mut boxes: Vec<(i32, i32, u8)> = Vec::new();
+        for line in picture.split("transform=\"translate(").skip(1) {
+            let (to, rest) = line.split_once(")\">").unwrap();
+            let to: Vec<i32> = to.split(' ').map(|n| n.parse().unwrap()).collect();
+            let one =
+                |(tag, text): &(&str, &str)| (to[0] + number(tag, "x"), to[1] + number(tag, "y"), u8::from_str_radix(text, 16).unwrap());
+            boxes.extend(elements(rest.split("</g>").next().unwrap(), "stood").iter().map(one));
+        }
+        let tails: Vec<[i32; 3]> = elements(picture, "tail").iter().map(|(tag, _)| path(tag)).map(|d| [d[0].1, d[1].1, d[2].1]).collect();
         let due: Vec<[i32; 4]> =
             elements(picture, "due").iter().map(|(tag, _)| path(tag)).map(|d| [d[0].1, d[1].1, d[2].1 + 9, 22]).collect();
         let lanes: Vec<(usize, i32)> = elements(names, "name")
@@ -429,6 +470,21 @@ fn a_picture_can_be_read_back() {
                 assert_eq!(covers(&both, x, y), plain && table, "{here}");
                 assert_eq!(covers(&one, x, y - 5), plain && !table, "{here}");
                 assert_eq!(covers(&one, x, y + 5), table && !plain, "{here}");
+            }
+            // Who waits on each guard: the boxes of the last change over its bar, row by row.
+            for (g, (tag, _)) in elements(names, "guards").iter().enumerate() {
+                let bar = number(tag, "y") - 4;
+                let above = if g == 0 { 0 } else { number(elements(names, "guards")[g - 1].0, "y") };
+                let here: Vec<_> = boxes.iter().filter(|(_, top, _)| (above..bar).contains(top)).collect();
+                let tail = tails.iter().find(|[from, at, to]| (above..bar).contains(at) && (*from..*to).contains(&x));
+                let mut shown: Vec<(i32, i32, u8)> = match tail {
+                    None => Vec::new(),
+                    Some([from, _, to]) => here.iter().filter(|b| (*from..*to).contains(&b.0)).map(|b| (b.1, b.0, b.2)).collect(),
+                };
+                assert!(shown.iter().all(|(top, ..)| top + 18 <= bar - 3), "{name}: point {p}, guard {g}: boxes over the bar");
+                shown.sort();
+                let shown: Vec<u8> = shown.into_iter().map(|(_, _, thread)| thread).collect();
+                assert_eq!(shown, point.line(&outline, g), "{name}: point {p}, guard {g}");
             }
             // The guards: a line of pieces beside each that holds anywhere.
             let pieces: Vec<[i32; 3]> = elements(picture, "holds")
@@ -594,14 +650,15 @@ fn crowded() -> Vec<u8> {
 /// So many frames of all sixteen threads on that file, without rechecks, so that both machines take them all.
 fn busy(count: usize) -> Vec<u8> {
     let (mut dice, mut value, mut trace) = (Dice(11), 0, String::new());
-    // A thread's region and whether it waits there; who is notified.
+    // A thread's region and whether it waits there; who is notified; and all who wait, the earliest first.
     let (mut places, mut notified, mut due) = ([None; 16], [false; 16], None);
+    let mut queue: Vec<usize> = Vec::new();
     while trace.len() < 7 * count {
         let thread = due.map_or_else(|| dice.roll(16), |(thread, _)| thread);
         let region = due.map(|(_, region)| region).or(places[thread]).unwrap_or_else(|| 2 * dice.roll(8));
         let holds = NEEDS[region] == value;
         let waiting = due.is_none() && places[thread].is_some();
-        let first = (0..16).find(|&t| places[t] == Some(region) && notified[t]);
+        let first = queue.iter().copied().find(|&t| places[t] == Some(region) && notified[t]);
         let idle = places.iter().filter(|place| place.is_none()).count();
         // Not a waiter that may not go on; and some threads stay idle, so that there is always one that can.
         let may = if waiting { holds && first == Some(thread) } else { holds || idle > 4 || due.is_some() };
@@ -611,6 +668,10 @@ fn busy(count: usize) -> Vec<u8> {
         trace.push_str(&format!("{thread:02X}{region:02X}{:02X}\n", u8::from(holds)));
         (due, notified[thread]) = (None, false);
         places[thread] = (!holds).then_some(region);
+        queue.retain(|&t| t != thread);
+        if !holds {
+            queue.push(thread);
+        }
         if holds {
             value = 1 - value;
             due = (region % 2 == 0).then_some((thread, region + 1));
@@ -657,6 +718,30 @@ fn the_longest_busiest_trace_stays_under_five_megabytes() {
     assert!(html.contains("id=\"f0\"") && html.contains("id=\"f23\"") && html.contains("id=\"f9361\"") && !html.contains("id=\"f24\""));
 }
 
+/// Sixteen threads that take and give one thing in turn: fifteen of them wait in one line, and every frame changes it or its notices.
+#[test]
+fn the_longest_line_stays_under_five_megabytes() {
+    let file = fs::read(examples().join("queue/monitor.txt")).unwrap();
+    let mut trace = String::from("000001\n") + &(1..16).map(|t| format!("{t:02X}0000\n")).collect::<String>();
+    for k in 0.. {
+        let (holder, next) = (k % 16, (k + 1) % 16);
+        trace.push_str(&format!("{holder:02X}0101\n{next:02X}0001\n{holder:02X}0000\n"));
+        if trace.len() >= 7 * 9362 {
+            break;
+        }
+    }
+    let trace = &trace.as_bytes()[..7 * 9362];
+    let points = damsonyet::points(&file, trace, damsonyet::start_state(&file)).unwrap();
+    assert_eq!((points.plain, points.table), (Ok(()), Ok(())), "both machines take all of it");
+    assert_eq!(points.points.iter().map(|point| point.queue().len()).max(), Some(15));
+    let html = made(&file, Some(trace));
+    assert_eq!(flaw(&html), None);
+    assert!(html.len() < 5_000_000, "{} bytes", html.len());
+    // The whole line is drawn behind frame 15 and told there.
+    let line = (1..16).map(|t| format!("{t:02X}")).collect::<Vec<_>>().join(", ");
+    assert!(html.contains(&format!("aria-label=\"line on g00: {line}\"")) && html.contains(&format!(" In line on g00: {line}.</span>")));
+}
+
 #[test]
 fn a_list_has_known_shapes_with_all_their_numbers() {
     let (file, trace) = (crowded(), busy(300));
@@ -665,7 +750,7 @@ fn a_list_has_known_shapes_with_all_their_numbers() {
     for line in unpacked(&html).lines().filter(|line| !line.is_empty()) {
         let given: Vec<&str> = line.split('\t').collect();
         let (_, text) = shapes.iter().find(|(letter, _)| *letter == given[0]).unwrap_or_else(|| panic!("no shape: {line}"));
-        let asked = text.split('$').skip(1).map(|part| part[..1].parse::<usize>().unwrap() + 1).max().unwrap();
+        let asked = text.split('$').skip(1).map(|part| part[..1].parse::<usize>().unwrap() + 1).max().unwrap_or(0);
         assert!(asked < given.len(), "{line}: {text}");
     }
 }

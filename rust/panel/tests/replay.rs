@@ -40,7 +40,25 @@ fn set(members: &Json) -> [u8; 2] {
     members.numbers().iter().fold(0u16, |set, member| set | 1 << member).to_le_bytes()
 }
 
-/// The 33 bytes of a point.
+/// The bytes of a point.
+const POINT: usize = 49;
+
+/// The turns of a record or a point as bytes: null stands exactly where a thread does not wait.
+fn turns(object: &Json) -> Vec<u8> {
+    let places = object.at("places").numbers();
+    let turns = object.at("turns").list();
+    assert_eq!((places.len(), turns.len()), (16, 16));
+    let turn = |(turn, place): (&Json, &i64)| {
+        assert_eq!(*turn == Json::Null, *place >= 16, "{object:?}");
+        if *turn == Json::Null {
+            0
+        } else {
+            turn.number() as u8
+        }
+    };
+    turns.iter().zip(&places).map(turn).collect()
+}
+
 fn point(point: &Json) -> Vec<u8> {
     let mut bytes = [128; 6].to_vec();
     for (slot, value) in bytes.iter_mut().zip(point.at("values").numbers()) {
@@ -60,7 +78,8 @@ fn point(point: &Json) -> Vec<u8> {
             notices(&mut bytes, table);
         }
     }
-    assert_eq!(bytes.len(), 33);
+    bytes.extend(turns(point));
+    assert_eq!(bytes.len(), POINT);
     bytes
 }
 
@@ -70,16 +89,21 @@ fn checksum(bytes: &[u8]) -> u32 {
 
 /// The five lines about points, whose buffers hold A5 before: see tools/gate/src/replay_data.rs.
 fn points_lines(run: &Json, trace: usize) -> String {
-    let needed = 33 * (trace / 7 + 1);
+    let needed = POINT * (trace / 7 + 1);
     let count_line = |count: usize, buffer: &[u8]| format!("00{count:04X}{:04X}\n", checksum(buffer));
     let short = count_line(0, &vec![0xA5; needed - 1]);
     if !is_accepted(run) {
         let answer = answer_line(run.at("answer"));
-        return format!("{answer}{answer}{}{answer}{short}", count_line(0, &vec![0xA5; needed + 33]));
+        return format!("{answer}{answer}{}{answer}{short}", count_line(0, &vec![0xA5; needed + POINT]));
     }
     let points = run.at("points").list();
+    for machine in [run.at("plain"), run.at("table")] {
+        if is_accepted(machine) {
+            assert_eq!(turns(machine), turns(points.last().expect("a point")));
+        }
+    }
     let mut buffer: Vec<u8> = points.iter().flat_map(point).collect();
-    buffer.resize(needed + 33, 0xA5);
+    buffer.resize(needed + POINT, 0xA5);
     let answers = [run.at("plain"), run.at("table")].map(|machine| answer_line(machine.at("answer"))).concat();
     format!("{answers}{}0A00000000\n{short}", count_line(points.len(), &buffer))
 }

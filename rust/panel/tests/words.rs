@@ -171,9 +171,17 @@ fn slips_in_traces() {
             assert!(told[0].contains(said), "{trace}: {told:?}");
             assert_eq!(told[0], told[1]);
         }
-        let told = reasons(BOX, b"010100\n000100\n020001\n010101\n", None);
-        assert!(told[0].contains("Thread 00 is notified on the same guard and comes first"), "{told:?}");
-        assert!(told[1].contains("Thread 01 waits and is not notified; thread 00 is, on the same guard"), "{told:?}");
+        // Who stands ahead is named, the earliest first.
+        let told = reasons(BOX, b"010100\n000100\n020001\n000101\n", None);
+        assert!(told[0].starts_with("Thread 01 began to wait before thread 00 on this guard and is notified."), "{told:?}");
+        let both = "Thread 00 waits and is not notified; thread 01 began to wait before it on this guard and is notified.";
+        assert!(told[1].starts_with(both), "{told:?}");
+        assert!(told.iter().all(|told| told.ends_with("goes first: let thread 01 run before.")), "{told:?}");
+        assert_eq!(reasons(BOX, b"010100\n000100\n020001\n010101\n", None), [String::new(), String::new()]);
+        let told = reasons(BOX, b"0A0100\n000100\n050100\n020001\n050101\n", None);
+        assert!(told[0].starts_with("Threads 0A and 00 began to wait before thread 05 on this guard and are notified."), "{told:?}");
+        assert!(told[1].contains("; thread 0A began to wait before it on this guard and is notified."), "{told:?}");
+        assert!(told.iter().all(|told| told.ends_with("let threads 0A and 00 run before, in this order.")), "{told:?}");
         let told = reasons(BOX, b"000100\n010100\n020001\n030101\n010100\n", None);
         assert!(told[0].is_empty() && told[1].contains("the plain machine has notified it. Nothing is wrong"), "{told:?}");
         assert!(reasons(BOX, b"", Some(2))[0].contains("There is no state 2: the states are 0 to 1"));

@@ -1,6 +1,6 @@
 //! Makes what the program `replay` is run on: the bench examples of document 01, the second
-//! program's cases for tries, for touched pairs and for states' numbers, made by hand, its drawn
-//! cases, and hostile input.
+//! program's cases for tries, for touched pairs, for states' numbers and for the order of waiters,
+//! made by hand, its drawn cases, and hostile input.
 //!
 //! TO/data/cases.bin has for each case the lengths of a monitor file and a trace, four bytes each,
 //! the lowest first, then both; TO/stdout what the second program prints for each as placer, then
@@ -8,9 +8,9 @@
 //! tries, and then one about touched pairs.
 //!
 //! `points` is called twice, from the start values' state (from state 0 where the file is refused),
-//! with a buffer of bytes A5. Where N is 33 * (length of the trace / 7 + 1):
+//! with a buffer of bytes A5. Where N is 49 * (length of the trace / 7 + 1):
 //!
-//! - with N + 33 bytes: the plain machine's answer; the table's; 00, the count of points (four
+//! - with N + 49 bytes: the plain machine's answer; the table's; 00, the count of points (four
 //!   digits) and a checksum of the whole buffer afterwards (four digits);
 //! - with N - 1 bytes: the plain machine's answer; 00, the count and the checksum again.
 //!
@@ -63,7 +63,7 @@ pub fn replay_data(root: &Path, arguments: &[&str]) -> io::Result<bool> {
     let to = given.get(3).map_or(root.join("crates/replay"), PathBuf::from);
     clean_up_first();
     let second = Second::built(root)?;
-    let made = Made::by(&second, or(0, "31"), or(1, "300"), or(2, "510"))?;
+    let made = Made::by(&second, or(0, "31"), or(1, "300"), or(2, "430"))?;
     for (name, bytes) in [("data/cases.bin", &made.data), ("stdout", &made.told)] {
         let path = to.join(name);
         if !is_check {
@@ -87,23 +87,24 @@ struct Made {
 }
 
 impl Made {
-    /// From the bench examples, the cases for tries, for pairs and for numbers and so many drawn ones, or none of them
-    /// if there are to be 0, and from the first hostile inputs.
+    /// From the bench examples, the cases made by hand and so many drawn ones, or none of them if
+    /// there are to be 0, and from the first hostile inputs.
     fn by(second: &Second, seed: &str, count: &str, hostile: &str) -> io::Result<Made> {
         let scratch = Scratch::new()?;
-        let [bench, tries, pairs, numbers, drawn, damaged] =
-            ["bench", "tries", "pairs", "numbers", "cases", "hostile"]
+        let [bench, tries, pairs, numbers, queues, drawn, damaged] =
+            ["bench", "tries", "pairs", "numbers", "queues", "cases", "hostile"]
                 .map(|name| scratch.at.join(name));
         if count != "0" {
             write_bench(second, &bench)?;
             told(second, "tries-cases", &tries)?;
             told(second, "pairs-cases", &pairs)?;
             told(second, "numbers-cases", &numbers)?;
+            told(second, "queue-cases", &queues)?;
         }
         second.write("cases", seed, count, &drawn)?;
         second.write("hostile-cases", seed, hostile, &damaged)?;
         let mut cases = Vec::new();
-        for directory in [&bench, &tries, &pairs, &numbers, &drawn] {
+        for directory in [&bench, &tries, &pairs, &numbers, &queues, &drawn] {
             cases.extend(children(directory)?);
         }
         cases.extend(few_long(&damaged)?);

@@ -165,6 +165,8 @@ struct Run {
     values: Values,
     places: [Place; THREADS],
     notified: [bool; THREADS],
+    /// The waiting threads, the earliest to begin first.
+    queue: Vec<usize>,
 }
 
 fn run(
@@ -177,6 +179,7 @@ fn run(
         values: monitor.start_values(),
         places: [Place::Idle; THREADS],
         notified: [false; THREADS],
+        queue: Vec::new(),
     };
     let trace = &trace[..trace.len().min(MOST_TRACE_BYTES)];
     for (index, frame) in frames(trace)?.into_iter().enumerate() {
@@ -219,11 +222,15 @@ impl Run {
             }
         }
         if !frame.flag {
+            if !waits {
+                self.queue.push(thread);
+            }
             self.notified[thread] = false;
             self.places[thread] = Place::Waiting(frame.region);
             return Ok(());
         }
         monitor.run(&region.body, &mut self.values);
+        self.queue.retain(|waiter| *waiter != thread);
         self.notified[thread] = false;
         self.places[thread] =
             if region.is_last { Place::Idle } else { Place::Due(frame.region + 1) };
@@ -234,13 +241,13 @@ impl Run {
         Ok(())
     }
 
-    /// The threads that wait on a guard, lowest first.
+    /// The threads that wait on a guard, the earliest first.
     fn waiters(&self, monitor: &Monitor, guard: usize) -> Vec<usize> {
         let waits = |place| match place {
             Place::Waiting(region) => monitor.regions[usize::from(region)].guard == guard,
             _ => false,
         };
-        (0..THREADS).filter(|thread| waits(self.places[*thread])).collect()
+        self.queue.iter().copied().filter(|thread| waits(self.places[*thread])).collect()
     }
 
     fn notify_all(&mut self, monitor: &Monitor) {

@@ -25,9 +25,11 @@ fn main() -> io::Result<()> {
     write(directory, "wide", &wide_file([4; 6]), MOST_FRAMES)?;
     write(directory, "wide-odd", &wide_file([5, 4, 5, 3, 3, 4]), MOST_FRAMES)?;
     write(directory, "longest", LONGEST, MOST_FRAMES)?;
+    write_drawn(directory, "queue", QUEUE, MOST_FRAMES, queueing)?;
     for eighths in 0..=8 {
         let frames = MOST_FRAMES * eighths / 8;
         write(directory, &format!("frames-{frames:04}"), LONGEST, frames)?;
+        write_drawn(directory, &format!("queue-frames-{frames:04}"), QUEUE, frames, queueing)?;
     }
     for power in 0..=MOST_STATES.ilog2() {
         let states = 1 << power;
@@ -37,12 +39,22 @@ fn main() -> io::Result<()> {
 }
 
 fn write(directory: &Path, name: &str, file: &str, frames: usize) -> io::Result<()> {
+    write_drawn(directory, name, file, frames, crowding)
+}
+
+fn write_drawn(
+    directory: &Path,
+    name: &str,
+    file: &str,
+    frames: usize,
+    weight: Weight,
+) -> io::Result<()> {
     let refused = |refusal| io::Error::other(format!("{name}: {refusal:?}"));
     let checked = check(file.as_bytes()).map_err(refused)?;
     let directory = directory.join(name);
     fs::create_dir_all(&directory)?;
     fs::write(directory.join("monitor.txt"), file)?;
-    fs::write(directory.join("trace.txt"), trace(&checked, frames))
+    fs::write(directory.join("trace.txt"), trace(&checked, frames, weight))
 }
 
 /// The worst file: 1,024 tokens, 4,096 states, 16 regions, 16 guards, and a table
@@ -206,8 +218,23 @@ const LONGEST: &str = "monitor longest {
 }
 ";
 
+/// Two guards, each asked at three regions. A thread that puts and wants to put again is due and
+/// waits, at the back; so does one that gets.
+const QUEUE: &str = "monitor queue {
+  var full = 0 in 0..1;
+  keep true;
+  method put { waituntil (full == 0) { full := 1; } }
+  method get { waituntil (full == 1) { full := 0; } }
+  method refill { waituntil (full == 0) { full := 1; } waituntil (full == 0) { full := 1; } }
+  method drain { waituntil (full == 1) { full := 0; } waituntil (full == 1) { full := 0; } }
+}
+";
+
+/// How often a frame is put to the draw.
+type Weight = fn(&Checked, &Run, Frame) -> usize;
+
 /// Frames that both machines take, drawn so that many threads wait.
-fn trace(checked: &Checked, count: usize) -> String {
+fn trace(checked: &Checked, count: usize, weight: Weight) -> String {
     let machines = Machines::new(checked, &place(checked).entries);
     let mut plain = machines.start();
     let mut table = machines.start();
@@ -237,9 +264,9 @@ fn all_frames(checked: &Checked) -> impl Iterator<Item = Frame> {
     pairs.flat_map(|(thread, region)| [false, true].map(|flag| Frame { thread, region, flag }))
 }
 
-/// How often a frame is put to the draw. While only two threads are idle, these
-/// run methods of one region alone, so that someone can always move.
-fn weight(checked: &Checked, run: &Run, frame: Frame) -> usize {
+/// While only two threads are idle, these run methods of one region alone, so that
+/// someone can always move.
+fn crowding(checked: &Checked, run: &Run, frame: Frame) -> usize {
     let idle = run.places.iter().filter(|place| **place == Place::Idle).count();
     let is_last = checked.monitor.regions[usize::from(frame.region)].is_last;
     match (run.places[usize::from(frame.thread)], frame.flag) {
@@ -248,6 +275,28 @@ fn weight(checked: &Checked, run: &Run, frame: Frame) -> usize {
         (Place::Waiting(_), true) => 16,
         (Place::Idle, true) if idle > 2 || is_last => 1,
         (Place::Idle, false) if idle > 2 => 4,
+        (Place::Idle, _) => 0,
+    }
+}
+
+/// An idle thread seldom runs at once, and waits where no more wait than elsewhere: most
+/// frames begin to wait or resume. Two threads stay idle, so that someone can always move.
+fn queueing(checked: &Checked, run: &Run, frame: Frame) -> usize {
+    let regions = &checked.monitor.regions;
+    let region = &regions[usize::from(frame.region)];
+    let waits = |place: &&Place| matches!(place, Place::Waiting(_));
+    let waits_here = |place: &&Place| match place {
+        Place::Waiting(at) => regions[usize::from(*at)].guard == region.guard,
+        _ => false,
+    };
+    let [all, here] =
+        [run.places.iter().filter(waits).count(), run.places.iter().filter(waits_here).count()];
+    match (run.places[usize::from(frame.thread)], frame.flag) {
+        (Place::Due(_), _) => 1,
+        (Place::Waiting(_), false) => 1,
+        (Place::Waiting(_), true) => 64,
+        (Place::Idle, true) if region.is_last => 1,
+        (Place::Idle, false) if all < THREADS - 2 && 2 * here <= all => 16,
         (Place::Idle, _) => 0,
     }
 }

@@ -1,4 +1,4 @@
-//! The picture of a run: frames to the right; the numbers, the guards that hold and the threads below each other.
+//! The picture of a run: frames to the right; the numbers, the guards with who waits on each, and the threads below each other.
 //!
 //! A picture is made in two steps. Here a window of frames becomes a list: a line a shape, with the shape's letter and its numbers. `draw` then
 //! puts each line's numbers into the text of its shape. The page's script does the second step alone, with the same texts, for the windows
@@ -28,6 +28,10 @@ const VARIABLE: usize = 38;
 const GUARD: usize = 16;
 const LANE: usize = 36;
 const FOOT: usize = 6;
+/// A box of a guard's line, its width and its height; and how far behind its frame a line begins.
+const BOX: usize = 14;
+const HIGH: usize = 18;
+const INSET: usize = 4;
 
 /// A shape's letter, and its SVG text; `$0`, `$1`, .. stand for what a line gives.
 const SHAPES: &[(char, &str)] = &[
@@ -37,6 +41,20 @@ const SHAPES: &[(char, &str)] = &[
     ('v', r#"<path class="value" d="$0"/>"#),
     ('n', r#"<text class="digit" x="$0" y="$1">$2</text>"#),
     ('g', r#"<path class="holds" d="$0"/>"#),
+    ('h', r#"<path class="tail" d="M$1 $2H$3"/><g role="img" aria-label="$0" transform="translate($4 $5)">"#),
+    ('u', r#"<path class="stands" d="M$0 $1h14v18h-14z"/><text class="stood" x="$0" y="$1" dx="7" dy="12">$2</text>"#),
+    ('t', r#"<path class="stands told" d="M$0 $1h14v18h-14z"/><text class="stood" x="$0" y="$1" dx="7" dy="12">$2</text>"#),
+    (
+        'i',
+        r#"<path class="stands" d="M$0 $1h14v18h-14z"/><path class="half" d="M$0 $1h14v4h-14z"/><text class="stood" x="$0" y="$1" dx="7" dy="12">$2</text>"#,
+    ),
+    (
+        'j',
+        r#"<path class="stands" d="M$0 $1h14v18h-14z"/><path class="half" d="M$0 $1m0 14h14v4h-14z"/><text class="stood" x="$0" y="$1" dx="7" dy="12">$2</text>"#,
+    ),
+    ('J', r#"<path class="joined" d="M$0 $1h14v18h-14z"/>"#),
+    ('L', r#"<path class="gone" d="M$0 $1m0 2l-6 7l6 7z"/>"#),
+    ('e', "</g>"),
     ('w', r#"<rect class="waits" x="$0" y="$1" width="$2" height="22" rx="3"/>"#),
     ('b', r#"<rect class="both" x="$0" y="$1" width="$2" height="16"/>"#),
     ('p', r#"<rect class="one" x="$0" y="$1" width="$2" height="9"/><text class="who" x="$3" y="$4">$5</text>"#),
@@ -122,6 +140,28 @@ pub struct Run<'a> {
     pub alone: Option<usize>,
     /// The width of a frame.
     pub step: usize,
+    /// How many wait on each guard, where most do.
+    pub longest: Vec<usize>,
+}
+
+/// A waiter in a line, and whether it is notified in the plain machine and in the table's.
+#[derive(PartialEq)]
+struct Waiter {
+    thread: u8,
+    plain: bool,
+    table: bool,
+}
+
+/// How many wait on each guard of a file, at the point where most do.
+pub fn longest(sheet: &Sheet, points: &[Point]) -> Vec<usize> {
+    let mut most = vec![0; sheet.outline.guards];
+    for point in points {
+        for (g, most) in most.iter_mut().enumerate() {
+            let waits = |place: &&Place| matches!(place, Place::Waiting(region) if sheet.guard_of((*region).into()) == Some(g));
+            *most = (*most).max(point.places.iter().filter(waits).count());
+        }
+    }
+    most
 }
 
 /// The width of a frame in the pictures of so many.
@@ -155,7 +195,8 @@ impl Run<'_> {
             " in the table's.",
         ];
         let fixed = fixed.iter().map(|phrase| phrase.to_string());
-        let mut all: Vec<String> = guards.chain(regions).chain(values).chain(fixed).map(|phrase| escape(&phrase)).collect();
+        let lines = (0..outline.guards).flat_map(|g| [words::line_on(g), line_on(g)]);
+        let mut all: Vec<String> = guards.chain(regions).chain(values).chain(lines).chain(fixed).map(|phrase| escape(&phrase)).collect();
         // A character of the range is three bytes.
         all.retain(|phrase| phrase.len() > 3);
         all.sort_by_key(|phrase| std::cmp::Reverse(phrase.len()));
@@ -180,8 +221,33 @@ impl Run<'_> {
         FLAG + HEAD + GROUP + self.sheet.outline.variables.len() * VARIABLE
     }
 
+    /// Whether anybody ever waits.
+    pub fn has_lines(&self) -> bool {
+        self.longest.iter().any(|&most| most > 0)
+    }
+
+    /// How many boxes of a line stand side by side: as many as a frame has room for.
+    fn side_by_side(&self) -> usize {
+        (self.step - INSET - 2) / BOX
+    }
+
+    /// The height of the boxes over a guard; none where nobody ever waits on it.
+    fn boxes(&self, g: usize) -> usize {
+        self.longest[g].div_ceil(self.side_by_side()) * HIGH
+    }
+
+    /// Where a guard begins: its boxes, and below them its bar.
+    fn guard_top(&self, g: usize) -> usize {
+        self.guards_top() + GROUP + g * GUARD + (0..g).map(|before| self.boxes(before)).sum::<usize>()
+    }
+
+    /// The middle of a guard's bar.
+    fn bar(&self, g: usize) -> usize {
+        self.guard_top(g) + self.boxes(g) + GUARD / 2
+    }
+
     fn threads_top(&self) -> usize {
-        self.guards_top() + GROUP + self.sheet.outline.guards * GUARD
+        self.guard_top(self.sheet.outline.guards)
     }
 
     /// The middle of a lane.
@@ -194,8 +260,10 @@ impl Run<'_> {
     }
 
     pub fn width(&self, frames: &Range<usize>) -> usize {
+        // Behind the last frame a line has as much room as behind any other.
+        let behind = if self.has_lines() { (self.step / 2).max(EDGE) } else { EDGE };
         // A flag has room in every picture.
-        (2 * EDGE + frames.len() * self.step).max(300)
+        (EDGE + frames.len() * self.step + behind).max(300)
     }
 
     /// The names at the left.
@@ -217,10 +285,11 @@ impl Run<'_> {
                 text("bound", NAMES - 8, y, &bound, &bound);
             }
         }
-        text("group", 0, self.guards_top() + 16, "guards that hold", "guards that hold");
+        let guards = if self.has_lines() { "guards, and who waits" } else { "guards that hold" };
+        text("group", 0, self.guards_top() + 16, guards, guards);
         for g in 0..outline.guards {
             let full = format!("g{} {}", pair(g as u8), self.sheet.guard_text(g));
-            text("guards", 0, self.guards_top() + GROUP + g * GUARD + 12, &shortened(&full, 22), &full);
+            text("guards", 0, self.bar(g) + 4, &shortened(&full, 22), &full);
         }
         text("group", 0, self.threads_top() + 16, "threads", "threads");
         for (k, &thread) in self.threads.iter().enumerate() {
@@ -250,6 +319,9 @@ impl Run<'_> {
         }
         self.variables(&mut list, &window);
         self.guards(&mut list, &window);
+        for g in (0..self.sheet.outline.guards).filter(|&g| self.longest[g] > 0) {
+            self.line(&mut list, &window, g);
+        }
         for (k, &thread) in self.threads.iter().enumerate() {
             self.lane_of(&mut list, &window, k, thread);
         }
@@ -289,13 +361,56 @@ impl Run<'_> {
 
     fn guards(&self, list: &mut List, window: &Window) {
         for g in 0..self.sheet.outline.guards {
-            let y = self.guards_top() + GROUP + g * GUARD + 8;
+            let y = self.bar(g);
             list.add('l', &[&y, &window.width]);
             let spans = runs(window, |p| self.points[p].guards >> g & 1 == 1);
             let path: String = spans.iter().filter(|(holds, _)| *holds).map(|(_, run)| format!("M{} {y}H{}", run.start, run.end)).collect();
             if !path.is_empty() {
                 list.add('g', &[&path]);
             }
+        }
+    }
+
+    /// The line on a guard at a point, the earliest first.
+    fn waiters(&self, p: usize, g: usize) -> Vec<Waiter> {
+        let point = &self.points[p];
+        let has = |set: u16, thread: u8| set >> thread & 1 == 1;
+        let waiter = |thread: u8| Waiter {
+            thread,
+            plain: has(point.plain.notified, thread),
+            table: point.table.is_some_and(|table| has(table.notified, thread)),
+        };
+        point.line(&self.sheet.outline, g).into_iter().map(waiter).collect()
+    }
+
+    /// A guard's line: boxes wherever it or its notices change, the front at the left, and a tail as long as neither does. Who has just come
+    /// is marked, and that the front has gone.
+    fn line(&self, list: &mut List, window: &Window, g: usize) {
+        let top = self.guard_top(g);
+        let mut before: Option<Vec<Waiter>> = None;
+        for (line, run) in runs(window, |p| self.waiters(p, g)) {
+            let is_in = |line: &[Waiter], thread: u8| line.iter().any(|waiter| waiter.thread == thread);
+            if before.as_ref().and_then(|before| before.first()).is_some_and(|front| !is_in(&line, front.thread)) {
+                list.add('L', &[&(run.start + INSET - 1), &top]);
+            }
+            if !line.is_empty() {
+                list.add('h', &[&label(g, &line), &run.start, &(top + HIGH / 2), &run.end, &(run.start + INSET), &top]);
+                for (k, waiter) in line.iter().enumerate() {
+                    let (x, y) = (k % self.side_by_side() * BOX, k / self.side_by_side() * HIGH);
+                    let letter = match (waiter.plain, waiter.table) {
+                        (false, false) => 'u',
+                        (true, true) => 't',
+                        (true, false) => 'i',
+                        (false, true) => 'j',
+                    };
+                    list.add(letter, &[&x, &y, &pair(waiter.thread)]);
+                    if before.as_ref().is_some_and(|before| !is_in(before, waiter.thread)) {
+                        list.add('J', &[&x, &y]);
+                    }
+                }
+                list.add('e', &[]);
+            }
+            before = Some(line);
         }
     }
 
@@ -380,6 +495,15 @@ impl Run<'_> {
         };
         list.add(letter, &[&x, &y, &(y + 4), &pair(frame.region)]);
     }
+}
+
+fn line_on(g: usize) -> String {
+    format!("line on g{}: ", pair(g as u8))
+}
+
+/// A line in words; whom a frame notifies its sentence says.
+fn label(g: usize, line: &[Waiter]) -> String {
+    line_on(g) + &line.iter().map(|waiter| pair(waiter.thread)).collect::<Vec<_>>().join(", ")
 }
 
 /// A name cut to so many characters.

@@ -1,5 +1,5 @@
 //! A trace's run on both machines: the picture in windows, the frames' sentences, and the answers.
-use super::picture::{draw, packed, sentences, shapes, step, Run, NAMES, WINDOW};
+use super::picture::{draw, longest, packed, sentences, shapes, step, Run, NAMES, WINDOW};
 use super::text::{bytes, escape};
 use super::{refused_html, sentence, short, Refused};
 use crate::frames::{self, Frame};
@@ -118,7 +118,8 @@ fn prepare<'a>(sheet: &'a Sheet<'a>, frames: &'a [Frame], points: &'a Points, wh
     let says = (0..drawn)
         .map(|k| {
             let after = points.points.get(k + 1);
-            escape(&(words::frame(sheet, &frames[k], &points.points[k], after) + &told(after)))
+            let (frame, before) = (&frames[k], &points.points[k]);
+            escape(&(words::frame(sheet, frame, before, after) + &words::line_behind(sheet, frame, before, after) + &told(after)))
         })
         .collect();
     let threads = (0..16).filter(|t| frames[..drawn].iter().any(|frame| frame.thread == *t)).collect();
@@ -136,7 +137,8 @@ fn prepare<'a>(sheet: &'a Sheet<'a>, frames: &'a [Frame], points: &'a Points, wh
         };
         marked.push((refusal.first, format!("{flag}, {}", refusal.number), format!("<em>{note} {}. {}</em>", refusal.number, escape(why))));
     }
-    Run { sheet, frames, says, points: &points.points, threads, marked, alone: parts, step: step(drawn) }
+    let longest = longest(sheet, &points.points[..points.points.len().min(drawn + 1)]);
+    Run { sheet, frames, says, points: &points.points, threads, marked, alone: parts, step: step(drawn), longest }
 }
 
 fn summary(frames: &[Frame], points: &Points) -> String {
@@ -186,7 +188,8 @@ fn window(run: &Run, k: usize, list: Option<&str>) -> String {
          <svg class=\"names\" viewBox=\"0 0 {NAMES} {height}\" width=\"{NAMES}\" height=\"{height}\" style=\"--w:{NAMES}\" aria-hidden=\"true\">{}</svg>\n\
          <svg class=\"lanes\" viewBox=\"0 0 {width} {height}\" width=\"{width}\" height=\"{height}\" style=\"--w:{width}\" role=\"group\" \
          aria-labelledby=\"{id}-t {id}-d\"><title id=\"{id}-t\">{heading} of the run</title><desc id=\"{id}-d\">The numbers as steps, the guards that \
-         hold, and a lane for each thread: where it waits, by whom it is notified, and its frames. The list below says the same.</desc>\
+         hold with those who wait on each in order, and a lane for each thread: where it waits, by whom it is notified, and its frames. The list \
+         below says the same.</desc>\
          <g class=\"drawn\">{}</g></svg>\n</div>\n<p class=\"now\" aria-hidden=\"true\" hidden>{HINT}</p>\n<ol class=\"frames\" start=\"{}\">\n{}</ol>\n</section>\n",
         NAMES + width,
         run.names(),
@@ -216,7 +219,17 @@ const KEY: &str = "<ul class=\"small key\">\n\
 <li><svg viewBox=\"0 0 40 24\" width=\"40\" height=\"24\" aria-hidden=\"true\"><path class=\"tells\" d=\"M10 1V22m-4 -5l4 5l4 -5\"/>\
 <path class=\"tells some\" d=\"M30 1V22\"/><path class=\"tells\" d=\"M30 22m-4 -5l4 5l4 -5\"/></svg> a notice in both machines; broken: in one only</li>\n\
 <li><svg viewBox=\"0 0 40 24\" width=\"40\" height=\"24\" aria-hidden=\"true\"><path class=\"rule\" d=\"M0 12H40\"/>\
-<path class=\"cross\" d=\"M20 12m-7 -7l14 14m0 -14l-14 14\"/></svg> a refused frame; a thin line: idle</li>\n</ul>\n";
+<path class=\"cross\" d=\"M20 12m-7 -7l14 14m0 -14l-14 14\"/></svg> a refused frame; a thin line: idle</li>\n";
+
+/// What a guard's line means, where anybody waits.
+const LINES: &str = "<li><svg viewBox=\"0 0 40 24\" width=\"40\" height=\"24\" aria-hidden=\"true\"><path class=\"tail\" d=\"M2 12H40\"/>\
+<path class=\"stands told\" d=\"M2 3h14v18h-14z\"/><text class=\"stood\" x=\"9\" y=\"15\">05</text>\
+<path class=\"stands\" d=\"M16 3h14v18h-14z\"/><path class=\"half\" d=\"M16 3h14v4h-14z\"/><text class=\"stood\" x=\"23\" y=\"15\">00</text></svg> \
+a guard's line: who waits on it, the earliest at the left</li>\n\
+<li><svg viewBox=\"0 0 40 24\" width=\"40\" height=\"24\" aria-hidden=\"true\"><path class=\"gone\" d=\"M8 5l-6 7l6 7z\"/>\
+<path class=\"stands\" d=\"M9 3h14v18h-14z\"/><text class=\"stood\" x=\"16\" y=\"15\">00</text><path class=\"stands\" d=\"M23 3h14v18h-14z\"/>\
+<text class=\"stood\" x=\"30\" y=\"15\">01</text><path class=\"joined\" d=\"M23 3h14v18h-14z\"/></svg> \
+its front has just gone; outlined: has just come</li>\n";
 
 fn picture(run: &Run, sheet: &Sheet, begin: usize) -> String {
     let values: Vec<i16> = run.points.first().map_or_else(Vec::new, |point| point.values.to_vec());
@@ -235,6 +248,8 @@ fn picture(run: &Run, sheet: &Sheet, begin: usize) -> String {
         out.push_str(&format!("<p>Shown are the first {}.</p>\n", some(MOST, "frame")));
     }
     out.push_str(KEY);
+    out.push_str(if run.has_lines() { LINES } else { "" });
+    out.push_str("</ul>\n");
     let marked = |k: usize| run.marked.iter().any(|(frame, ..)| frame / WINDOW == k);
     let fixed = |k: usize| count <= WHOLE || k == 0 || k == count - 1 || marked(k);
     if count > WHOLE {
@@ -297,6 +312,15 @@ fn places(sheet: &Sheet, point: &Point) -> String {
     }
 }
 
+/// Who waits on each guard at a point, the earliest first; nothing where nobody waits.
+fn lines(sheet: &Sheet, point: &Point) -> String {
+    let on = |g: usize| {
+        let line: Vec<String> = point.line(&sheet.outline, g).into_iter().map(pair).collect();
+        (!line.is_empty()).then(|| format!("g{}: {}", pair(g as u8), line.join(", ")))
+    };
+    (0..sheet.outline.guards).filter_map(on).collect::<Vec<_>>().join("; ")
+}
+
 fn answers(sheet: &Sheet, trace: &[u8], begin: usize, points: &Points) -> String {
     let mut out = String::from("<div class=\"pair\">\n");
     for (machine, heading, refused) in
@@ -310,8 +334,12 @@ fn answers(sheet: &Sheet, trace: &[u8], begin: usize, points: &Points) -> String
                     Machine::Table => point.table.map_or(0, |table| table.notified),
                 };
                 let notified = if notified == 0 { "nobody".into() } else { words::threads(notified) };
+                let lines = match lines(sheet, point) {
+                    none if none.is_empty() => none,
+                    lines => format!("<dt>in line</dt><dd>{lines}</dd>\n"),
+                };
                 out.push_str(&format!(
-                    "<dl>\n<dt>values at the end</dt><dd>{}</dd>\n<dt>threads</dt><dd>{}</dd>\n<dt>notified</dt><dd>{notified}</dd>\n</dl>\n",
+                    "<dl>\n<dt>values at the end</dt><dd>{}</dd>\n<dt>threads</dt><dd>{}</dd>\n{lines}<dt>notified</dt><dd>{notified}</dd>\n</dl>\n",
                     escape(&sheet.state_text(&point.values)),
                     escape(&places(sheet, point))
                 ));

@@ -48,7 +48,7 @@ pub fn table(sheet: &Sheet, table: &Table) -> String {
     }
     out.push_str("</tbody>\n</table>\n</div>\n");
     out.push_str(&format!(
-        "<ul class=\"small key\">\n<li>{} signal: the first waiter is notified</li>\n<li>{} broadcast: all waiters are</li>\n\
+        "<ul class=\"small key\">\n<li>{} signal: the first waiter, the earliest, is notified</li>\n<li>{} broadcast: all waiters are</li>\n\
          <li>{}{} filled: always, without asking</li>\n<li>{}{} hollow: only if the guard then holds</li>\n</ul>\n",
         mark(false, true),
         mark(true, true),
