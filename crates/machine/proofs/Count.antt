@@ -200,11 +200,6 @@ module _ (m : Monitor) (ok : Checked m) where
   plain-tells : (c : Config) → PlainAt c → FrontTold m c
   plain-tells c pt g u h x = pt .all g u (front-waits m (c .threads) g u x) h
 
-  pub plain-counts :
-      (c : Config) → Lined m (c .threads) → PlainPoint m (c .state) (c .threads) (c .notified)
-      → Counts m (PlainNotices m) c
-  plain-counts = counts m ok (PlainNotices m) PlainAt plain-stays plain-tells
-
   pub plain-run-counts :
       (s : ℕ) → m .kept s ≡ true → (fs : List Frame) (c : Config) → Rules m (PlainNotices m) (allIdle s) fs c
       → Counts m (PlainNotices m) c
@@ -228,11 +223,6 @@ module _ (m : Monitor) (ok : Checked m) where
 
     table-tells : (c : Config) → TableAt c → FrontTold m c
     table-tells c x = x .1 .table .first
-
-    pub table-counts :
-        (c : Config) → Lined m (c .threads) → (nP : ℕ → Bool) → Agree m bc (c .state) (c .threads) nP (c .notified)
-        → Counts m (TableNotices m e) c
-    table-counts c l nP ag = counts m ok (TableNotices m e) TableAt table-stays table-tells c l (nP, ag)
 
   pub table-run-counts :
       (s : ℕ) → m .kept s ≡ true → (fs : List Frame) (c : Config)
