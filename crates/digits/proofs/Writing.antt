@@ -1,6 +1,6 @@
 -- One list written behind another: stores from a place on, two and four lists in turn, and a loop that writes what a
 -- function gives for 0, 1, ..
-use Prim.Native.Nat.{ℕ, suc, _+_, _*_, _/_, _%_, _<_, _≤_}
+use Prim.Native.Nat.{ℕ, _+_, _/_, _%_, _<_, _≤_}
 use mathlib.Core.Path.{_≡_, refl, ap, _∙_, subst}
 use mathlib.Core.List.{List, [], _∷_, _++_, append-assoc}
 use native.Mathlib.Nat.{add-zero, add-assoc}
@@ -11,7 +11,7 @@ use lib.Seq.{take-at, drop-append-add, drop-drop, length-take-le, sets-eq}
 use Rattle.meaning.specs.Hex.{hexDigit, hex2}
 use Rattle.meaning.specs.Decide.Table.{forEach}
 use Rattle.digits.specs.Written.{over, Writes}
-use Rattle.digits.proofs.ForEach.{forEach-more, forEach-within, forEach-length}
+use Rattle.digits.proofs.ForEach.{forEach-more, forEach-within}
 
 -- nothing is written
 pub over-none : (d : List ℕ) (at : ℕ) → over d at [] ≡ d

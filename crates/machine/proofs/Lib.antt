@@ -6,6 +6,7 @@ pub mod RulesDecided
 pub mod Entries
 pub mod Rechecks
 pub mod Points
+pub mod Newly
 pub mod Reached
 pub mod Turns
 pub mod Arrival

@@ -13,7 +13,7 @@ use mathlib.Core.List.{List, [], _∷_}
 use mathlib.Core.Option.{some, Option·some-injective}
 use lib.Dec.{ltb}
 use lib.ListN.{length, getD, drop, getElem?, drop-of-length-le, List·getD-eq-default}
-use lib.IntN.{ℤ, pos, natAbs, _+ℤ_, _-ℤ_, -ℤ-+ℤ-cancel}
+use lib.IntN.{ℤ, pos, natAbs, _+ℤ_, -ℤ-+ℤ-cancel}
 use borrow.Author.Tests.{ltb-true, ltb-false}
 use Rattle.syntax.specs.Tree.{Var}
 use Rattle.logic.proofs.Bools.{no-some, split}

@@ -3,18 +3,18 @@
 use Prim.Native.Nat.{ℕ, zero, suc, _+_, _*_, _/_, _%_, _≤_, _<_}
 use native.Mathlib.Nat.{mod-lt, mod-eq-of-lt}
 use native.Mathlib.Omega.{arith}
-use mathlib.Core.Path.{_≡_, refl, sym, subst, ap, ap₂, _∙_}
-use mathlib.Core.Bool.{Bool, true, false, not, _&&_, _||_, false≢true}
+use mathlib.Core.Path.{_≡_, refl, sym, ap, ap₂, _∙_}
+use mathlib.Core.Bool.{true, false, not, _||_, false≢true}
 use mathlib.Core.Logic.{⊎-elim}
 use mathlib.Core.List.{List, [], _∷_, _++_}
 use lib.Dec.{eqb, lit<}
 use lib.ListN.{length}
-use borrow.Author.Tests.{eqb-true, eqb-false, eq-eqb, ne-eqb}
+use borrow.Author.Tests.{eqb-true, eqb-false, eq-eqb}
 use Rattle.machine.specs.Queue.{has, those, joined, left, placeIn}
 use Rattle.machine.specs.Arrival.{Once}
-use Rattle.machine.proofs.Queue.{has-left, once-left, left-absent, left-first, left-kept, place-here, place-later}
+use Rattle.machine.proofs.Queue.{has-left, once-left, left-first, left-kept, place-here, place-later}
 use Rattle.machine.proofs.Queue.{has-behind, place-once}
-use Rattle.logic.proofs.Bools.{split-eq, clash, either, both, neither, is-false, not-true, or-left, or-right}
+use Rattle.logic.proofs.Bools.{split-eq, clash, either, both, not-true, or-left, or-right}
 use Rattle.queue.specs.Packed.{queueOf, behindOf, joinedTo, leftBy}
 
 pub queue-length : (o n : ℕ) → length (queueOf o n) ≡ n

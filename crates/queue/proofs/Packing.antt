@@ -4,7 +4,7 @@ use Prim.Native.Nat.{ℕ, zero, suc, _+_, _-_, _*_, _/_, _%_, _^_, _≤_, _<_}
 use native.Mathlib.Nat.{div-one, mul-one, mul-comm, mul-assoc, div-mul-le-self, mod-eq-of-lt, mul-le-mul-right}
 use native.Mathlib.Nat.{div-le-self, lt-div-mul-add, lt-of-le-of-lt, le-trans}
 use native.Mathlib.Omega.{arith}
-use mathlib.Core.Path.{_≡_, refl, sym, ap, ap₂, _∙_}
+use mathlib.Core.Path.{_≡_, sym, ap, ap₂, _∙_}
 use lib.Pow.{pow-add, pow-pos, pow-mono, shr-shr}
 use Rattle.queue.specs.Packed.{behindOf, joinedTo, leftBy}
 

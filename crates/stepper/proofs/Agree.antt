@@ -12,7 +12,7 @@ use Rattle.machine.specs.Queue.{has, those}
 use Rattle.machine.specs.Held.{followsBy}
 use Rattle.machine.specs.Decide.Step.{isWaiting, atFront, firstIn, next, firstNotified}
 use Rattle.machine.proofs.Queue.{those-same, has-those}
-use Rattle.machine.proofs.Points.{becomes, newlyOn, newlyBy}
+use Rattle.machine.proofs.Newly.{becomes, newlyOn, newlyBy}
 use Rattle.logic.proofs.Bools.{both, or-left, or-right}
 use borrow.Author.Tests.{eq-eqb}
 use Rattle.stepper.specs.Slices.{guardAt, guardsOnly, broadcastAt, followsAt, onOne, newFirst, newlyIn}

@@ -15,7 +15,7 @@ use Rattle.machine.specs.Monitor.{Place, idle, waiting, due, Threads, SameThrea
 use Rattle.machine.specs.Queue.{has}
 use Rattle.machine.specs.Decide.Step.{Outcome, leave, without, isDue, isWaiting, mayBeAt, may, next, firstNotified}
 use Rattle.machine.specs.Decide.Step.{ran, waited, rechecked, step}
-use Rattle.machine.specs.Algorithm1.{Entry, none, entry, Holds, Fails}
+use Rattle.machine.specs.Algorithm1.{entry, Holds, Fails}
 use Rattle.machine.specs.Decide.Table.{runs, entryOf, unconditional, broadcast}
 use Rattle.machine.specs.Agreement.{Checked}
 use Rattle.machine.specs.Arrival.{Once, Lined}
@@ -36,7 +36,8 @@ use Rattle.stepper.proofs.Taken.{taken-there, taken-runs, there-below}
 use Rattle.machine.proofs.Entries.{entry-where}
 use Rattle.machine.proofs.Order.{waiting-iff, same-refl, same-trans, began-same, left-same}
 use Rattle.machine.proofs.Queue.{has-left}
-use Rattle.machine.proofs.Points.{ToldAt, becomes, newly-plain, newly-table, entries-placed}
+use Rattle.machine.proofs.Points.{ToldAt, entries-placed}
+use Rattle.machine.proofs.Newly.{becomes, newly-plain, newly-table}
 use Rattle.machine.proofs.Reached.{PlaceWithin, Reached}
 use Rattle.machine.proofs.Simulation.{own-region}
 use Rattle.machine.proofs.Tests.{may-iff}

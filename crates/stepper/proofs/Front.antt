@@ -2,12 +2,11 @@
 -- its guard, and it may resume exactly if none of those has a notice.
 use Prim.Native.Nat.{ℕ, suc, _+_, _-_, _/_, _%_, _<_}
 use mathlib.Core.Path.{_≡_, refl, sym, subst, ap, ap₂, _∙_}
-use mathlib.Core.Bool.{Bool, true, false, not, _&&_, _||_, false≢true, and-false, or-false}
+use mathlib.Core.Bool.{Bool, true, false, not, _&&_, _||_, false≢true, or-false}
 use mathlib.Core.Logic.{⊎-elim}
 use mathlib.Core.List.{List, [], _∷_, _++_}
 use native.Mathlib.Omega.{arith}
 use lib.Dec.{eqb}
-use lib.ListN.{length}
 use borrow.Author.Tests.{eqb-true, eq-eqb, ne-eqb}
 use Rattle.sets.specs.Set.{member}
 use Rattle.machine.specs.Monitor.{Place, idle, waiting, due, Threads, Monitor, onGuard, waitsOn, line, threads, turn}
@@ -15,8 +14,8 @@ use Rattle.machine.specs.Monitor.{turnAt}
 use Rattle.machine.specs.Queue.{has, those, joined, placeIn}
 use Rattle.machine.specs.Arrival.{Once}
 use Rattle.machine.specs.Decide.Step.{isWaiting, atFront, firstIn, next}
-use Rattle.machine.proofs.Queue.{once-before, those-kept, those-append, those-dropped, has-append, has-those, first-iff, place-below}
-use Rattle.logic.proofs.Bools.{split, clash, is-false, either, both, neither, or-left, or-right}
+use Rattle.machine.proofs.Queue.{once-before, those-kept, those-append, those-dropped, has-those, first-iff, place-below}
+use Rattle.logic.proofs.Bools.{split, clash, either, both, neither, or-right}
 use Rattle.queue.specs.Packed.{queueOf, behindOf}
 use Rattle.queue.proofs.Lists.{queue-below, queue-length, queue-splits, at-place}
 use Rattle.threads.specs.declared.Threads as code

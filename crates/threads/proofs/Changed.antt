@@ -8,7 +8,6 @@ use mathlib.Core.Path.{_≡_, refl, sym, subst, ap, ap₂, _∙_}
 use mathlib.Core.Bool.{Bool, true, false, not, _&&_, and-true, and-false, true≢false}
 use mathlib.Core.List.{List}
 use lib.Dec.{eqb}
-use lib.ListN.{length}
 use borrow.Author.Tests.{eq-eqb, ne-eqb}
 use Rattle.logic.proofs.Bools.{split, split-eq, and, true-not}
 use Rattle.machine.specs.Monitor as machine

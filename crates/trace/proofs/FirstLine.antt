@@ -1,6 +1,6 @@
 -- Laws of the first line of some bytes, by cutting them at each 0A: it is a frame's exactly where six digits of a
 -- frame's values and then 0A come first; after a frame, the lines go on seven bytes further.
-use Prim.Native.Nat.{ℕ, zero, suc, _+_, _*_, _-_, _≤_, _<_}
+use Prim.Native.Nat.{ℕ, zero, suc, _+_, _*_, _≤_, _<_}
 use native.Mathlib.Omega.{arith}
 use native.Mathlib.Numerals.{add-one}
 use mathlib.Core.Path.{_≡_, refl, sym, ap, _∙_}

@@ -1,7 +1,7 @@
 -- What a condition names and a body assigns, over the tree, and the touched pairs of region and guard, counted.
 -- `proofs/Touching` shows that this is what `Touch` says of the text.
 use Prim.Native.Nat.{ℕ, zero, suc, _+_}
-use mathlib.Core.Bool.{Bool, true, false, _&&_, _||_}
+use mathlib.Core.Bool.{Bool, false, _&&_, _||_}
 use mathlib.Core.List.{List, [], _∷_}
 use lib.ListN.{length, getD}
 use Rattle.syntax.specs.Bytes.{sameBytes}

@@ -1,6 +1,6 @@
 -- `queue::joined` meets its contract: what stands below the place, and the thread there; in sixty-four bits nothing is lost.
-use Prim.Native.Nat.{ℕ, _+_, _-_, _*_, _/_, _%_, _^_, _≤_}
-use mathlib.Core.Path.{_≡_, ap₂, _∙_}
+use Prim.Native.Nat.{ℕ, _+_, _-_, _*_, _/_, _%_, _^_}
+use mathlib.Core.Path.{ap₂, _∙_}
 use native.Mathlib.Nat.{mod-lt, mod-le, mod-eq-of-lt, div-mul-le-self, le-trans}
 use native.Mathlib.Omega.{arith}
 use lib.Dec.{lit<}

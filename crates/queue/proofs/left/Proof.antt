@@ -1,6 +1,6 @@
 -- `queue::left` meets its contract: what stands below the place, and what stands above it, one place lower.
-use Prim.Native.Nat.{ℕ, _+_, _-_, _*_, _/_, _%_, _^_, _≤_}
-use mathlib.Core.Path.{_≡_, ap, ap₂, _∙_}
+use Prim.Native.Nat.{ℕ, _+_, _-_, _*_, _/_, _%_, _^_}
+use mathlib.Core.Path.{ap, ap₂, _∙_}
 use native.Mathlib.Nat.{mod-le, mod-eq-of-lt, div-mul-le-self, le-trans}
 use native.Mathlib.Omega.{arith}
 use borrow.Author.Needs.{needs}

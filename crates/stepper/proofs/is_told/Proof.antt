@@ -1,6 +1,6 @@
 -- `stepper::is_told` meets its contract: at each variant the look-ups are the definition.
 use borrow.Author.Needs.{needs}
-use mathlib.Core.Path.{_∙_, sym, ap, ap₂}
+use mathlib.Core.Path.{_∙_, sym, ap}
 use Prim.Native.Nat.{ℕ}
 use mathlib.Core.Bool.{Bool, not, _||_}
 use Rattle.sets.specs.Set.{member}

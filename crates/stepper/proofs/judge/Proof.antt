@@ -1,6 +1,6 @@
 -- `stepper::judge` meets its contract: each test's fact is one of the verdict's Booleans; a machine's own are its notice
 -- and who stands ahead.
-use Prim.Native.Nat.{ℕ, _<_}
+use Prim.Native.Nat.{ℕ}
 use mathlib.Core.Path.{_≡_, sym, ap, _∙_}
 use mathlib.Core.Bool.{Bool, true, false, Bool·beq}
 use mathlib.Core.List.{List, []}

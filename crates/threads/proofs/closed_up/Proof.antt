@@ -1,22 +1,18 @@
 -- `threads::closed_up` meets its contract. The invariant: the places are as they were, the turns of those in the queue from the
 -- first place to k are written anew, and `rest` is what stands behind the first k.
-use Prim.Native.Nat.{ℕ, suc, _+_, _-_, _/_, _%_, _≤_, _<_}
+use Prim.Native.Nat.{ℕ, _+_, _-_, _/_, _%_, _≤_, _<_}
 use mathlib.Core.Path.{_≡_, refl, sym, ap, _∙_}
-use mathlib.Core.Bool.{Bool, true, false}
 use mathlib.Core.Logic.{_⊎_, inl, inr, ⊎-elim}
 use native.Mathlib.Numerals.{add-one}
-use native.Mathlib.Nat.{mod-lt}
 use native.Mathlib.Omega.{arith}
 use lib.ListN.{length, getD, set, length-set}
 use borrow.Author.Needs.{needs}
-use borrow.Author.Tests.{eqb-true, eqb-false, eq-eqb, ne-eqb}
 use Rattle.machine.specs.Queue.{placeIn}
 use Rattle.machine.specs.Arrival.{Once}
-use Rattle.machine.specs.Decide.Step.{put}
 use Rattle.logic.proofs.Bools.{split-eq}
 use Rattle.queue.specs.Packed.{queueOf, behindOf}
 use Rattle.queue.proofs.Lists.{behind-next, place-at, at-place}
-use Rattle.threads.specs.Held.{placesOf, turnsOf, idleThread, putTurn, between}
+use Rattle.threads.specs.Held.{placesOf, turnsOf, idleThread, between}
 use Rattle.threads.proofs.Replaced.{puts-set, puts-own, puts-other}
 use Rattle.threads.proofs.Between.{between-in, between-out, between-next}
 use Rattle.threads.proofs.closed_up.Statement.{statement}
