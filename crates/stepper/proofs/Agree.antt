@@ -15,7 +15,9 @@ use Rattle.machine.proofs.Queue.{those-same, has-those}
 use Rattle.machine.proofs.Newly.{becomes, newlyOn, newlyBy}
 use Rattle.logic.proofs.Bools.{both, or-left, or-right}
 use borrow.Author.Tests.{eq-eqb}
-use Rattle.stepper.specs.Slices.{guardAt, guardsOnly, broadcastAt, followsAt, onOne, newFirst, newlyIn}
+use Rattle.waiters.specs.Slices.{guardAt, guardsOnly, followsAt}
+use Rattle.waiters.specs.Told.{broadcastAt, onOne, newFirst}
+use Rattle.stepper.specs.Slices.{newlyIn}
 
 -- a body leaves its thread due or idle
 pub goes-on : (os : List ℕ) (r : ℕ) → isWaiting (followsAt os r) ≡ false

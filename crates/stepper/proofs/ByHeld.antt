@@ -28,8 +28,10 @@ use Rattle.queue.proofs.Lists as queue
 use Rattle.stepper.specs.declared.Run.{Run}
 use Rattle.stepper.specs.declared.Outcome as code
 use Rattle.stepper.specs.Shown.{Shows, Steps, numberIn, toldOn}
-use Rattle.stepper.specs.Slices.{guardAt, holdsAt, becomesAt, broadcastAt, afterAt, beginsAt, followsAt}
-use Rattle.stepper.specs.Slices.{slices, guardsOnly, newlyIn, newlyAt, configOf}
+use Rattle.waiters.specs.Slices.{guardAt, holdsAt, afterAt, beginsAt, followsAt}
+use Rattle.waiters.specs.Told.{becomesAt, broadcastAt}
+use Rattle.waiters.specs.Slices.{slices, guardsOnly}
+use Rattle.stepper.specs.Slices.{newlyIn, newlyAt, configOf}
 use Rattle.stepper.specs.Parts.{verdictOf, nextBy, nextOf, outcome, step-parts}
 use Rattle.stepper.proofs.Taken as taken-frame
 use Rattle.stepper.proofs.Taken.{taken-there, taken-runs, there-below}

@@ -9,7 +9,7 @@ use borrow.Author.Tests.{eqb-true, eq-eqb}
 use Rattle.machine.specs.Monitor.{Place, idle, waiting, due, Monitor, Config, Frame, threads, onGuard}
 use Rattle.logic.specs.Tests.{any}
 use Rattle.machine.specs.Decide.Step.{isDue, isWaiting, mayBeAt, may, firstNotified}
-use Rattle.stepper.specs.Slices.{slices}
+use Rattle.waiters.specs.Slices.{slices}
 use Rattle.stepper.specs.Parts.{verdict, verdictOf}
 
 -- a look-up asks nothing of the other slices

@@ -6,24 +6,22 @@ use threads::Place;
 use threads::Thread;
 use threads::Threads;
 ghost use mathlib.Core.Path.{_≡_};
-ghost use mathlib.Core.Bool.{Bool, true, false, not, _&&_, _||_};
+ghost use mathlib.Core.Bool.{Bool, true, false, not, _&&_};
 ghost use mathlib.Core.List.{List, []};
 ghost use Prim.Native.Nat.{ℕ, _<_};
 ghost use lib.Dec.{eqb};
 ghost use Rattle.sets.specs.Set.{member};
-ghost use Rattle.machine.specs.Monitor.{Monitor, Config, allIdle, onGuard, waitsOn};
-ghost use Rattle.machine.specs.Queue.{has, those};
+ghost use Rattle.machine.specs.Monitor.{Monitor, Config, allIdle};
 ghost use Rattle.logic.specs.Tests.{any};
 ghost use Rattle.machine.specs.Decide.Step.{Told, isDue, isWaiting, mayBeAt, firstIn, ran as ranTo};
 ghost use Rattle.machine.specs.Held.{Held, HeldPlaces, HeldEntries};
 ghost use Rattle.machine.specs.Agreement.{Checked};
 ghost use Rattle.machine.proofs.Reached.{Reached};
 ghost use Rattle.machine.proofs.Points.{ToldAt};
-ghost use Rattle.queue.specs.Packed.{queueOf};
-ghost use Rattle.threads.specs.Held.{placeOf, placesOf, threadsOf, Turned, Queued};
+ghost use Rattle.threads.specs.Held.{placeOf, placesOf, Turned, Queued};
 ghost use Rattle.stepper.specs.Shown.{ofMachine, Shows, Steps, Stays, stepBy, frameOf};
-ghost use Rattle.stepper.specs.Slices.{guardAt, holdsAt, becomesAt, followsAt, slices, guardsOnly};
-ghost use Rattle.stepper.specs.Slices.{onOne, toldBehind, newlyIn, newlyAt, configOf};
+ghost use Rattle.waiters.specs.Slices.{holdsAt, followsAt, slices};
+ghost use Rattle.stepper.specs.Slices.{newlyAt, configOf};
 ghost use Rattle.stepper.specs.Parts.{verdict, verdictOf, nextBy, AheadOf};
 
 // The record of both machines' runs: the state's number, all threads, and each machine's notified set.
@@ -54,12 +52,6 @@ struct Numbers {
     table: u8,
 }
 
-// A set of threads for each machine.
-struct Notices {
-    plain: u16,
-    table: u16,
-}
-
 const ACCEPTED: u8 = 0;
 
 const MISPLACED: u8 = 13;
@@ -78,13 +70,7 @@ pub fn start(state: StateNumber) -> Run
     }
 }
 
-// The guard of a region, and whether a guard holds in a state.
-fn guard_at(guard_of: &[u8; machine::REGIONS], region: u8) -> u8
-    ensures { λ r. ⌜ r ≡ guardAt (now («guard_of» .entry)) region ⌝ }
-{
-    guard_of[(region % machine::REGION_END) as usize] % machine::REGION_END
-}
-
+// Whether a guard holds in a state.
 fn holds_at(holds: &[u16; machine::STATES], guard: u8, state: StateNumber) -> bool
     ensures { λ r. ⌜ r ≡ holdsAt (now (holds .entry)) guard state ⌝ }
 {
@@ -118,40 +104,6 @@ fn may_be_at(place: Place, region: u8, begins: &[u8; machine::REGIONS], regions:
     }
 }
 
-// Whether a thread at a place waits on a guard.
-fn waits_on(place: Place, guard_of: &[u8; machine::REGIONS], guard: u8) -> bool
-    ensures { λ r. ⌜ r ≡ onGuard (guardsOnly (now («guard_of» .entry))) guard (placeOf place) ⌝ }
-{
-    match place {
-        Place::Idle => false,
-        Place::Waiting(w) => guard_at(guard_of, w) == guard,
-        Place::Due(_) => false,
-    }
-}
-
-// Those of the first so many in the queue who wait on a guard, as a set.
-fn line_ahead(threads: Threads, turn: u8, guard_of: &[u8; machine::REGIONS], guard: u8) -> u16
-    ensures { λ r. ⌜ ((u : ℕ) → u < 16 → member r u
-        ≡ has (those (waitsOn (guardsOnly (now («guard_of» .entry))) (threadsOf threads) guard)
-        (queueOf (threads .order) turn)) u) ⌝ }
-{
-    let each = threads.each;
-    let mut set: u16 = 0;
-    let mut order = threads.order;
-    let mut k: u8 = 0;
-    while k < turn {
-        let u = queue::first(order);
-        let thread = each[u as usize];
-        let place = thread.place;
-        if waits_on(place, guard_of, guard) {
-            set = sets::with(set, u as u32);
-        }
-        order = order / 16;
-        k += 1;
-    }
-    set
-}
-
 // What answers a waiting thread t whose flag is 00, by a machine's notices: it must have one.
 fn rechecks(notified: u16, t: u8) -> u8
     ensures { λ r. ⌜ r ≡ verdict true true true false (member notified t) true ⌝ }
@@ -175,114 +127,6 @@ fn resumes(notified: u16, ahead: u16, t: u8) -> u8
         return ACCEPTED;
     }
     NOT_ALLOWED
-}
-
-// Whether a thread at a place waits on one of a set of guards.
-fn waits_on_one(place: Place, guard_of: &[u8; machine::REGIONS], guards: u16) -> bool
-    ensures { λ r. ⌜ r ≡ onOne (now («guard_of» .entry)) (member guards) (placeOf place) ⌝ }
-{
-    match place {
-        Place::Idle => false,
-        Place::Waiting(w) => sets::has(guards, guard_at(guard_of, w) as u32),
-        Place::Due(_) => false,
-    }
-}
-
-// Whether an entry of a region tells a waiter at a place whose guard the body has made true: a broadcast tells all, a signal
-// the first, on whose guard none of those ahead waits.
-fn is_told(
-    place: Place,
-    guard_of: &[u8; machine::REGIONS],
-    entries: &[u8; machine::ENTRIES],
-    region: u8,
-    met: u16,
-) -> bool
-    ensures { λ r. ⌜ r ≡ toldBehind (now («guard_of» .entry)) (now (entries .entry)) region met (placeOf place) ⌝ }
-{
-    match place {
-        Place::Idle => false,
-        Place::Waiting(w) => {
-            let guard = guard_at(guard_of, w);
-            let code = entries[(region % machine::REGION_END) as usize * machine::REGIONS
-                + (guard % machine::REGION_END) as usize];
-            either(code / 4 % 2 == 1, !sets::has(met, guard as u32))
-        }
-        Place::Due(_) => false,
-    }
-}
-
-fn either(a: bool, b: bool) -> bool
-    ensures { λ r. ⌜ r ≡ a || b ⌝ }
-{
-    if a { true } else { b }
-}
-
-// The guards met so far, with that of a thread at a place.
-fn met_with(met: u16, place: Place, guard_of: &[u8; machine::REGIONS]) -> u16
-    ensures { λ r.
-        ⌜ ((g : ℕ) → member r g ≡ onGuard (guardsOnly (now («guard_of» .entry))) g (placeOf place) || member met g) ⌝ }
-{
-    match place {
-        Place::Idle => met,
-        Place::Waiting(w) => sets::with(met, guard_at(guard_of, w) as u32),
-        Place::Due(_) => met,
-    }
-}
-
-// The guards that a body has made true, by the states before and after it.
-fn made_true(holds: &[u16; machine::STATES], from: StateNumber, to: StateNumber) -> u16
-    ensures { λ r. ⌜ ((g : ℕ) → member r g ≡ becomesAt (now (holds .entry)) from to g) ⌝ }
-{
-    sets::minus(
-        holds[(to % machine::STATE_END) as usize],
-        holds[(from % machine::STATE_END) as usize],
-    )
-}
-
-// Whom a body notifies anew, where it has made some guards true: on the plain machine every waiter on one of these, on the
-// table's those whom the entries of the region tell; the first waiter on each guard is the first that is met in the queue.
-fn told(
-    threads: Threads,
-    guard_of: &[u8; machine::REGIONS],
-    newly: u16,
-    entries: &[u8; machine::ENTRIES],
-    region: u8,
-) -> Notices
-    ensures { λ r. ⌜ (Queued threads → (w : Bool) (u : ℕ) → u < 16
-        → member (ofMachine w (r .plain) (r .table)) u
-        ≡ newlyIn (now («guard_of» .entry)) (now (entries .entry)) (member newly) w (threadsOf threads) region u) ⌝ }
-{
-    let mut plain: u16 = 0;
-    let mut table: u16 = 0;
-    if newly == 0 {
-        return Notices {
-            plain: plain,
-            table: table,
-        };
-    }
-    let each = threads.each;
-    let waiting = threads.waiting;
-    let mut met: u16 = 0;
-    let mut rest = threads.order;
-    let mut k: u8 = 0;
-    while k < waiting {
-        let u = queue::first(rest);
-        let thread = each[u as usize];
-        let place = thread.place;
-        if waits_on_one(place, guard_of, newly) {
-            plain = sets::with(plain, u as u32);
-            if is_told(place, guard_of, entries, region, met) {
-                table = sets::with(table, u as u32);
-            }
-            met = met_with(met, place, guard_of);
-        }
-        rest = rest / 16;
-        k += 1;
-    }
-    Notices {
-        plain: plain,
-        table: table,
-    }
 }
 
 // Where a thread is after a region's body.
@@ -323,7 +167,7 @@ fn judge(
     if !may_be_at(place, region, begins, regions) {
         return alike(MISPLACED);
     }
-    let guard = guard_at(guard_of, region);
+    let guard = waiters::guard_at(guard_of, region);
     let flag = frame.flag;
     let holding = holds_at(holds, guard, run.state);
     if flag != holding {
@@ -333,7 +177,7 @@ fn judge(
         return alike(ACCEPTED);
     }
     if flag {
-        let ahead = line_ahead(threads, thread.turn, guard_of, guard);
+        let ahead = waiters::line_ahead(threads, thread.turn, guard_of, guard);
         return Numbers {
             plain: resumes(run.plain, ahead, t),
             table: resumes(run.table, ahead, t),
@@ -378,8 +222,8 @@ fn ran(
     let after_body = threads::leave(threads, t, behind(region, goes_on));
     let to = after[(region % machine::REGION_END) as usize * machine::STATES
         + (run.state % machine::STATE_END) as usize];
-    let newly = made_true(holds, run.state, to);
-    let more = told(after_body, guard_of, newly, entries, region);
+    let newly = waiters::made_true(holds, run.state, to);
+    let more = waiters::told(after_body, guard_of, newly, entries, region);
     Run {
         state: to,
         threads: after_body,

@@ -4,7 +4,7 @@ use mathlib.Core.Path.{sym, ap}
 use Prim.Native.Nat.{_%_}
 use Rattle.machine.specs.Held.{followsBy}
 use Rattle.threads.specs.Held.{placeOf}
-use Rattle.stepper.specs.Slices.{followsAt}
+use Rattle.waiters.specs.Slices.{followsAt}
 use Rattle.stepper.proofs.Loops.{follows-due}
 use Rattle.stepper.proofs.behind.Statement.{statement}
 use Rattle.stepper.proofs.behind.Tie as tie

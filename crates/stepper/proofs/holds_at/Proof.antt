@@ -1,6 +1,6 @@
 -- `stepper::holds_at` meets its contract: it is the look-up.
 use borrow.Author.Needs.{needs}
-use Rattle.stepper.specs.Slices.{holdsAt}
+use Rattle.waiters.specs.Slices.{holdsAt}
 use Rattle.stepper.proofs.holds_at.Statement.{statement}
 use Rattle.stepper.proofs.holds_at.Tie as tie
 

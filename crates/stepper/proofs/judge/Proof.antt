@@ -14,7 +14,8 @@ use Rattle.machine.proofs.Queue.{those-same}
 use Rattle.queue.specs.Packed.{queueOf}
 use Rattle.threads.specs.Held.{placesOf, turnsOf, threadsOf, idleThread, Turned, Queued}
 use Rattle.stepper.specs.Shown.{ofMachine, noticesIn, frameOf}
-use Rattle.stepper.specs.Slices.{guardAt, holdsAt, slices, guardsOnly, configOf}
+use Rattle.waiters.specs.Slices.{guardAt, holdsAt, slices, guardsOnly}
+use Rattle.stepper.specs.Slices.{configOf}
 use Rattle.stepper.specs.Parts.{verdict, verdictOf, AheadOf}
 use Rattle.stepper.proofs.Machines.{each-machine}
 use Rattle.stepper.proofs.Loops.{guards-alone}

@@ -6,7 +6,7 @@ use mathlib.Core.List.{[]}
 use borrow.Author.Tests.{lt-ltb, le-ltb}
 use Rattle.machine.specs.Decide.Step.{mayBeAt}
 use Rattle.threads.specs.Held.{placeOf}
-use Rattle.stepper.specs.Slices.{beginsAt, slices}
+use Rattle.waiters.specs.Slices.{beginsAt, slices}
 use Rattle.threads.specs.declared.Place.{Place}
 use Rattle.stepper.proofs.may_be_at.Statement.{statement}
 use Rattle.stepper.proofs.may_be_at.Tie as tie

@@ -1,5 +1,5 @@
 -- `stepper::ran` meets its contract: the look-ups and the calls are the parts of the point after a body, of each machine.
-use Prim.Native.Nat.{ℕ}
+use Prim.Native.Nat.{ℕ, _<_}
 use mathlib.Core.Path.{_≡_, refl, ap, _∙_, subst}
 use mathlib.Core.Bool.{Bool, true, false, not, _&&_, _||_}
 use mathlib.Core.List.{List}
@@ -10,9 +10,11 @@ use Rattle.machine.specs.Monitor.{Place, Threads, SameThreads}
 use Rattle.machine.specs.Decide.Step.{ran, leave, without, isWaiting}
 use Rattle.machine.specs.Queue.{has}
 use Rattle.queue.proofs.Lists.{queue-below}
-use Rattle.threads.specs.Held.{threadsOf}
+use Rattle.threads.specs.Held.{threadsOf, Queued}
 use Rattle.stepper.specs.Shown.{ofMachine, frameOf}
-use Rattle.stepper.specs.Slices.{afterAt, becomesAt, followsAt, newlyAt, configOf}
+use Rattle.waiters.specs.Slices.{afterAt, followsAt}
+use Rattle.waiters.specs.Told.{becomesAt}
+use Rattle.stepper.specs.Slices.{newlyIn, newlyAt, configOf}
 use Rattle.stepper.proofs.Agree.{newly-alike, goes-on}
 use Rattle.stepper.proofs.ran.Statement.{statement}
 use Rattle.stepper.proofs.ran.Tie as tie
@@ -33,6 +35,18 @@ renewed c true u =
     let d = c .before .before .before .before in
     c .union2 .ensures u
     ∙ ap (λ (x : Bool). x || member (d .told .result .table) u) (c .before .without2 .ensures u)
+
+-- whom the body notifies anew, on either machine
+told-on : (c : tie.After-union2) →
+    let d = c .before .before .before .before in
+    let l = d .before .before .before .before in
+    let a = l .before .before .before .args in
+    Queued (l .leave .result) → (w : Bool) (u : ℕ) → u < 16 → member (ofMachine w (d .told .result .plain) (d .told .result .table)) u
+    ≡ newlyIn (a .guard-of .now) (a .entries .now) (member (d .before .made-true .result)) w (threadsOf (l .leave .result))
+    (a .frame .region) u
+unfolding ofMachine newlyIn
+told-on c queued false u h = c .before .before .before .before .told .ensures queued u h .0
+told-on c queued true u h = c .before .before .before .before .told .ensures queued u h .1
 
 returns : tie.Need-returns
 unfolding ran without afterAt newlyAt configOf frameOf
@@ -56,7 +70,7 @@ returns c queued turned w =
           renewed c w u
           ∙ ap
           (λ (x : Bool). (not (eqb u (a .frame .thread)) && member (ofMachine w (a .run .plain) (a .run .table)) u) || x)
-          (d .told .ensures (left .2) w u h
+          (told-on c (left .2) w u h
           ∙ newly-alike (a .guard-of .now) (a .entries .now) (member (d .before .made-true .result))
           (becomesAt (a .holds .now) (a .run .state) to) (d .before .made-true .ensures)
           (threadsOf (l .leave .result)) after same

@@ -13,7 +13,8 @@ use Rattle.threads.specs.Held.{Turned, Queued}
 use Rattle.stepper.specs.declared.Frame as code
 use Rattle.stepper.specs.declared.Run.{Run}
 use Rattle.stepper.specs.Shown.{ofMachine, Shows, Stays, stepBy, frameOf}
-use Rattle.stepper.specs.Slices.{slices, newlyAt, configOf}
+use Rattle.waiters.specs.Slices.{slices}
+use Rattle.stepper.specs.Slices.{newlyAt, configOf}
 use Rattle.stepper.specs.Parts.{verdictOf, nextBy, nextOf}
 use Rattle.stepper.proofs.Machines.{each-machine}
 use Rattle.stepper.proofs.ByHeld.{steps-held, shows-queued}

@@ -1,15 +1,15 @@
--- `stepper::met_with` meets its contract: a waiter's guard is one more, any other place adds none.
+-- `waiters::met_with` meets its contract: a waiter's guard is one more, any other place adds none.
 use borrow.Author.Needs.{needs}
 use mathlib.Core.Path.{_∙_, sym, ap}
 use mathlib.Core.Bool.{Bool, _||_}
 use Rattle.sets.specs.Set.{member}
 use Rattle.machine.specs.Monitor.{onGuard}
 use Rattle.threads.specs.Held.{placeOf}
-use Rattle.stepper.specs.Slices.{guardsOnly}
+use Rattle.waiters.specs.Slices.{guardsOnly}
 use Rattle.threads.specs.declared.Place.{Place}
-use Rattle.stepper.proofs.Loops.{guard-one}
-use Rattle.stepper.proofs.met_with.Statement.{statement}
-use Rattle.stepper.proofs.met_with.Tie as tie
+use Rattle.waiters.proofs.Loops.{guard-one}
+use Rattle.waiters.proofs.met_with.Statement.{statement}
+use Rattle.waiters.proofs.met_with.Tie as tie
 
 enum-told : tie.Need-enum-told
 enum-told c = search needs

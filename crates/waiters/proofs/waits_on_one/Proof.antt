@@ -1,13 +1,13 @@
--- `stepper::waits_on_one` meets its contract: at each variant the look-ups are the definition.
+-- `waiters::waits_on_one` meets its contract: at each variant the look-ups are the definition.
 use borrow.Author.Needs.{needs}
 use mathlib.Core.Path.{_∙_, sym, ap}
 use Prim.Native.Nat.{ℕ}
 use Rattle.sets.specs.Set.{member}
 use Rattle.threads.specs.Held.{placeOf}
-use Rattle.stepper.specs.Slices.{onOne}
+use Rattle.waiters.specs.Told.{onOne}
 use Rattle.threads.specs.declared.Place.{Place}
-use Rattle.stepper.proofs.waits_on_one.Statement.{statement}
-use Rattle.stepper.proofs.waits_on_one.Tie as tie
+use Rattle.waiters.proofs.waits_on_one.Statement.{statement}
+use Rattle.waiters.proofs.waits_on_one.Tie as tie
 
 returns : tie.Need-returns
 unfolding onOne placeOf

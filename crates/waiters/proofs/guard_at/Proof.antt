@@ -1,9 +1,9 @@
--- `stepper::guard_at` meets its contract: it is the look-up.
+-- `waiters::guard_at` meets its contract: it is the look-up.
 use borrow.Author.Needs.{needs}
 use mathlib.Core.Path.{refl}
-use Rattle.stepper.specs.Slices.{guardAt}
-use Rattle.stepper.proofs.guard_at.Statement.{statement}
-use Rattle.stepper.proofs.guard_at.Tie as tie
+use Rattle.waiters.specs.Slices.{guardAt}
+use Rattle.waiters.proofs.guard_at.Statement.{statement}
+use Rattle.waiters.proofs.guard_at.Tie as tie
 
 cast-result : tie.Need-cast-result
 cast-result c = search needs

@@ -1,14 +1,14 @@
--- `stepper::is_told` meets its contract: at each variant the look-ups are the definition.
+-- `waiters::is_told` meets its contract: at each variant the look-ups are the definition.
 use borrow.Author.Needs.{needs}
 use mathlib.Core.Path.{_∙_, sym, ap}
 use Prim.Native.Nat.{ℕ}
 use mathlib.Core.Bool.{Bool, not, _||_}
 use Rattle.sets.specs.Set.{member}
 use Rattle.threads.specs.Held.{placeOf}
-use Rattle.stepper.specs.Slices.{broadcastAt, toldBehind}
+use Rattle.waiters.specs.Told.{broadcastAt, toldBehind}
 use Rattle.threads.specs.declared.Place.{Place}
-use Rattle.stepper.proofs.is_told.Statement.{statement}
-use Rattle.stepper.proofs.is_told.Tie as tie
+use Rattle.waiters.proofs.is_told.Statement.{statement}
+use Rattle.waiters.proofs.is_told.Tie as tie
 
 returns : tie.Need-returns
 unfolding toldBehind placeOf

@@ -1,4 +1,4 @@
--- `stepper::line_ahead` meets its contract. The invariant: of the first k of the queue the set has the waiters on the guard.
+-- `waiters::line_ahead` meets its contract. The invariant: of the first k of the queue the set has the waiters on the guard.
 use Prim.Native.Nat.{ℕ, _+_, _-_, _/_, _%_, _≤_}
 use mathlib.Core.Path.{_≡_, refl, _∙_, ap, sym, subst}
 use mathlib.Core.Bool.{Bool, _&&_}
@@ -14,10 +14,10 @@ use Rattle.machine.proofs.Queue.{has-those}
 use Rattle.queue.specs.Packed.{queueOf, behindOf}
 use Rattle.queue.proofs.Lists.{queue-next, behind-next}
 use Rattle.threads.specs.Held.{placesOf, threadsOf, idleThread}
-use Rattle.stepper.specs.Slices.{guardsOnly}
-use Rattle.stepper.proofs.Loops.{Gathered, gather-none, gather-turn}
-use Rattle.stepper.proofs.line_ahead.Statement.{statement}
-use Rattle.stepper.proofs.line_ahead.Tie as tie
+use Rattle.waiters.specs.Slices.{guardsOnly}
+use Rattle.waiters.proofs.Loops.{Gathered, gather-none, gather-turn}
+use Rattle.waiters.proofs.line_ahead.Statement.{statement}
+use Rattle.waiters.proofs.line_ahead.Tie as tie
 
 abbrev Inv-loop : tie.InvT-loop
 Inv-loop turn guard-of guard each set₀ rest₀ k₀ set rest k =

@@ -1,14 +1,14 @@
--- `stepper::waits_on` meets its contract: at each variant the test computes.
+-- `waiters::waits_on` meets its contract: at each variant the test computes.
 use borrow.Author.Needs.{needs}
 use mathlib.Core.Path.{_∙_, sym, ap}
 use Prim.Native.Nat.{ℕ}
 use lib.Dec.{eqb}
 use Rattle.machine.specs.Monitor.{onGuard}
 use Rattle.threads.specs.Held.{placeOf}
-use Rattle.stepper.specs.Slices.{guardsOnly}
+use Rattle.waiters.specs.Slices.{guardsOnly}
 use Rattle.threads.specs.declared.Place.{Place}
-use Rattle.stepper.proofs.waits_on.Statement.{statement}
-use Rattle.stepper.proofs.waits_on.Tie as tie
+use Rattle.waiters.proofs.waits_on.Statement.{statement}
+use Rattle.waiters.proofs.waits_on.Tie as tie
 
 enum-told : tie.Need-enum-told
 enum-told c = search needs

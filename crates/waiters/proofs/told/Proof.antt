@@ -1,4 +1,4 @@
--- `stepper::told` meets its contract. The invariant: of the first k of the queue each set has those whom its machine notifies
+-- `waiters::told` meets its contract. The invariant: of the first k of the queue each set has those whom its machine notifies
 -- anew, and `met` has the guards made true that one of them waits on, so a waiter whose guard is not met is next in line.
 use Prim.Native.Nat.{ℕ, _+_, _-_, _/_, _%_, _≤_, _<_}
 use mathlib.Core.Path.{_≡_, refl, _∙_, sym, ap, ap₂, subst}
@@ -19,12 +19,12 @@ use Rattle.queue.specs.Packed.{queueOf, behindOf}
 use Rattle.queue.proofs.Lists.{queue-next, behind-next}
 use Rattle.threads.specs.declared.Thread.{Thread}
 use Rattle.threads.specs.Held.{placesOf, threadsOf, idleThread}
-use Rattle.stepper.specs.Slices.{guardsOnly, onOne, toldBehind, newFirst, newlyIn}
-use Rattle.stepper.proofs.Machines.{each-machine}
-use Rattle.stepper.proofs.Loops.{Gathered, gather-none, gather-turn}
-use Rattle.stepper.proofs.Front.{some, told-met, seen-more, other-guard, on-one-waits, new-first-waits, none-on}
-use Rattle.stepper.proofs.told.Statement.{statement}
-use Rattle.stepper.proofs.told.Tie as tie
+use Rattle.waiters.specs.Slices.{guardsOnly}
+use Rattle.waiters.specs.Told.{onOne, toldBehind, newFirst}
+use Rattle.waiters.proofs.Loops.{Gathered, gather-none, gather-turn}
+use Rattle.waiters.proofs.Front.{some, told-met, seen-more, other-guard, on-one-waits, new-first-waits, none-on}
+use Rattle.waiters.proofs.told.Statement.{statement}
+use Rattle.waiters.proofs.told.Tie as tie
 
 -- the threads that the loop goes through
 abbrev known : List Thread → ℕ → ℕ → Threads
@@ -108,7 +108,6 @@ loop-again c =
 
 -- no guard is made true, so nobody is told
 returns : tie.Need-returns Inv-loop μ-loop
-unfolding newlyIn
 returns c queued =
     let a = c .before .args in
     let none : (u : ℕ) →
@@ -117,10 +116,7 @@ returns c queued =
     × (newFirst (a .guard-of .now) (a .entries .now) (member (a .newly)) (threadsOf (a .threads)) (a .region) u q ≡ false) =
     λ u. none-on (a .guard-of .now) (a .entries .now) (member (a .newly)) (threadsOf (a .threads)) (a .region) u
     (placesOf (a .threads .each) u) (λ g. ap (λ (n : ℕ). member n g) (c .if1 .taken) ∙ member-none g) in
-    each-machine
-    (λ w n. (u : ℕ) → u < 16 → member n u
-    ≡ newlyIn (a .guard-of .now) (a .entries .now) (member (a .newly)) w (threadsOf (a .threads)) (a .region) u)
-    (λ u h. member-none u ∙ sym (none u .0)) (λ u h. member-none u ∙ sym (none u .1))
+    λ u h. (member-none u ∙ sym (none u .0), member-none u ∙ sym (none u .1))
 
 -- who is told waits, so all of them are in the queue
 all-seen : (a b : Bool) → (b ≡ true → a ≡ true) → a && b ≡ b
@@ -128,7 +124,7 @@ all-seen true b h = refl
 all-seen false b h = sym (is-false (λ q. clash (h q) refl))
 
 returns-2 : tie.Need-returns-2 Inv-loop μ-loop
-unfolding newlyIn threads
+unfolding threads
 returns-2 c queued =
     let l = c .before .loop in
     let a = c .before .before .before .before .args in
@@ -141,12 +137,12 @@ returns-2 c queued =
     → has (queueOf (a .threads .order) (l .k)) u && f ≡ f =
     λ f u h w. ap (λ (k : ℕ). has (queueOf (a .threads .order) k) u && f) end
     ∙ all-seen (has (p .queue) u) f (λ q. queued .waits u h ∙ w q) in
-    each-machine
-    (λ w n. (u : ℕ) → u < 16 → member n u ≡ newlyIn gs es asked w p (a .region) u)
-    (λ u h. l .inv .2 .each u h ∙ whole (onOne gs asked (p .place u)) u h (on-one-waits gs asked (p .place u)))
-    (λ u h. l .inv .3 (queued .once) .each u h
-    ∙ whole (newFirst gs es asked p (a .region) u (p .place u)) u h
-    (new-first-waits gs es asked p (a .region) u (p .place u)))
+    λ u h. (
+      l .inv .2 .each u h ∙ whole (onOne gs asked (p .place u)) u h (on-one-waits gs asked (p .place u)),
+      l .inv .3 (queued .once) .each u h
+          ∙ whole (newFirst gs es asked p (a .region) u (p .place u)) u h
+          (new-first-waits gs es asked p (a .region) u (p .place u)),
+    )
 
 pub told-spec : {M : Type 1} → statement M
 told-spec =

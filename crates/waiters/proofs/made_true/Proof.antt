@@ -1,8 +1,9 @@
--- `stepper::made_true` meets its contract: the guards that hold after the body, less those that held before it.
+-- `waiters::made_true` meets its contract: the guards that hold after the body, less those that held before it.
 use borrow.Author.Needs.{needs}
-use Rattle.stepper.specs.Slices.{becomesAt, holdsAt}
-use Rattle.stepper.proofs.made_true.Statement.{statement}
-use Rattle.stepper.proofs.made_true.Tie as tie
+use Rattle.waiters.specs.Slices.{holdsAt}
+use Rattle.waiters.specs.Told.{becomesAt}
+use Rattle.waiters.proofs.made_true.Statement.{statement}
+use Rattle.waiters.proofs.made_true.Tie as tie
 
 returns : tie.Need-returns
 unfolding becomesAt holdsAt
