@@ -60,7 +60,7 @@ module _ (file : List ℕ) (m : Monitor) (e : check file ≡ accepted m) (s : �
     unfolding plainRun tableRun runList toldBy model
     no-rechecks = same-without-rechecks (model m) (checked file m e) s k fs
 
-    -- what the table's machine accepts the plain one accepts, with the same values and places
+    -- what the table's machine accepts the plain one accepts, with the same values, places and turns
     pub accepted-by-table : (c : Config) → runList m table-machine s fs ≡ machine.accepted c
         → (d : Config) × (runList m plain-machine s fs ≡ machine.accepted d) × SamePoint (model m) d c
     unfolding plainRun tableRun runList toldBy model

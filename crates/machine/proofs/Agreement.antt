@@ -87,7 +87,7 @@ module _ (m : Monitor) (ok : Checked m) (s : ℕ) (k : m .kept s ≡ true) (fs :
   unfolding Agrees
   same-without-rechecks h = ⊎-elim (λ x. x) (λ x. absurd (h (x .0) (x .2))) (agrees m ok s k fs .same-answer)
 
-  -- what the table's machine accepts the plain one accepts, with the same values and places
+  -- what the table's machine accepts the plain one accepts, with the same values, places and turns
   pub table-accepts :
       (c : Config) → tableRun m s fs ≡ accepted c → (d : Config) × (plainRun m s fs ≡ accepted d) × SamePoint m d c
   unfolding Agrees

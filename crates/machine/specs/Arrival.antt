@@ -42,11 +42,11 @@ module _ (m : Monitor) where
     -- the line on a guard has those who wait on it, in the order of their turns, so each once (R 9.27)
     pub members : (g u : ℕ) → (has (line m p g) u ≡ true) ↔ Waits m p g u
     pub rising : (g : ℕ) → Rising (turn p) (line m p g)
-    -- at its front stands the one with the lowest turn
+    -- at its front stands the one with the lowest turn (R 9.27)
     pub front : (g u : ℕ) → Front (line m p g) u
         ↔ (Waits m p g u × ((v : ℕ) → Waits m p g v → turn p v < turn p u → ⊥))
-    -- "the earliest to begin waiting is chosen": of a set, the one whom none of it on the guard has a lower turn than
-    -- (R 9.19)
+    -- "the earliest to begin waiting is chosen": one who waits on the guard is first with respect to a set exactly if
+    -- nobody of that set who waits there has a lower turn (R 9.19)
     pub first : (n : ℕ → Bool) (g u : ℕ) → First (line m p g) n u
         ↔ (Waits m p g u × ((v : ℕ) → Waits m p g v → n v ≡ true → turn p v < turn p u → ⊥))
 
@@ -112,7 +112,7 @@ module _ (m : Monitor) where
 
 module _ (m : Monitor) (notices : Notices) where
   -- the rules lead from one point to another, and on the way the threads of a list resume on guard g, in its order, and
-  -- nobody else does
+  -- nobody else does (R 9.41)
   pub data Resuming (g : ℕ) : Config → List Frame → Config → List ℕ → Type 0 where
     no-frame : {c : Config} → Resuming g c [] c []
     resumes :
@@ -122,7 +122,7 @@ module _ (m : Monitor) (notices : Notices) where
         {c d e : Config} {f : Frame} {fs : List Frame} {us : List ℕ} → Rule m notices c f d → (Resumes m g c f → ⊥)
         → Resuming g d fs e us → Resuming g c (f ∷ fs) e us
 
-  -- every run has such a list
+  -- every run has such a list (R 9.41)
   unfoldable pub Listed : Config → Type 0
   Listed c = (g : ℕ) (fs : List Frame) (d : Config) → Rules m notices c fs d → (us : List ℕ) × Resuming g c fs d us
 

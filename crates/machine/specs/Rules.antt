@@ -1,6 +1,7 @@
 -- The published step rules 1a, 1b, 2a, 2b (source document 001, Figures 4 to 6), as document 01 narrows them and document
--- 02's E4 orders those who wait: a relation, over what states are and over whom a body notifies. At the end, states are numbers: `RulesDecided` shows
--- that the step of `Decide/Step` takes a frame exactly where this relation does. Demand 2 has them as values.
+-- 02's E4 orders those who wait: a relation, over what states are and over whom a body notifies. At the end, states are
+-- numbers: `RulesDecided` shows that the step of `Decide/Step` takes a frame exactly where this relation does. Demand 2
+-- has them as values.
 use Prim.Native.Nat.{ℕ, _+_, _<_}
 use mathlib.Core.Path.{_≡_}
 use mathlib.Core.Bool.{Bool, true, false}

@@ -10,7 +10,7 @@ use Rattle.machine.specs.Decide.Step.{judged, step, run}
 use Rattle.machine.specs.Decide.Table.{runs, someMove, everyMove, stands, unconditional, broadcast, entryOf, acts}
 use Rattle.machine.specs.Decide.Table.{entryTold, tableTold}
 use Rattle.meaning.specs.Decide.Calls.{written, place, toldBy, runningOf, runList, runFrames, runFrom, running}
-use Rattle.meaning.specs.Calls.{recordOf}
+use Rattle.meaning.specs.Calls.{recordOf, plain-machine, table-machine, Running, ran as ran-to, refused-file, not-run}
 use Rattle.meaning.specs.Bits.{eachFrom, bits, ones}
 use Rattle.meaning.specs.Accepted.{opens, closes}
 use Rattle.meaning.specs.Runs.{regionsOf}
@@ -27,10 +27,10 @@ use Rattle.meaning.specs.Answer.{answer, accepted, refused}
 use Rattle.meaning.specs.Choice.{Fate, chosen, false-at-start, broken as broken-by}
 use Rattle.meaning.specs.Model.{sameLexeme, sameLexemes, sameGuard, placeIn, guardsOf, beginsIn, goesOnIn}
 use Rattle.meaning.specs.Model.{noGuard, noRegion, numberAfter, regions, guards, region, guardOf, holds, kept}
-use Rattle.meaning.specs.Model.{after, follows, model}
+use Rattle.meaning.specs.Model.{after, follows, vars, model}
 use Rattle.meaning.specs.Hex.{hexDigit, hex2, hexBool}
 use Rattle.meaning.specs.Decide.Table.{entryLine, forEach, tableOf}
-use Rattle.meaning.specs.State.{size, count, stateAt, numberOf, starts}
+use Rattle.meaning.specs.State.{size, count, stateAt, numberOf, starts, startNumber}
 use Rattle.meaning.specs.SixteenBits.{wrapped, weightIn, share, numberIn, restIn, valueIn}
 use Rattle.meaning.specs.Kept.{keptAt}
 use Rattle.meaning.specs.Decide.Frames.{linesFrom, isHex, hexValue, allHex, pairAt, isFrame, frameOf, prepend}
@@ -62,16 +62,35 @@ use lib.IntN.{ℤ, pos, _+ℤ_, natAbs}
 use lib.ListN.{length, replicate, getD}
 use mathlib.Core.List.{List, [], _∷_, _++_, map}
 
--- What is run: `placer` on a file, `runner` on a file and a trace, one behind the other, the points of a trace from a
--- state in a buffer of so many bytes, the choice among a file's tries, how many of its pairs are touched, or some of
--- its states by their numbers
+-- What is run: `placer` on a file, `runner` on a file and a trace, one behind the other, both machines' turns at the end of
+-- a trace, its points from a state in a buffer of so many bytes, the choice among a file's tries, how many of its pairs
+-- are touched, or some of its states by their numbers
 pub data Case : Type 0 where
   placing : List ℕ → Case
   running-of : List ℕ → List ℕ → Case
-  whole : List ℕ → List ℕ → Case
+  whole turns-of : List ℕ → List ℕ → Case
   points-of : List ℕ → List ℕ → ℕ → ℕ → Case
   tries-of pairs-of : List ℕ → Case
   numbers-of : List ℕ → List ℕ → Case
+
+-- the sixteen turns at the end of a run in two digits each, or the refusal's line
+unfoldable pub turnDigits : List ℕ → List ℕ
+turnDigits [] = []
+turnDigits (n ∷ ns) = hex2 n ++ turnDigits ns
+
+unfoldable pub turnsLine : Running → List ℕ
+turnsLine (ran-to r) = turnDigits (r .turns) ++ (10 ∷ [])
+turnsLine (refused-file a) = refusalLine a
+turnsLine (not-run a) = refusalLine a
+
+-- both machines' from the start values
+unfoldable pub turnsLines : List ℕ → List ℕ → List ℕ
+turnsLines file trace =
+    elim (check file) [
+      | accepted m ↦ turnsLine (runFrom m plain-machine (startNumber (vars m)) trace)
+          ++ turnsLine (runFrom m table-machine (startNumber (vars m)) trace)
+      | refused a ↦ refusalLine a
+    ]
 
 -- what becomes of a try, and of all tries of an accepted file behind the chosen bits and their count, in lines of ten digits
 unfoldable pub fateLine : Fate → List ℕ
@@ -119,10 +138,11 @@ numbersLines file ns =
     ]
 
 unfoldable pub printing : Case → List ℕ
-unfolding any threads put without isDue isWaiting turnAt turn those joined-behind left-out turn-in beginWait leave allIdle onGuard waitsOn line atFront firstIn next firstNotified own plainTold mayBeAt may ran waited rechecked allowed act judged step run runs someMove everyMove stands unconditional broadcast entryOf acts entryTold tableTold written place toldBy eachFrom bits ones recordOf runningOf runList runFrames runFrom running opens closes tally crowded placeOf leftOf pastLimit member misnamed placesOf inByte goodRange illRanged regionsOf keptAfter breaks firstFrom firstWhere broken noTry endsFalse isNone inSet tryAt eachTry allHold binds breaksTry firstBreak pass passes trueAtStart chosenTries chosenBits fateFrom fateOf fateLine triesLines atomNames termsName exprNames condNames conjNames simpleNames blockAssigns stmtAssigns anyVar sumOf touched pairsOf pairsLine wrapped weightIn share numberIn restIn valueIn stateLine heldAs stateLines numbersLines checkMeaning checkTokens check hex4 refusalLine placeByte valueDigits placeDigits recordLine runLine machineLine placer runner valueBytes placeBytes turnBytes setBytes sharedBytes noticeBytes noticesAt plainPart tablePart turnPart pointAt stopAnswer pointCount listPoints framePoints pointsFrom pointRoom pointsOf sameLexeme sameLexemes sameGuard placeIn guardsOf beginsIn goesOnIn noGuard noRegion numberAfter regions guards region guardOf holds kept after follows model hexDigit hex2 hexBool entryLine forEach tableOf size count stateAt numberOf starts linesFrom isHex hexValue allHex pairAt isFrame frameOf prepend framesFrom framesOf intOf negative less compares valueOf inRange assigned atomValue joined termsValue exprValue truth conjTruth simpleTruth andThen runBlock runStmt outcome keptAt bytes between blank letter digit wordByte leading decimal sameBytes startsWith onwards _>>=_ give begins rest choose expect readName readNumber readMany readSome readInt readAtom readSign readTerm isSign readExpr readComparison readCond readConj readSimple readBlock readStmt readRegion readMethod readVar readTry atEnd readMonitor read keywords marks wordOf atMost markOf scan token-prepend tokensFrom tokenize lexemes markNumber keywordNumber isMark isKey isName spellInt spellAtom signMark spellTerm each spellExpr comparisonMark spellConstant spellCond spellConj spellSimple spellBlock spellStmt spellRegion spellMethod spellVar spellTry spell InGrammar Viable
+unfolding any threads put without isDue isWaiting turnAt turn those joined-behind left-out turn-in beginWait leave allIdle onGuard waitsOn line atFront firstIn next firstNotified own plainTold mayBeAt may ran waited rechecked allowed act judged step run runs someMove everyMove stands unconditional broadcast entryOf acts entryTold tableTold written place toldBy eachFrom bits ones recordOf runningOf runList runFrames runFrom running opens closes tally crowded placeOf leftOf pastLimit member misnamed placesOf inByte goodRange illRanged regionsOf keptAfter breaks firstFrom firstWhere broken noTry endsFalse isNone inSet tryAt eachTry allHold binds breaksTry firstBreak pass passes trueAtStart chosenTries chosenBits fateFrom fateOf fateLine triesLines turnDigits turnsLine turnsLines atomNames termsName exprNames condNames conjNames simpleNames blockAssigns stmtAssigns anyVar sumOf touched pairsOf pairsLine wrapped weightIn share numberIn restIn valueIn stateLine heldAs stateLines numbersLines checkMeaning checkTokens check hex4 refusalLine placeByte valueDigits placeDigits recordLine runLine machineLine placer runner valueBytes placeBytes turnBytes setBytes sharedBytes noticeBytes noticesAt plainPart tablePart turnPart pointAt stopAnswer pointCount listPoints framePoints pointsFrom pointRoom pointsOf sameLexeme sameLexemes sameGuard placeIn guardsOf beginsIn goesOnIn noGuard noRegion numberAfter regions guards region guardOf holds kept after follows model hexDigit hex2 hexBool entryLine forEach tableOf size count stateAt numberOf starts linesFrom isHex hexValue allHex pairAt isFrame frameOf prepend framesFrom framesOf intOf negative less compares valueOf inRange assigned atomValue joined termsValue exprValue truth conjTruth simpleTruth andThen runBlock runStmt outcome keptAt bytes between blank letter digit wordByte leading decimal sameBytes startsWith onwards _>>=_ give begins rest choose expect readName readNumber readMany readSome readInt readAtom readSign readTerm isSign readExpr readComparison readCond readConj readSimple readBlock readStmt readRegion readMethod readVar readTry atEnd readMonitor read keywords marks wordOf atMost markOf scan token-prepend tokensFrom tokenize lexemes markNumber keywordNumber isMark isKey isName spellInt spellAtom signMark spellTerm each spellExpr comparisonMark spellConstant spellCond spellConj spellSimple spellBlock spellStmt spellRegion spellMethod spellVar spellTry spell InGrammar Viable
 printing (placing file) = placer file
 printing (running-of file trace) = runner file trace
 printing (whole file trace) = placer file ++ runner file trace
+printing (turns-of file trace) = turnsLines file trace
 printing (points-of file trace s room) =
     let p = pointsOf file trace s (replicate room 165) in
     refusalLine (p .plain) ++ (refusalLine (p .table) ++ (p .count ∷ p .buffer))

@@ -45,14 +45,16 @@ pub record Queued (t : Threads) : Type 0 where
   pub waits :
       (u : ℕ) → u < machine.threads → has (queueOf (t .order) (t .waiting)) u ≡ isWaiting (placesOf (t .each) u)
 
--- the threads with thread t replaced
+-- the turns with that of thread t replaced
 unfoldable pub putTurn : (ℕ → ℕ) → ℕ → ℕ → ℕ → ℕ
 putTurn p t n u = elim (eqb u t) [ true ↦ n | false ↦ p u ]
 
+-- the threads with the place and the turn of thread t replaced
 pub record Puts (before : List Thread) (t : ℕ) (place : machine.Place) (n : ℕ) (after : List Thread) : Type 0 where
   pub places : (u : ℕ) → u < machine.threads → placesOf after u ≡ put (placesOf before) t place u
   pub turns : (u : ℕ) → u < machine.threads → turnsOf after u ≡ putTurn (turnsOf before) t n u
 
--- a place in the queue where it is from one on and below another, and else what was held
+-- the turn held while turns are written anew: a thread's place in the queue if that place is among those gone over, else
+-- what was held before
 unfoldable pub between : ℕ → ℕ → ℕ → ℕ → ℕ
 between from to place held = elim (leb from place && ltb place to) [ true ↦ place | false ↦ held ]

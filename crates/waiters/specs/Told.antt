@@ -24,13 +24,14 @@ onOne gs some idle = false
 onOne gs some (waiting w) = some (guardAt gs w)
 onOne gs some (due w) = false
 
--- and a region's entry tells the waiter there, where the guards that some thread ahead waits on are those of a set
+-- whether a region's entry tells the waiter at a place: its guard is broadcast to, or nobody ahead waits on it, where `met` are
+-- the guards that those ahead wait on
 unfoldable pub toldBehind : List ℕ → List ℕ → ℕ → ℕ → Place → Bool
 toldBehind gs es r met idle = false
 toldBehind gs es r met (waiting w) = broadcastAt es r (guardAt gs w) || not (member met (guardAt gs w))
 toldBehind gs es r met (due w) = false
 
--- by the table's machine the first on such a guard, or all
+-- the same by the queue: thread u waits on one of some guards, and is first on it or the guard is broadcast to
 unfoldable pub newFirst : List ℕ → List ℕ → (ℕ → Bool) → Threads → ℕ → ℕ → Place → Bool
 newFirst gs es some p r u idle = false
 newFirst gs es some p r u (waiting w) =

@@ -1,5 +1,6 @@
 //! Cases about the order in which waiters go, worked out by hand (document 02, E4): a program that
-//! goes by number, loses an order or counts turns otherwise prints something else.
+//! goes by number or loses an order prints something else, and one that counts turns otherwise has
+//! other turns.
 //!
 //! How a case ends is told as text: a refusal as `14 at 3`; else the values, then the waiters by
 //! arrival, each with its region, as in `0,1: 5@0 3@1`. Where the machines differ, the plain one's
@@ -322,8 +323,8 @@ pub fn is_small(case: &Case) -> bool {
 
 /// The small ones, as text: of each its number and what it is there for; the file; the frames;
 /// what `placer` prints; what `runner` prints; the sixteen turns at the end of the plain machine's
-/// run, two digits each, nothing if it is refused. Lists have blanks between, and an empty line
-/// ends a case.
+/// run and of the table's, two digits each, `-` if it is refused. Lists have blanks between, and an
+/// empty line ends a case.
 pub fn small_list() -> String {
     let mut text = String::new();
     let small = queued().into_iter().filter(|queued| is_small(&queued.case));
@@ -333,13 +334,14 @@ pub fn small_list() -> String {
         text += &format!("trace: {}\n", on_a_line(&trace));
         text += &format!("placer: {}\n", on_a_line(&placer(&monitor)));
         text += &format!("runner: {}\n", on_a_line(&runner(&monitor, &trace)));
-        text += &format!("turns: {}\n\n", turns(&monitor, &trace));
+        let [plain, table] = [Machine::Plain, Machine::Table].map(|machine| turns(&monitor, &trace, machine));
+        text += &format!("turns: {plain} {table}\n\n");
     }
     text
 }
 
-fn turns(file: &[u8], trace: &[u8]) -> String {
+fn turns(file: &[u8], trace: &[u8], machine: Machine) -> String {
     let start = check(file).map_or(0, |monitor| monitor.start_number());
-    let turns = run(file, trace, start, Machine::Plain).map(|record| record.turns);
-    turns.map_or(String::new(), |turns| turns.map(|turn| format!("{turn:02X}")).concat())
+    let turns = run(file, trace, start, machine).map(|record| record.turns);
+    turns.map_or("-".to_string(), |turns| turns.map(|turn| format!("{turn:02X}")).concat())
 }
