@@ -181,20 +181,22 @@ fn cases_for_queues_are_listed_and_written() {
     let list = command(&["queue-cases"], b"");
     let blocks: Vec<&str> = list.split("\n\n").collect();
     let line = format!("008001{}", "FF".repeat(15));
+    let turns = "00".repeat(16);
     let lines = [
         "case 0: example 4",
         &format!("file: {BOX}"),
         "trace: 010100 000100 020001 010101",
         "placer: 00010100 01000100",
         &format!("runner: {line} {line}"),
-        &format!("turns: {}", "00".repeat(16)),
+        &format!("turns: {turns} {turns}"),
     ];
     assert_eq!(blocks[0].lines().collect::<Vec<&str>>(), lines);
     // Of a refused run there are none.
-    assert!(blocks[1].ends_with("runner: 0E00030000 0E00030000\nturns: "));
+    assert!(blocks[1].ends_with("runner: 0E00030000 0E00030000\nturns: - -"));
     // Threads 5, 1 and 0 wait, in this order.
     let four = blocks.iter().find(|block| block.contains("turns over both guards")).unwrap();
-    assert!(four.ends_with(&format!("\nturns: 0201{}", "00".repeat(14))));
+    let turns = format!("0201{}", "00".repeat(14));
+    assert!(four.ends_with(&format!("\nturns: {turns} {turns}")));
     assert!(list.matches("\nturns: ").count() >= 14);
     let at = directory("queued");
     command(&["queue-cases", at.to_str().unwrap()], b"");

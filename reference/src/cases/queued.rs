@@ -334,7 +334,8 @@ pub fn small_list() -> String {
         text += &format!("trace: {}\n", on_a_line(&trace));
         text += &format!("placer: {}\n", on_a_line(&placer(&monitor)));
         text += &format!("runner: {}\n", on_a_line(&runner(&monitor, &trace)));
-        let [plain, table] = [Machine::Plain, Machine::Table].map(|machine| turns(&monitor, &trace, machine));
+        let [plain, table] =
+            [Machine::Plain, Machine::Table].map(|machine| turns(&monitor, &trace, machine));
         text += &format!("turns: {plain} {table}\n\n");
     }
     text
