@@ -40,11 +40,13 @@ extern "C" {
 #define DAMSONYET_STACK 655360
 /* Values cross with 128 added. */
 #define DAMSONYET_VALUE(held) ((int)(held) - 128)
-/* In `after`: the region's body assigns outside a range, or does not run at the state. */
+/* In `after`: the region's body assigns outside a range or meets a remainder without a value; or it does not run at the state. */
 #define DAMSONYET_FAULT 65534
 #define DAMSONYET_NEVER 65535
 
-/* An answer: 0 for accepted, or the number of a refusal, and its places, 0 where unused (docs/GUIDE.md has a table of them). */
+/* An answer: 0 for accepted, or the number of a refusal, and its places, 0 where unused (docs/GUIDE.md has a table of them). A file's refusals
+ * are 1 to 9 and 15, which comes between 7 and 8: the byte of the first `mod` in keep, a try or a guard that has no value in some state, as
+ * its divisor is below 1 there. */
 typedef struct {
     uint8_t number;
     size_t first;
@@ -118,7 +120,7 @@ typedef struct {
     size_t number;
 } damsonyet_region;
 
-/* What a file has, and where. It is told of every file that the checks 1 to 7 pass, so beside 0, 8 and 9; beside 1 to 7 all is 0 but the
+/* What a file has, and where. It is told of every file that the checks 1 to 7 and 15 pass, so beside 0, 8 and 9; else all is 0 but the
  * answer. `start` is the number of the state at the start values; `title` is the monitor's name; `keep` is what stands between `keep` and
  * its semicolon, and `tried[k]` what stands between the k-th `try` and its own. Slots behind the counts are 0. */
 typedef struct {
@@ -138,13 +140,13 @@ typedef struct {
     damsonyet_region region[DAMSONYET_REGIONS];
 } damsonyet_outline;
 
-/* What becomes of the tries. It is told of every file that the checks 1 to 8 pass, so beside 0 and 9 (`known`); beside 1 to 8 all is 0 but
- * the answer. Try i is chosen where bit i of `chosen` is set: the kept condition is keep and the chosen tries together. Any other is false at
- * the start values where `passes[i]` is 0; else it is broken, in pass `passes[i]` (1 to 16), by the body of region `regions[i]` from state
- * `states[i]`. The passes begin with all tries that hold at the start values. In a pass every try is dropped that some region's body makes
- * false from some state where keep and all tries that no earlier pass dropped hold, with the guard true and the body in range; told are the
- * lowest region and then the lowest state that do so. Passes go on until one drops nothing. Slots of tries that are not broken, and those
- * behind the count, are 0. */
+/* What becomes of the tries. It is told of every file that the checks 1 to 8 and 15 pass, so beside 0 and 9 (`known`); else all is 0 but
+ * the answer. Try i is chosen where bit i of `chosen` is set: the kept condition is keep and the chosen tries together. Any other is false
+ * at the start values where `passes[i]` is 0; else it is broken, in pass `passes[i]` (1 to 16), by the body of region `regions[i]` from
+ * state `states[i]`. The passes begin with all tries that hold at the start values. In a pass every try is dropped that some region's body
+ * makes false from some state where keep and all tries that no earlier pass dropped hold, with the guard true and the body without a fault
+ * (DAMSONYET_FAULT); told are the lowest region and then the lowest state that do so. Passes go on until one drops nothing. Slots of tries
+ * that are not broken, and those behind the count, are 0. */
 typedef struct {
     damsonyet_answer answer;
     bool known;
@@ -155,11 +157,11 @@ typedef struct {
     uint16_t states[DAMSONYET_TRIES];
 } damsonyet_fates;
 
-/* A state, by its number. It is told beside 0 and 9. `known`: there is a state with this number; where there is none, and beside 1 to 8,
- * it is false and all that follows is 0. `kept`: the kept condition (keep and the chosen tries) holds there. Values as in damsonyet_running;
- * `holds`: bit g where guard g holds; `after`: for each region the number of the state after its body; DAMSONYET_FAULT where the body assigns
- * outside a range; DAMSONYET_NEVER where it does not run (the state is not kept, or the guard does not hold) and in the slots behind the
- * regions. */
+/* A state, by its number. It is told beside 0 and 9. `known`: there is a state with this number; where there is none, and beside other
+ * answers, it is false and all that follows is 0. `kept`: the kept condition (keep and the chosen tries) holds there. Values as in
+ * damsonyet_running; `holds`: bit g where guard g holds; `after`: for each region the number of the state after its body; DAMSONYET_FAULT
+ * where the body assigns outside a range or meets a `mod` with a divisor below 1; DAMSONYET_NEVER where it does not run (the state is not
+ * kept, or the guard does not hold) and in the slots behind the regions. */
 typedef struct {
     damsonyet_answer answer;
     bool known;
@@ -176,18 +178,18 @@ typedef struct {
 } damsonyet_values;
 
 /* A state's number by its values. It is told beside 0, 8 and 9. `known`: each value is in its variable's range; where one is not, and
- * beside 1 to 7, it is false and the number 0. */
+ * beside other answers, it is false and the number 0. */
 typedef struct {
     damsonyet_answer answer;
     bool known;
     size_t number;
 } damsonyet_numbered;
 
-/* The verdict of a file: 0, or a refusal from 1 to 9 with its places. */
+/* The verdict of a file: 0, or a refusal, 1 to 9 or 15, with its places. */
 damsonyet_answer damsonyet_check(const uint8_t *file, size_t file_len);
 
-/* The table of a file from byte 0 of a buffer, 9 bytes a line, its chosen tries and the count of its touched pairs; refused (1 to 9, or 10
- * where the buffer is too short), not a byte of the buffer changes. DAMSONYET_OUTPUT_BYTES are always enough. */
+/* The table of a file from byte 0 of a buffer, 9 bytes a line, its chosen tries and the count of its touched pairs; refused (1 to 9, 15, or
+ * 10 where the buffer is too short), not a byte of the buffer changes. DAMSONYET_OUTPUT_BYTES are always enough. */
 damsonyet_placing damsonyet_place(const uint8_t *file, size_t file_len, uint8_t *table, size_t table_len);
 
 /* A run of a trace from a start state on the plain machine or, where `table` is true, on the table's: the file's refusals, 11 to 14, or 0. */
@@ -206,8 +208,8 @@ size_t damsonyet_runner_lines(const uint8_t *file, size_t file_len, const uint8_
                               uint8_t out[DAMSONYET_OUTPUT_BYTES]);
 
 /* Every point of both machines' runs from byte 0 of a buffer of DAMSONYET_POINTS_BYTES(trace_len) bytes, up to where the plain machine stops:
- * point 0 is the start, point k is behind frame k - 1. Refused (1 to 9, 10 where the buffer is too short, 11, 12), not a byte of the buffer
- * changes; at 13 and 14 the points before the refused frame are there. The bytes of a point:
+ * point 0 is the start, point k is behind frame k - 1. Refused (1 to 9, 15, 10 where the buffer is too short, 11, 12), not a byte of the
+ * buffer changes; at 13 and 14 the points before the refused frame are there. The bytes of a point:
  *    0   6  values, each with 128 added
  *    6  16  places, as in damsonyet_running
  *   22   2  which guards hold (two bytes of a set: low byte first)

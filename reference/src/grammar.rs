@@ -76,13 +76,29 @@ pub enum Comparison {
     AtLeast,
 }
 
-/// The operands from left to right, each with whether it is taken off.
-pub type Expression = Vec<(Joined, Operand)>;
+/// The terms from left to right, each with whether it is taken off.
+pub type Expression = Vec<(Joined, Term)>;
 
 #[derive(Clone, Copy, Debug, PartialEq, Eq)]
 pub enum Joined {
     Plus,
     Minus,
+}
+
+#[derive(Clone, Debug)]
+pub enum Term {
+    Operand(Operand),
+    Remainder(Remainder),
+}
+
+/// Two operands with `mod` between (document 02, E5). It binds tighter than `+` and `-`, and a
+/// second `mod` cannot follow.
+#[derive(Clone, Debug)]
+pub struct Remainder {
+    pub left: Operand,
+    /// The byte of `mod`.
+    pub place: usize,
+    pub divisor: Operand,
 }
 
 #[derive(Clone, Debug)]
@@ -300,15 +316,25 @@ impl Reader<'_> {
     }
 
     fn expression(&mut self) -> Result<Expression, Answer> {
-        let mut operands = vec![(Joined::Plus, self.operand()?)];
+        let mut terms = vec![(Joined::Plus, self.term()?)];
         loop {
             if self.accept("+") {
-                operands.push((Joined::Plus, self.operand()?));
+                terms.push((Joined::Plus, self.term()?));
             } else if self.accept("-") {
-                operands.push((Joined::Minus, self.operand()?));
+                terms.push((Joined::Minus, self.term()?));
             } else {
-                return Ok(operands);
+                return Ok(terms);
             }
+        }
+    }
+
+    fn term(&mut self) -> Result<Term, Answer> {
+        let left = self.operand()?;
+        match self.expect("mod") {
+            Ok(Token { place, .. }) => {
+                Ok(Term::Remainder(Remainder { left, place, divisor: self.operand()? }))
+            }
+            Err(_) => Ok(Term::Operand(left)),
         }
     }
 

@@ -13,8 +13,9 @@ pub mod limits;
 pub mod names;
 pub mod ranges;
 
-// What the file means, which tries are chosen, and the refusals 8 and 9.
+// What the file means, which tries are chosen, and the refusals 15, 8 and 9.
 pub mod evaluation;
+pub mod remainders;
 pub mod monitor;
 pub mod tries;
 pub mod check;

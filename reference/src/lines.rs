@@ -69,8 +69,8 @@ pub fn replay_points(file: &[u8], trace: &[u8]) -> Vec<u8> {
 }
 
 /// The lines that `replay` prints about tries: of an accepted file 00, the chosen ones and
-/// how many tries there are, of a refused one its refusal; and of a file that the checks 1
-/// to 8 pass, one line for each try.
+/// how many tries there are, of a refused one its refusal; and of a file that all checks
+/// up to 8 pass, one line for each try.
 pub fn replay_tries(file: &[u8]) -> Vec<u8> {
     let (verdict, fates) = tried(file);
     let fates = fates.unwrap_or_default();

@@ -8,6 +8,7 @@ use std::process::ExitCode;
 use std::str::FromStr;
 
 use reference::cases::counted::{self, counted};
+use reference::cases::divided::{self, divided};
 use reference::cases::made::{made, small_list};
 use reference::cases::numbered::{self, numbered};
 use reference::cases::queued::{self, queued};
@@ -28,6 +29,7 @@ const USAGE: &str = "usage:
   reference pairs-cases [DIR]
   reference numbers-cases [DIR]
   reference queue-cases [DIR]
+  reference remainders-cases [DIR]
   reference tally DIR
   reference hostile-cases SEED COUNT DIR
   reference hostile SEED COUNT WORKERS PROGRAMS KEPT [UNDER..]";
@@ -52,6 +54,8 @@ fn main() -> ExitCode {
         ["numbers-cases", directory] => numbers_cases(Path::new(directory)),
         ["queue-cases"] => io::stdout().write_all(queued::small_list().as_bytes()),
         ["queue-cases", directory] => queue_cases(Path::new(directory)),
+        ["remainders-cases"] => io::stdout().write_all(divided::small_list().as_bytes()),
+        ["remainders-cases", directory] => remainders_cases(Path::new(directory)),
         ["tally", directory] => tally(Path::new(directory)),
         ["hostile-cases", seed, count, directory] => hostile_cases(seed, count, directory),
         ["hostile", seed, count, workers, programs, kept, ref under @ ..] => {
@@ -116,6 +120,11 @@ fn numbers_cases(directory: &Path) -> io::Result<()> {
 /// Writes all cases about the order of waiters.
 fn queue_cases(directory: &Path) -> io::Result<()> {
     queued().iter().enumerate().try_for_each(|(number, one)| one.case.write(directory, number))
+}
+
+/// Writes all cases about remainders.
+fn remainders_cases(directory: &Path) -> io::Result<()> {
+    divided().iter().enumerate().try_for_each(|(number, one)| one.case.write(directory, number))
 }
 
 fn tally(directory: &Path) -> io::Result<()> {

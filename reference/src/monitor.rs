@@ -86,11 +86,16 @@ impl Monitor {
     }
 
     pub fn keep_holds(&self, values: &[i64]) -> bool {
-        evaluation::holds(&self.keep, &self.variables, values)
+        self.holds(&self.keep, values)
     }
 
     pub fn try_holds(&self, number: usize, values: &[i64]) -> bool {
-        evaluation::holds(&self.tries[number], &self.variables, values)
+        self.holds(&self.tries[number], values)
+    }
+
+    /// After refusal 15 keep, tries and guards have a value in every state.
+    fn holds(&self, condition: &Condition, values: &[i64]) -> bool {
+        evaluation::holds(condition, &self.variables, values).expect("a condition with a value")
     }
 
     /// The chosen tries as sixteen bits, the first try the lowest.
@@ -100,13 +105,15 @@ impl Monitor {
     }
 
     pub fn guard_holds(&self, guard: usize, values: &[i64]) -> bool {
-        evaluation::holds(&self.guards[guard], &self.variables, values)
+        self.holds(&self.guards[guard], values)
     }
 
-    /// The values after a region's body, or none if it assigns outside a range.
+    /// The values after a region's body, or none if it assigns outside a range or meets what
+    /// has no value.
     pub fn after_body(&self, region: usize, values: &[i64]) -> Option<Vec<i64>> {
         let mut after = values.to_vec();
-        evaluation::run(&self.regions[region].body, &self.variables, &mut after).then_some(after)
+        evaluation::run(&self.regions[region].body, &self.variables, &mut after)?;
+        Some(after)
     }
 
     /// The states that meet the kept condition, lowest number first, with their

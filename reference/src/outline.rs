@@ -1,10 +1,10 @@
 //! What a file has and where, and its states: the calls `outline`, `state_at` and
 //! `number_of`, which are not in document 01. Their text:
 //!
-//! - Each takes a file and gives its verdict, 0 or 1 to 9; `state_at` also takes a number,
-//!   `number_of` also six numbers.
-//! - `outline` tells of every file that the checks 1 to 7 pass, so beside 0, 8 and 9, and
-//!   nothing beside 1 to 7: how many variables, methods, regions, guards and states there
+//! - Each takes a file and gives its verdict, 0, 1 to 9 or 15; `state_at` also takes a
+//!   number, `number_of` also six numbers.
+//! - `outline` tells of every file that the checks 1 to 7 and 15 pass, so beside 0, 8 and 9,
+//!   and nothing beside the others: how many variables, methods, regions, guards and states there
 //!   are; the number of the state at the start values; where the monitor's name, the
 //!   condition of `keep` and that of each `try` stand; and each variable, method and
 //!   region, in file order.
@@ -18,25 +18,25 @@
 //! - A variable is told by its name, start value, lowest and highest; a method by its name
 //!   and the number of its first region, which is how many regions the methods before it
 //!   have; a region by its guard, its body and its guard's number.
-//! - `state_at` tells the state with a number, of every file that the checks 1 to 8 pass,
+//! - `state_at` tells the state with a number, of every file that all checks up to 8 pass,
 //!   so beside 0 and 9: whether the kept condition (keep and the chosen tries) holds
 //!   there, the values, the guards that hold, and what the body of each region does from
 //!   there: it does not run, since the kept condition or its guard does not hold there; it
 //!   is a fault; or it ends at the state with some number. Where no state has the number,
 //!   nothing is told.
 //! - `number_of` tells the number of the state with some values, of every file that the
-//!   checks 1 to 7 pass, where each value is in its variable's range. The numbers behind
+//!   checks 1 to 7 and 15 pass, where each value is in its variable's range. The numbers behind
 //!   the variables are not read.
 
 use std::ops::Range;
 
 use crate::answer::Answer;
-use crate::check::{check, check_to_8};
+use crate::check::{check, check_to_15, check_to_8};
+use crate::grammar;
 use crate::limits::MOST_VARIABLES;
 use crate::monitor::Monitor;
 use crate::ranges::state_number;
-use crate::tokens::{tokens, Token};
-use crate::{grammar, limits, names, ranges};
+use crate::tokens::Token;
 
 /// The verdict of a file, and what is told beside it.
 pub type Told<T> = (Result<(), Answer>, Option<T>);
@@ -93,7 +93,7 @@ pub struct State {
 pub enum After {
     /// The body does not run.
     Never,
-    /// It assigns outside a range.
+    /// It assigns outside a range, or meets a missing value.
     Fault,
     /// It ends at the state with this number.
     Ends(usize),
@@ -101,7 +101,7 @@ pub enum After {
 
 /// What a file has, and where.
 pub fn outline(file: &[u8]) -> Told<Outline> {
-    let told = passes_7(file).map(|(tokens, monitor)| outline_of(&tokens, &monitor));
+    let told = passes_15(file).map(|(tokens, monitor)| outline_of(&tokens, &monitor));
     (verdict(file), told)
 }
 
@@ -116,7 +116,7 @@ pub fn state_at(file: &[u8], number: usize) -> Told<State> {
 
 /// The number of the state with these values.
 pub fn number_of(file: &[u8], values: [i64; MOST_VARIABLES]) -> Told<usize> {
-    let told = passes_7(file).and_then(|(_, monitor)| {
+    let told = passes_15(file).and_then(|(_, monitor)| {
         let variables = &monitor.variables;
         let in_range = variables.iter().zip(values).all(|(v, value)| v.in_range(value));
         in_range.then(|| state_number(variables, &values[..variables.len()]))
@@ -128,15 +128,9 @@ fn verdict(file: &[u8]) -> Result<(), Answer> {
     check(file).map(|_| ())
 }
 
-/// The tokens and the monitor of a file that the checks 1 to 7 pass.
-fn passes_7(file: &[u8]) -> Option<(Vec<Token>, Monitor)> {
-    limits::bytes(file).ok()?;
-    let tokens = tokens(file).ok()?;
-    limits::tokens_and_depth(&tokens).ok()?;
-    let tree = grammar::read(&tokens, file.len()).ok()?;
-    limits::declarations(&tokens).ok()?;
-    names::names(&tokens).ok()?;
-    ranges::ranges(&tree.variables).ok()?;
+/// The tokens and the monitor of a file that the checks 1 to 7 and 15 pass.
+fn passes_15(file: &[u8]) -> Option<(Vec<Token>, Monitor)> {
+    let (tokens, tree) = check_to_15(file).ok()?;
     Some((tokens, Monitor::of(tree)))
 }
 

@@ -2,14 +2,14 @@
 //!
 //! A pair is touched when the body assigns at least one of the variables that the guard names.
 //! Only the text counts, not the values: an assignment counts wherever it stands in the body,
-//! reached or not, and a name wherever it stands in the guard. All regions go with all guards, a
-//! region's own guard included.
+//! reached or not, and a name wherever it stands in the guard, beside `mod` too. All regions go
+//! with all guards, a region's own guard included.
 //!
 //! What is not touched has no entry, since the body changes nothing that the guard asks for.
 //! `entries` does not go by that: it goes through the states of every pair, and what it finds is
 //! laid beside this.
 
-use crate::grammar::{Block, Condition, Name, Operand, Statement};
+use crate::grammar::{Block, Condition, Name, Operand, Statement, Term};
 use crate::monitor::Monitor;
 
 /// How many pairs are touched.
@@ -50,12 +50,20 @@ fn named(condition: &Condition) -> Vec<&Name> {
         Condition::Not(part) => named(part),
         Condition::Constant(_) => Vec::new(),
         Condition::Compared { left, right, .. } => {
-            let operands = left.iter().chain(right).map(|(_, operand)| operand);
+            let operands = left.iter().chain(right).flat_map(|(_, term)| operands(term));
             let names = operands.filter_map(|operand| match operand {
                 Operand::Variable(name) => Some(name),
                 Operand::Integer(_) => None,
             });
             names.collect()
         }
+    }
+}
+
+/// What stands in a term, on both sides of `mod`.
+fn operands(term: &Term) -> Vec<&Operand> {
+    match term {
+        Term::Operand(operand) => vec![operand],
+        Term::Remainder(remainder) => vec![&remainder.left, &remainder.divisor],
     }
 }

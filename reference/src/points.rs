@@ -3,10 +3,10 @@
 //! - It takes a file, a trace, the number of a start state and a lent buffer, runs
 //!   both machines from that state with all threads idle, and gives both answers,
 //!   how many points it wrote, and the points in the buffer from byte 0.
-//! - Order of checks: 1 to 9; then 10 (places 0), the buffer is shorter than 49
+//! - Order of checks: those of the file; then 10 (places 0), the buffer is shorter than 49
 //!   times one more than the trace's length divided by 7, rounded down; then 11; then
-//!   12 over the whole trace; then 13 and 14 frame by frame. An answer of 1 to 12 is
-//!   that of both machines; then no byte changes and the count is 0.
+//!   12 over the whole trace; then 13 and 14 frame by frame. An answer of 1 to 12 or 15
+//!   is that of both machines; then no byte changes and the count is 0.
 //! - Written are the points 0, 1, .. up to where the plain machine stops: n + 1 if it
 //!   accepts all n frames, k + 1 if it refuses frame k. The bytes behind are kept.
 //! - A point's bytes: 0 to 5 each variable's value plus 128, and 128 in the slots without
@@ -65,7 +65,7 @@ pub fn needed(trace_length: usize) -> usize {
     POINT * (trace_length / 7 + 1)
 }
 
-/// What both machines run on, or the refusal of both, 1 to 12.
+/// What both machines run on, or the refusal of both, 1 to 12 or 15.
 fn checked(
     file: &[u8],
     trace: &[u8],

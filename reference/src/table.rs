@@ -55,9 +55,9 @@ fn moves(monitor: &Monitor, kept: &[(usize, Vec<i64>)], region: usize) -> Vec<Mo
 }
 
 /// The values after a body that starts in a kept state with its guard true. No
-/// accepted file leaves a range from there (refusal 9).
+/// accepted file has a fault from there (refusal 9).
 pub fn after(monitor: &Monitor, region: usize, values: &[i64]) -> Vec<i64> {
-    monitor.after_body(region, values).expect("a checked body stays in range")
+    monitor.after_body(region, values).expect("a checked body has no fault")
 }
 
 /// A guard is signalled when every region having it (not only one) leaves it

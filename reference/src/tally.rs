@@ -26,7 +26,7 @@ pub fn tally(directory: &Path) -> io::Result<String> {
 pub struct Tally {
     pub cases: usize,
     /// Cases in which a refusal of this number is printed.
-    pub refused: [usize; 15],
+    pub refused: [usize; 16],
     /// Cases that both machines accept.
     pub accepted: usize,
     /// Those of them with at least three frames, and some body that ran.

@@ -5,8 +5,20 @@ use crate::answer::Answer;
 pub const LONGEST_WORD: usize = 16;
 pub const LONGEST_NUMBER: usize = 3;
 
-pub const RESERVED: [&str; 11] =
-    ["monitor", "var", "in", "keep", "try", "method", "waituntil", "if", "else", "true", "false"];
+pub const RESERVED: [&str; 12] = [
+    "monitor",
+    "var",
+    "in",
+    "keep",
+    "try",
+    "method",
+    "waituntil",
+    "if",
+    "else",
+    "true",
+    "false",
+    "mod",
+];
 
 /// The marks, two-byte ones first: the first that fits is then the longest.
 pub const MARKS: [&str; 19] = [

@@ -1,7 +1,7 @@
 //! Tries and the choice among them (document 02, E1): of the conditions behind `try` the
 //! largest set such that each holds at the start values, and from each state where keep, the
 //! chosen ones and a region's guard hold, and whose body stays in range, the chosen ones hold
-//! after it.
+//! after it. A missing value in a body counts with the range faults (E5).
 //!
 //! Sets that will do are closed under union, so there is one largest. It is what is left when
 //! all that some body breaks is dropped, pass by pass, from the tries that hold at the start:
@@ -10,11 +10,11 @@
 //! The call that tells each try's fate is not in document 02. Its text:
 //!
 //! - It takes a file and gives its verdict, and the fate of each try, in file order, of every
-//!   file that the checks 1 to 8 pass, so beside 0 and 9. A try is chosen; or it is false at
+//!   file that all checks up to 8 pass, so beside 0 and 9. A try is chosen; or it is false at
 //!   the start values; or it is broken in a pass, counted from 1, at a region from a state.
 //! - Before pass 1 the set is all tries that hold at the start values. A pass asks of each try
 //!   of the set for a region and a state such that keep and every try of the set, as it stood
-//!   when the pass began, hold there, and the region's guard too, the body stays in range, and
+//!   when the pass began, hold there, and the region's guard too, the body meets no fault, and
 //!   the try is false after it. All tries so broken are dropped together at the end of the
 //!   pass. Told are the lowest region and then the lowest state that break it.
 //! - Passes go on until one drops nothing. What is left is the chosen set.
@@ -37,15 +37,15 @@ pub fn tried(file: &[u8]) -> (Result<(), Answer>, Option<Vec<Fate>>) {
     (check(file).map(drop), check_to_8(file).ok().map(|monitor| monitor.fates))
 }
 
-/// A state where keep and a region's guard hold, and the state after its body, which stays
-/// in range. Whether keep holds there is not asked.
+/// A state where keep and a region's guard hold, and the state after its body, which meets no
+/// fault. Whether keep holds there is not asked.
 struct Move {
     region: usize,
     before: usize,
     after: usize,
 }
 
-/// The fate of each try of a monitor that the checks 1 to 8 pass.
+/// The fate of each try of a monitor that all checks up to 8 pass.
 pub fn fates(monitor: &Monitor) -> Vec<Fate> {
     if monitor.tries.is_empty() {
         return Vec::new();

@@ -69,7 +69,7 @@ fn cases_made_for_tries() {
 
 fn holds_everything(tally: &Tally) {
     let at_least = 3 * tally.cases / 100;
-    for number in (1..=9).chain(12..=14) {
+    for number in (1..=9).chain(12..=15) {
         assert!(tally.refused[number] >= at_least, "{number}\n{}", tally.text());
     }
     assert!(4 * tally.with_a_run >= tally.cases, "{}", tally.text());

@@ -206,6 +206,33 @@ fn cases_for_queues_are_listed_and_written() {
 }
 
 #[test]
+fn cases_for_remainders_are_listed_and_written() {
+    let list = command(&["remainders-cases"], b"");
+    let blocks: Vec<&str> = list.split("\n\n").collect();
+    let line = format!("0081{}", "FF".repeat(16));
+    let file = "monitor m { var x = 0 in 0..2; keep true; \
+                method m0 { waituntil (true) { x := 7 mod 3; } } }";
+    let lines = [
+        "case 0: 7 mod 3",
+        &format!("file: {file}"),
+        "trace: 000001",
+        "placer: ",
+        &format!("runner: {line} {line}"),
+        "tries: 0000000000",
+        "pairs: 0000000000",
+    ];
+    assert_eq!(blocks[0].lines().collect::<Vec<&str>>(), lines);
+    // `mod` is byte 38.
+    let refused = blocks.iter().find(|block| block.contains(": keep by 0\n")).unwrap();
+    assert!(refused.ends_with("runner: 0F00260000\ntries: 0F00260000\npairs: 0000000000"));
+    assert!(list.matches("\nrunner: ").count() >= 16);
+    let at = directory("divided");
+    command(&["remainders-cases", at.to_str().unwrap()], b"");
+    assert_eq!(fs::read_dir(&at).unwrap().count(), 150);
+    assert_eq!(fs::read(at.join("00000/monitor.txt")).unwrap(), file.as_bytes());
+}
+
+#[test]
 fn cases_hold_what_the_programs_print() {
     let at = directory("cases");
     command(&["cases", "1", "40", at.to_str().unwrap(), "small"], b"");

@@ -59,7 +59,7 @@ fn refusals_are_what_their_names_say() {
     }
     seen.sort();
     seen.dedup();
-    assert_eq!(seen, [1, 2, 3, 4, 5, 6, 7, 8, 9, 12, 13, 14]);
+    assert_eq!(seen, [1, 2, 3, 4, 5, 6, 7, 8, 9, 12, 13, 14, 15]);
 }
 
 /// The two that only a call of the library can give: a buffer one byte short, and

@@ -13,7 +13,8 @@ use reference::cases::Size;
 use reference::grammar::read;
 use reference::tokens::{tokens, Kind, Token, MARKS, RESERVED};
 
-/// Document 01's list with document 02's `try`, one production a line. NAME and NUMBER stand for tokens.
+/// Document 01's list with document 02's `try` and `mod`, one production a line. NAME and NUMBER
+/// stand for tokens.
 const PRODUCTIONS: &str = "
 File -> monitor NAME { Variables keep Condition ; Tries Methods }
 Variables -> Variable
@@ -49,9 +50,11 @@ Comparison -> <
 Comparison -> <=
 Comparison -> >
 Comparison -> >=
-Expression -> Operand
-Expression -> Expression + Operand
-Expression -> Expression - Operand
+Expression -> Term
+Expression -> Expression + Term
+Expression -> Expression - Term
+Term -> Operand
+Term -> Operand mod Operand
 Operand -> Integer
 Operand -> NAME
 ";
@@ -155,11 +158,11 @@ fn symbol_of(token: &Token) -> &str {
 
 /// A file with everything in it that the grammar has.
 const RICH: &str = "monitor m { var x = -1 in -2..3; var y = 0 in 0..1; \
-    keep !(x == 1 - 2 + y || y < -1 && true) && x != 2 || false; \
+    keep !(x == 1 - 2 + y || y < -1 && true) && x mod 3 != 2 || false; \
     try x < 3; try !true || (y == 0 && x != -1); \
-    method a { waituntil (x <= 2) { x := x + 1 - -1; if (y > 0) { y := 0; } else { if (!true) { } } } \
+    method a { waituntil (x <= 2) { x := x + 1 - -1 mod -2; if (y > 0) { y := 0; } else { if (!true) { } } } \
     waituntil (true) { } } \
-    method b { waituntil (x >= 0 - y) { } } }";
+    method b { waituntil (x >= 0 mod y - y) { } } }";
 
 /// After every prefix of the file, every token is judged alike by both.
 #[test]

@@ -10,7 +10,7 @@ use reference::cases::monitors::{any_accepted, Sketch};
 use reference::cases::words::{laid_out, words, Layout};
 use reference::cases::{make_case, Size};
 use reference::evaluation::holds;
-use reference::grammar::{self, Block, Condition, Expression, Name, Operand, Statement};
+use reference::grammar::{self, Block, Condition, Expression, Name, Operand, Statement, Term};
 use reference::hostile::Bases;
 use reference::lines::replay_pairs;
 use reference::pairs;
@@ -87,20 +87,21 @@ fn examples_of_the_repository() {
     }
 }
 
-/// The files of the refusals 1 to 9 have no count. Those of 12 to 14 are good, and all of them are
+/// The files of the refusals 1 to 9 and 15 have no count. Those of 12 to 14 are good, and all of them are
 /// Box or the barrier.
 #[test]
 fn refusals_of_the_repository() {
     let at = Path::new(env!("CARGO_MANIFEST_DIR")).join("../examples/refusals");
-    let mut seen = [0; 15];
+    let mut seen = [0; 16];
     for entry in fs::read_dir(at).unwrap() {
         let name = entry.unwrap().file_name().into_string().unwrap();
         let number: usize = name.split('-').next().unwrap().parse().unwrap();
         let monitor = example(&format!("refusals/{name}"));
-        assert_eq!(pairs_of(&monitor), if number < 10 { 0 } else { 4 }, "{name}");
+        let wanted = if (12..=14).contains(&number) { 4 } else { 0 };
+        assert_eq!(pairs_of(&monitor), wanted, "{name}");
         seen[number] += 1;
     }
-    assert!((1..=9).chain(12..=14).all(|number| seen[number] > 0), "{seen:?}");
+    assert!((1..=9).chain(12..=15).all(|number| seen[number] > 0), "{seen:?}");
 }
 
 /// Document 01's examples 8 and 9; 1 and 7 are among the examples above.
@@ -360,7 +361,7 @@ fn pairs_of_many_files() {
     for number in 0..1_000 {
         compare(&make_case(51, number, Size::SMALL).monitor, &mut seen);
     }
-    for number in 0..150 {
+    for number in 0..200 {
         compare(&make_case(52, number, Size::FULL).monitor, &mut seen);
     }
     let mut bases = Bases::of(53);
@@ -373,7 +374,7 @@ fn pairs_of_many_files() {
     }
     assert!(seen.files > 1_000 && seen.refused > 500, "{seen:?}");
     assert!(2 * seen.mixed > seen.files && seen.entries > 3_000, "{seen:?}");
-    assert!(seen.touched > 10_000 && seen.untouched > 10_000, "{seen:?}");
+    assert!(seen.touched > 8_000 && seen.untouched > 8_000, "{seen:?}");
 }
 
 /// From every kept state where a region's guard holds, its body leaves a guard that it does not
@@ -500,8 +501,8 @@ impl Body {
                 }
                 Statement::If { condition, then, otherwise } => {
                     let names = named(condition);
-                    // A condition without names has one value.
-                    let constant = names.is_empty().then(|| holds(condition, &[], &[]));
+                    // A condition without names has one value at most.
+                    let constant = if names.is_empty() { holds(condition, &[], &[]) } else { None };
                     self.read.extend(names);
                     let ifs = at.ifs + 1;
                     let unreached = at.unreached || constant == Some(false);
@@ -526,7 +527,14 @@ impl Body {
 }
 
 fn names_of(expression: &Expression) -> Vec<Name> {
-    let names = expression.iter().filter_map(|(_, operand)| match operand {
+    let mut operands = Vec::new();
+    for (_, term) in expression {
+        match term {
+            Term::Operand(operand) => operands.push(operand),
+            Term::Remainder(of) => operands.extend([&of.left, &of.divisor]),
+        }
+    }
+    let names = operands.into_iter().filter_map(|operand| match operand {
         Operand::Variable(name) => Some(name.clone()),
         Operand::Integer(_) => None,
     });

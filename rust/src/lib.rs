@@ -141,7 +141,7 @@ pub struct State {
 pub enum Outcome {
     /// It ends at the state with this number.
     Ends(u16),
-    /// It assigns outside a range.
+    /// It assigns outside a range, or meets a remainder that has no value: its divisor is below 1.
     Faults,
 }
 
@@ -257,7 +257,7 @@ pub fn state_at(file: &[u8], number: usize) -> Result<Option<State>, Refusal> {
 }
 
 /// The number of the state with these values, as many as the file has variables; none where they are no state's. Of a file that the
-/// checks 1 to 7 pass; else its refusal.
+/// checks 1 to 7 and 15 pass; else its refusal.
 pub fn number_of(file: &[u8], values: &[i16]) -> Result<Option<usize>, Refusal> {
     let vars = outline(file)?.0.variables.len();
     let mut held = [128; 6];

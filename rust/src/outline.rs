@@ -62,7 +62,7 @@ impl Outline {
     }
 }
 
-/// The outline of a file that the checks 1 to 7 pass, and the verdict on it: accepted, or refused with 8 or 9. Else its refusal.
+/// The outline of a file that the checks 1 to 7 and 15 pass, and the verdict on it: accepted, or refused with 8 or 9. Else its refusal.
 ///
 /// ```
 /// let file = b"monitor Box { var full = 0 in 0..1; keep true;
@@ -77,7 +77,7 @@ impl Outline {
 pub fn outline(file: &[u8]) -> Result<(Outline, Result<(), Refusal>), Refusal> {
     let o = unsafe { ffi::damsonyet_outline_of(file.as_ptr(), file.len()) };
     let verdict = Refusal::of(o.answer);
-    if matches!(o.answer.number, 1..=7) {
+    if !matches!(o.answer.number, 0 | 8 | 9) {
         verdict?;
     }
     let span = |span: ffi::Span| span.from..span.to;

@@ -21,7 +21,8 @@ pub enum Reason {
     Range { byte: usize },
     /// 8: the condition of `keep` is false at the start values.
     NotKeptAtStart { byte: usize },
-    /// 9: from a state a region's body leaves a range or breaks the kept condition, that is keep and the chosen tries.
+    /// 9: from a state a region's body leaves a range, meets a remainder without a value or breaks the kept condition, that is keep and the
+    /// chosen tries.
     Breaks { region: usize, state: usize },
     /// 10: the buffer is too short; the calls here lend one that is not.
     Buffer,
@@ -33,6 +34,16 @@ pub enum Reason {
     NotAllowed { frame: usize },
     /// 14: the guard does not say what the frame says, or the waiter may not go on.
     NotNotified { frame: usize },
+    /// 15: a remainder in keep, a try or a guard has no value in some state, as its divisor is below 1 there. Asked between 7 and 8.
+    ///
+    /// ```
+    /// let file = b"monitor m { var n = 1 in 0..3; keep n > 0 && 6 mod n == 0; method a { waituntil (true) { } } }";
+    /// let refusal = damsonyet::check(file).unwrap_err();
+    /// let byte = file.windows(3).position(|three| three == b"mod").unwrap();
+    /// assert_eq!(refusal.reason(), damsonyet::Reason::Remainder { byte });
+    /// assert!(refusal.of_file());
+    /// ```
+    Remainder { byte: usize },
     /// A number that this version does not know.
     Unknown { first: usize, second: usize },
 }
@@ -76,6 +87,7 @@ impl Refusal {
             12 => Reason::Frame { frame: first },
             13 => Reason::NotAllowed { frame: first },
             14 => Reason::NotNotified { frame: first },
+            15 => Reason::Remainder { byte: first },
             _ => Reason::Unknown { first, second },
         }
     }
@@ -94,13 +106,14 @@ impl fmt::Display for Refusal {
             Reason::Range { byte } => write!(f, "(a range) at byte {byte}"),
             Reason::NotKeptAtStart { byte } => write!(f, "(the kept condition is false at the start) at byte {byte}"),
             Reason::Breaks { region, state } => {
-                write!(f, "(a range or the kept condition is broken) by region {region} from state {state}")
+                write!(f, "(a range, a remainder or the kept condition) by region {region} from state {state}")
             }
             Reason::Buffer => write!(f, "(the buffer is too short)"),
             Reason::Start => write!(f, "(no such start state, or it is not kept)"),
             Reason::Frame { frame } => write!(f, "(a line that is no frame) at frame {frame}"),
             Reason::NotAllowed { frame } => write!(f, "(the thread may not do this) at frame {frame}"),
             Reason::NotNotified { frame } => write!(f, "(the flag, or a waiter that may not go on) at frame {frame}"),
+            Reason::Remainder { byte } => write!(f, "(a remainder that may have no value) at byte {byte}"),
             Reason::Unknown { first, second } => write!(f, "at {first}, {second}"),
         }
     }

@@ -1,6 +1,7 @@
 //! The library beside the second program (`reference/`): every call gives the same, on generated cases and on hostile input.
 use damsonyet::{Entry, Fate, Machine, Notices, Outcome, Place, Point, Points, Record, Refusal};
 use reference::cases::counted::counted;
+use reference::cases::divided::divided;
 use reference::cases::made::made;
 use reference::cases::queued::queued;
 use reference::cases::{make_case, Case, Size};
@@ -57,6 +58,11 @@ fn counted_by_hand() -> impl Iterator<Item = (Input, usize)> {
 /// The cases about the order of waiters, each with how it ends, worked out by hand.
 fn queued_by_hand() -> impl Iterator<Item = (Input, String)> {
     queued().into_iter().map(|one| (Input::of(format!("case about the queue: {}", one.what), one.case), one.ends))
+}
+
+/// The cases about remainders, each with what is told of it, worked out by hand.
+fn divided_by_hand() -> impl Iterator<Item = (Input, String)> {
+    divided().into_iter().map(|one| (Input::of(format!("case about remainders: {}", one.what), one.case), one.told))
 }
 
 fn hostile(seed: u64, count: usize) -> impl Iterator<Item = Input> {
@@ -123,7 +129,7 @@ fn points(file: &[u8], trace: &[u8], start: usize) -> Result<Points, Refusal> {
     let mut buffer = vec![0; needed(trace.len())];
     let given = reference::points(file, trace, start, &mut buffer);
     match given.plain {
-        Err(answer) if answer.number < 13 => Err(refusal(answer)),
+        Err(answer) if !matches!(answer.number, 13 | 14) => Err(refusal(answer)),
         _ => Ok(Points {
             plain: given.plain.map_err(refusal),
             table: given.table.map_err(refusal),
@@ -202,10 +208,13 @@ fn six(values: &[i16]) -> [i64; 6] {
 
 fn number((verdict, told): second::Told<usize>) -> Result<Option<usize>, Refusal> {
     match verdict {
-        Err(answer) if answer.number < 8 => Err(refusal(answer)),
+        Err(answer) if !matches!(answer.number, 8 | 9) => Err(refusal(answer)),
         _ => Ok(told),
     }
 }
+
+/// The refusals of a file, in the order of the checks.
+const OF_FILE: [usize; 10] = [1, 2, 3, 4, 5, 6, 7, 15, 8, 9];
 
 /// What was compared.
 #[derive(Debug, Default)]
@@ -215,13 +224,13 @@ struct Counts {
     /// Accepted files with 4,096 states, and traces of more bytes than `runner` judges beside accepted files.
     most_states: usize,
     longer_traces: usize,
-    refused: [usize; 10],
+    refused: [usize; 16],
     /// Pairs of region and guard in accepted files, and the touched ones among them; and files in which some are and some are not.
     pairs: usize,
     touched: usize,
     partly_touched: usize,
     /// Runs by their answers, on both machines.
-    runs: [usize; 15],
+    runs: [usize; 16],
     points: usize,
     parted: usize,
     /// Points at which the queue is not in the order of the threads' numbers.
@@ -598,7 +607,7 @@ fn generated_cases() {
             compare(&input, &mut counts);
         }
         println!("{counts:?} in {:?}", begun.elapsed());
-        assert!(counts.accepted >= 100 && counts.refused[1..].iter().all(|&refused| refused >= 6), "{counts:?}");
+        assert!(counts.accepted >= 100 && OF_FILE.iter().all(|&number| counts.refused[number] >= 6), "{counts:?}");
         assert!([0, 11, 12, 13, 14].iter().all(|&answer| counts.runs[answer] >= 20), "{counts:?}");
         assert!(counts.parted >= 10 && counts.by_arrival >= 100 && counts.faults >= 5 && counts.not_kept >= 50, "{counts:?}");
         assert!(counts.tried >= 30 && counts.chosen >= 50 && counts.false_at_start >= 20 && counts.broken >= 20, "{counts:?}");
@@ -653,6 +662,38 @@ fn cases_about_the_queue() {
     });
 }
 
+/// What is told of a file and a trace: a refusal of the file, or the table and how both machines end.
+fn told_of(input: &Input) -> String {
+    let table = match damsonyet::place(&input.file) {
+        Err(Refusal { number: 9, first, second }) => return format!("9 in {first} from {second}"),
+        Err(refusal) => return format!("{} at {}", refusal.number, refusal.first),
+        Ok(table) => String::from_utf8(table.text).expect("digits").trim_end().replace('\n', " "),
+    };
+    let both = damsonyet::run_both_from_start(&input.file, &input.trace).expect("an accepted file");
+    let (plain, by_table) = (end(&both.plain), end(&both.table));
+    if plain == by_table {
+        format!("{table}; {plain}")
+    } else {
+        format!("{table}; {plain} / {by_table}")
+    }
+}
+
+#[test]
+fn cases_about_remainders() {
+    with_stack(|| {
+        let begun = Instant::now();
+        let mut counts = Counts::default();
+        for (input, told) in divided_by_hand() {
+            assert_eq!(told_of(&input), told, "{}", input.name);
+            compare(&input, &mut counts);
+            compare_slots(&input);
+        }
+        println!("{counts:?} in {:?}", begun.elapsed());
+        assert!(counts.inputs >= 24 && counts.accepted >= 10, "{counts:?}");
+        assert!(counts.refused[9] >= 6 && counts.refused[15] >= 6 && counts.faults >= 6, "{counts:?}");
+    });
+}
+
 #[test]
 fn cases_made_for_tries() {
     with_stack(|| {
@@ -677,7 +718,7 @@ fn hostile_inputs() {
             compare(&input, &mut counts);
         }
         println!("{counts:?} in {:?}", begun.elapsed());
-        assert!(counts.accepted >= 100 && counts.refused[1..].iter().all(|&refused| refused >= 6), "{counts:?}");
+        assert!(counts.accepted >= 100 && OF_FILE.iter().all(|&number| counts.refused[number] >= 6), "{counts:?}");
         assert!([0, 11, 12, 13, 14].iter().all(|&answer| counts.runs[answer] >= 20), "{counts:?}");
         assert!(counts.most_states >= 3 && counts.longer_traces >= 3, "{counts:?}");
         assert!(counts.tried >= 100 && counts.broken_later >= 50 && counts.tried_refused >= 3, "{counts:?}");

@@ -225,7 +225,7 @@ fn tries_agree(file: &[u8], verdict: &Result<(), Refusal>, outlined: &Result<(da
         Ok(fates) => fates,
         Err(refusal) => {
             assert_eq!(Err(refusal), *verdict);
-            assert!(refusal.number < 9);
+            assert!(matches!(refusal.number, 1..=8 | 15));
             return;
         }
     };
@@ -335,7 +335,14 @@ fn long_runs_agree() {
 fn states_of_a_file_refused_with_9() {
     with_stack(|| {
         let at = |name: &str| read(&root().join("refusals").join(name).join("monitor.txt"));
-        for (name, faults) in [("9-midway", true), ("9-late-closed", false), ("9-not-reached", true)] {
+        for (name, faults) in [
+            ("9-midway", true),
+            ("9-late-closed", false),
+            ("9-not-reached", true),
+            ("9-mod-binds", true),
+            ("9-no-remainder", true),
+            ("9-late-by-size", false),
+        ] {
             let file = at(name);
             let Err(refusal) = damsonyet::check(&file) else { panic!("{name} is accepted") };
             let Reason::Breaks { region, state } = refusal.reason() else { panic!("{name}: {refusal}") };
@@ -349,6 +356,89 @@ fn states_of_a_file_refused_with_9() {
                 }
             }
         }
+    });
+}
+
+/// A remainder's value, of negative numbers too; it binds closer than + and -.
+#[test]
+fn values_of_remainders() {
+    with_stack(|| {
+        let assigned = |expression: &str, x: i16, n: i16| {
+            let file = format!(
+                "monitor m {{ var x = {x} in -9..9; var n = {n} in 1..4; var y = 0 in -20..20; keep true; \
+                 method a {{ waituntil (true) {{ y := {expression}; }} }} }}"
+            );
+            let record = damsonyet::run(file.as_bytes(), b"000001\n", damsonyet::start_state(file.as_bytes()), Machine::Plain);
+            record.expect(expression).values[2]
+        };
+        for x in -9..=9 {
+            for n in 1..=4 {
+                assert_eq!(assigned("x mod n", x, n), x.rem_euclid(n));
+                assert_eq!(assigned("1 + x mod n - n", x, n), 1 + x.rem_euclid(n) - n);
+                assert_eq!(assigned("1 - 7 mod n", x, n), 1 - 7 % n);
+            }
+        }
+        for (expression, value) in [("-7 mod 3", 2), ("1 - -7 mod 3", -1), ("1 - 7 mod 3", 0), ("1 -7 mod 003", 0), ("999 mod 7", 5)] {
+            assert_eq!(assigned(expression, 0, 1), value, "{expression}");
+        }
+    });
+}
+
+/// 15 comes behind 7 and before 8, at the first `mod` of keep, the tries and the guards that may have no value; nothing else is told then.
+#[test]
+fn remainders_without_a_value() {
+    with_stack(|| {
+        let file = |low: i16, keep: &str, guard: &str, body: &str| {
+            format!("monitor m {{ var n = 1 in {low}..3; keep {keep}; method a {{ waituntil ({guard}) {{ {body} }} }} }}").into_bytes()
+        };
+        let at = |file: &[u8], n: usize| file.windows(3).enumerate().filter(|(_, three)| three == b"mod").nth(n).expect("a mod").0;
+        for (low, keep, guard, body, nth) in [
+            (0, "6 mod n == 0", "true", "", 0),
+            (0, "6 mod 3 == 0", "6 mod n == 0", "", 1),
+            (0, "n > 0", "n > 0 && 6 mod n == 0", "", 0),
+            (-3, "true || 6 mod n == 0", "true", "", 0),
+            (1, "true", "n mod 0 == 0 || true", "", 0),
+            (1, "n mod -1 == 0", "true", "", 0),
+            (0, "false", "6 mod n == 0", "", 0),
+            (0, "true; try false; try 6 mod 2 != 6 mod n", "true", "", 1),
+            (0, "true; try false", "6 mod 2 == 6 mod n", "n := n mod 0;", 1),
+        ] {
+            let file = file(low, keep, guard, body);
+            let refusal = Refusal { number: 15, first: at(&file, nth), second: 0 };
+            let shown = String::from_utf8_lossy(&file);
+            assert_eq!(damsonyet::check(&file), Err(refusal), "{shown}");
+            assert_eq!(refusal.reason(), Reason::Remainder { byte: refusal.first });
+            assert!(refusal.of_file());
+            assert_eq!(damsonyet::place(&file), Err(refusal), "{shown}");
+            assert_eq!(damsonyet::run_both(&file, b"x", 0), Err(refusal), "{shown}");
+            assert_eq!(damsonyet::points(&file, b"x", 0), Err(refusal), "{shown}");
+            assert_eq!(damsonyet::outline(&file), Err(refusal), "{shown}");
+            assert_eq!(damsonyet::fates(&file), Err(refusal), "{shown}");
+            assert_eq!(damsonyet::state_at(&file, 0), Err(refusal), "{shown}");
+            assert_eq!(damsonyet::number_of(&file, &[1]), Err(refusal), "{shown}");
+            assert_eq!(damsonyet::start_state(&file), 0);
+            assert_eq!(damsonyet::placer_lines(&file), refusal_line(&refusal).as_bytes());
+            assert_eq!(damsonyet::runner_lines(&file, b"x"), refusal_line(&refusal).as_bytes());
+        }
+        // With a range that begins at 1 all of them pass.
+        assert_eq!(damsonyet::check(&file(1, "n > 0 && 6 mod n == 0", "6 mod n == 0 || true", "")), Ok(()));
+        // 7 comes before it, 8 behind it.
+        assert_eq!(damsonyet::check(&file(4, "6 mod 0 == 0", "true", "")).map_err(|refusal| refusal.number), Err(7));
+        assert_eq!(damsonyet::check(&file(1, "6 mod n == 1", "true", "")).map_err(|refusal| refusal.number), Err(8));
+        // In a body it is a fault, on either side of && and ||. From there the body binds no try, not even one that it has made false before.
+        for body in [
+            "n := 6 mod n;",
+            "if (n == 0 || 6 mod n == 0) { n := 1; }",
+            "if (n > 0 && 6 mod n == 0) { }",
+            "if (n == 0) { n := 1 mod -2; }",
+            "if (n == 0) { n := 2; n := n mod 0; }",
+        ] {
+            let file = file(0, "true; try n < 2", "true", body);
+            assert_eq!(damsonyet::check(&file), Err(Refusal { number: 9, first: 0, second: 0 }), "{body}");
+            assert_eq!(damsonyet::state_at(&file, 0).expect("told").expect("a state").after[0], Some(Outcome::Faults), "{body}");
+            assert_eq!(damsonyet::fates(&file), Ok(vec![Fate::Chosen]), "{body}");
+        }
+        assert_eq!(damsonyet::check(&file(0, "true", "n > 0", "if (n > 0) { n := 6 mod n; } else { n := 1 mod 0; }")), Ok(()));
     });
 }
 
@@ -505,7 +595,7 @@ fn no_pairs_beside_a_refusal() {
             let placing = unsafe { ffi::damsonyet_place(file.as_ptr(), file.len(), buffer.as_mut_ptr(), room) };
             (placing.answer.number, placing.length, placing.chosen, placing.pairs)
         };
-        let mut refused = [0; 10];
+        let mut refused = [0; 16];
         for folder in examples() {
             let file = read(&folder.join("monitor.txt"));
             let number = damsonyet::check(&file).map_or_else(|refusal| refusal.number, |()| 0);
@@ -514,7 +604,7 @@ fn no_pairs_beside_a_refusal() {
             }
             refused[usize::from(number)] += 1;
         }
-        assert!(refused.iter().all(|&count| count > 0), "{refused:?}");
+        assert!((0..=9).chain([15]).all(|number| refused[number] > 0), "{refused:?}");
         let guesses = read(&root().join("breaker-guesses/monitor.txt"));
         assert_eq!(place(&guesses, 45), (0, 45, 0b1111, 18));
         for room in [0, 1, 9, 44] {

@@ -3,7 +3,8 @@
 //! and 5 before 6, each over the whole file.
 
 use crate::monitor::{
-    Comparison, Condition, Expression, Monitor, Region, Statement, Term, Variable, MOST_VARIABLES,
+    Comparison, Condition, Divided, Expression, Monitor, Operand, Region, Remainder, Statement,
+    Term, Variable, MOST_VARIABLES,
 };
 use crate::tokens::{Kind, Token};
 use crate::Refusal;
@@ -24,6 +25,7 @@ pub fn parse(tokens: &[Token], file_length: usize) -> Parsed<Monitor> {
         methods: Vec::new(),
         regions: 0,
         guards: Vec::new(),
+        divisors: Vec::new(),
         over_limit: None,
         misnamed: None,
     };
@@ -44,6 +46,8 @@ struct Parser<'a> {
     regions: usize,
     /// The tokens of each different guard.
     guards: Vec<&'a [Token<'a>]>,
+    /// Of each `mod` so far its byte and its divisor, those of bodies dropped.
+    divisors: Vec<(usize, Operand)>,
     /// The first declaration past its limit (5).
     over_limit: Option<usize>,
     /// The first name declared twice, or used and not declared (6).
@@ -146,7 +150,8 @@ impl<'a> Parser<'a> {
         if self.next < self.tokens.len() {
             return self.refuse();
         }
-        Ok(Monitor { variables, keep, keep_place, tries, guards, regions })
+        let divisors = std::mem::take(&mut self.divisors);
+        Ok(Monitor { variables, keep, keep_place, tries, guards, regions, divisors })
     }
 
     fn variable(&mut self) -> Parsed<Variable> {
@@ -218,7 +223,10 @@ impl<'a> Parser<'a> {
                 self.guards.len() - 1
             }
         };
-        Ok((guard, self.block()?))
+        let asked = self.divisors.len();
+        let body = self.block()?;
+        self.divisors.truncate(asked);
+        Ok((guard, body))
     }
 
     fn block(&mut self) -> Parsed<Vec<Statement>> {
@@ -233,17 +241,23 @@ impl<'a> Parser<'a> {
     fn statement(&mut self) -> Parsed<Statement> {
         if self.accept(Kind::If) {
             self.expect(Kind::LParen)?;
+            let before = self.divisors.len();
             let condition = self.condition()?;
+            let divides = self.divisors.len() > before;
             self.expect(Kind::RParen)?;
             let then = self.block()?;
             let otherwise = if self.accept(Kind::Else) { self.block()? } else { Vec::new() };
-            return Ok(Statement::If { condition, then, otherwise });
+            return Ok(Statement::If { condition, divides, then, otherwise });
         }
         let variable = self.variable_used()?;
         self.expect(Kind::Assign)?;
         let expression = self.expression()?;
         self.expect(Kind::Semicolon)?;
-        Ok(Statement::Assign { variable, expression })
+        if expression.remainders.is_empty() {
+            Ok(Statement::Assign { variable, terms: expression.terms })
+        } else {
+            Ok(Statement::AssignDivided { variable, expression: Box::new(expression) })
+        }
     }
 
     fn condition(&mut self) -> Parsed<Condition> {
@@ -288,7 +302,11 @@ impl<'a> Parser<'a> {
         let left = self.expression()?;
         let comparison = self.comparison()?;
         let right = self.expression()?;
-        Ok(Condition::Compare { left, comparison, right })
+        if left.remainders.is_empty() && right.remainders.is_empty() {
+            Ok(Condition::Compare { left: left.terms, comparison, right: right.terms })
+        } else {
+            Ok(Condition::CompareDivided(Box::new(Divided { left, comparison, right })))
+        }
     }
 
     fn comparison(&mut self) -> Parsed<Comparison> {
@@ -306,26 +324,42 @@ impl<'a> Parser<'a> {
     }
 
     fn expression(&mut self) -> Parsed<Expression> {
-        let mut terms = vec![self.term(false)?];
+        let mut expression = Expression::default();
+        self.term(false, &mut expression)?;
         loop {
             if self.accept(Kind::Plus) {
-                terms.push(self.term(false)?);
+                self.term(false, &mut expression)?;
             } else if self.accept(Kind::Minus) {
-                terms.push(self.term(true)?);
+                self.term(true, &mut expression)?;
             } else {
-                return Ok(terms);
+                return Ok(expression);
             }
         }
     }
 
-    /// A variable or an integer, which may be taken off.
-    fn term(&mut self, taken_off: bool) -> Parsed<Term> {
-        let is_name = matches!(self.peek(), Some(Kind::Name(_)));
-        Ok(match (is_name, taken_off) {
-            (true, false) => Term::Plus(self.variable_used()?),
-            (true, true) => Term::Minus(self.variable_used()?),
-            (false, false) => Term::Constant(self.integer()?),
-            (false, true) => Term::Constant(-self.integer()?),
+    /// A variable or an integer, or two of them with `mod` between, which may be taken off.
+    fn term(&mut self, taken_off: bool, expression: &mut Expression) -> Parsed<()> {
+        let left = self.operand()?;
+        let place = self.place();
+        if self.accept(Kind::Mod) {
+            let divisor = self.operand()?;
+            self.divisors.push((place, divisor));
+            expression.remainders.push(Remainder { left, divisor, taken_off });
+            return Ok(());
+        }
+        expression.terms.push(match (left, taken_off) {
+            (Operand::Variable(variable), false) => Term::Plus(variable),
+            (Operand::Variable(variable), true) => Term::Minus(variable),
+            (Operand::Constant(constant), false) => Term::Constant(constant),
+            (Operand::Constant(constant), true) => Term::Constant(-constant),
+        });
+        Ok(())
+    }
+
+    fn operand(&mut self) -> Parsed<Operand> {
+        Ok(match self.peek() {
+            Some(Kind::Name(_)) => Operand::Variable(self.variable_used()?),
+            _ => Operand::Constant(self.integer()?),
         })
     }
 }

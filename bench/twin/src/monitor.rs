@@ -19,6 +19,8 @@ pub struct Monitor {
     pub guards: Vec<Condition>,
     /// By number; they run on across methods.
     pub regions: Vec<Region>,
+    /// Of each `mod` in keep, tries and guards its byte and its divisor, in file order.
+    pub divisors: Vec<(usize, Operand)>,
 }
 
 #[derive(Clone, Copy, Debug)]
@@ -41,8 +43,22 @@ pub struct Region {
 
 #[derive(Debug)]
 pub enum Statement {
-    Assign { variable: usize, expression: Expression },
-    If { condition: Condition, then: Vec<Statement>, otherwise: Vec<Statement> },
+    Assign {
+        variable: usize,
+        terms: Vec<Term>,
+    },
+    /// The same with `mod`.
+    AssignDivided {
+        variable: usize,
+        expression: Box<Expression>,
+    },
+    If {
+        condition: Condition,
+        /// Whether the condition has `mod`: then both sides of `&&` and `||` are evaluated.
+        divides: bool,
+        then: Vec<Statement>,
+        otherwise: Vec<Statement>,
+    },
 }
 
 #[derive(Debug)]
@@ -51,7 +67,20 @@ pub enum Condition {
     All(Vec<Condition>),
     Not(Box<Condition>),
     Constant(bool),
-    Compare { left: Expression, comparison: Comparison, right: Expression },
+    Compare {
+        left: Vec<Term>,
+        comparison: Comparison,
+        right: Vec<Term>,
+    },
+    /// The same with `mod` on a side.
+    CompareDivided(Box<Divided>),
+}
+
+#[derive(Debug)]
+pub struct Divided {
+    pub left: Expression,
+    pub comparison: Comparison,
+    pub right: Expression,
 }
 
 #[derive(Clone, Copy, Debug)]
@@ -64,8 +93,12 @@ pub enum Comparison {
     AtLeast,
 }
 
-/// Terms, added up from the left.
-pub type Expression = Vec<Term>;
+/// A sum of variables and integers, and of remainders.
+#[derive(Debug, Default)]
+pub struct Expression {
+    pub terms: Vec<Term>,
+    pub remainders: Vec<Remainder>,
+}
 
 #[derive(Clone, Copy, Debug)]
 pub enum Term {
@@ -74,9 +107,48 @@ pub enum Term {
     Minus(usize),
 }
 
-/// The value of an expression; it may leave every range.
-fn value(expression: &[Term], values: &Values) -> i32 {
-    expression
+/// Two operands with `mod` between, which may be taken off.
+#[derive(Clone, Copy, Debug)]
+pub struct Remainder {
+    pub left: Operand,
+    pub divisor: Operand,
+    pub taken_off: bool,
+}
+
+/// What stands on either side of `mod`.
+#[derive(Clone, Copy, Debug)]
+pub enum Operand {
+    Constant(i32),
+    Variable(usize),
+}
+
+impl Operand {
+    fn value(self, values: &Values) -> i32 {
+        match self {
+            Operand::Constant(constant) => constant,
+            Operand::Variable(variable) => values[variable],
+        }
+    }
+
+    fn named(self) -> VariableSet {
+        match self {
+            Operand::Constant(_) => 0,
+            Operand::Variable(variable) => 1 << variable,
+        }
+    }
+
+    /// The least value that it has in any state.
+    pub fn least(self, variables: &[Variable]) -> i32 {
+        match self {
+            Operand::Constant(constant) => constant,
+            Operand::Variable(variable) => variables[variable].lowest,
+        }
+    }
+}
+
+/// The sum of terms; it may leave every range.
+fn sum(terms: &[Term], values: &Values) -> i32 {
+    terms
         .iter()
         .map(|term| match *term {
             Term::Constant(constant) => constant,
@@ -86,18 +158,50 @@ fn value(expression: &[Term], values: &Values) -> i32 {
         .sum()
 }
 
-/// The variables that an expression names.
-fn named_by(expression: &[Term]) -> VariableSet {
-    expression.iter().fold(0, |named, term| match *term {
+/// The variables that terms name.
+fn named_by(terms: &[Term]) -> VariableSet {
+    terms.iter().fold(0, |named, term| match *term {
         Term::Constant(_) => named,
         Term::Plus(variable) | Term::Minus(variable) => named | 1 << variable,
     })
 }
 
+impl Expression {
+    /// Its value, none if a divisor is below 1.
+    fn value(&self, values: &Values) -> Option<i32> {
+        let mut value = sum(&self.terms, values);
+        for remainder in &self.remainders {
+            let divisor = remainder.divisor.value(values);
+            if divisor < 1 {
+                return None;
+            }
+            let of = remainder.left.value(values).rem_euclid(divisor);
+            value += if remainder.taken_off { -of } else { of };
+        }
+        Some(value)
+    }
+
+    /// The variables that it names.
+    fn named(&self) -> VariableSet {
+        let remainders = self.remainders.iter();
+        remainders.fold(named_by(&self.terms), |named, remainder| {
+            named | remainder.left.named() | remainder.divisor.named()
+        })
+    }
+}
+
+impl Divided {
+    fn holds(&self, values: &Values) -> Option<bool> {
+        Some(self.comparison.holds(self.left.value(values)?, self.right.value(values)?))
+    }
+}
+
 /// The variables that a block's text assigns, reached or not.
 fn assigned_by(block: &[Statement]) -> VariableSet {
     block.iter().fold(0, |assigned, statement| match statement {
-        Statement::Assign { variable, .. } => assigned | 1 << variable,
+        Statement::Assign { variable, .. } | Statement::AssignDivided { variable, .. } => {
+            assigned | 1 << variable
+        }
         Statement::If { then, otherwise, .. } => {
             assigned | assigned_by(then) | assigned_by(otherwise)
         }
@@ -114,9 +218,12 @@ impl Condition {
             Condition::Not(part) => part.named(),
             Condition::Constant(_) => 0,
             Condition::Compare { left, right, .. } => named_by(left) | named_by(right),
+            Condition::CompareDivided(divided) => divided.left.named() | divided.right.named(),
         }
     }
 
+    /// Whether it holds, of a condition that has a value in every state: `&&` and `||` stop
+    /// early.
     pub fn holds(&self, values: &Values) -> bool {
         match self {
             Condition::Any(parts) => parts.iter().any(|part| part.holds(values)),
@@ -124,17 +231,37 @@ impl Condition {
             Condition::Not(part) => !part.holds(values),
             Condition::Constant(truth) => *truth,
             Condition::Compare { left, comparison, right } => {
-                let left = value(left, values);
-                let right = value(right, values);
-                match comparison {
-                    Comparison::Same => left == right,
-                    Comparison::Differs => left != right,
-                    Comparison::Below => left < right,
-                    Comparison::AtMost => left <= right,
-                    Comparison::Above => left > right,
-                    Comparison::AtLeast => left >= right,
-                }
+                comparison.holds(sum(left, values), sum(right, values))
             }
+            Condition::CompareDivided(divided) => divided.holds(values).expect("divisors above 0"),
+        }
+    }
+
+    /// Whether it holds, none if some part of it has no value.
+    fn truth(&self, values: &Values) -> Option<bool> {
+        Some(match self {
+            Condition::Any(parts) => {
+                parts.iter().try_fold(false, |any, part| Some(any | part.truth(values)?))?
+            }
+            Condition::All(parts) => {
+                parts.iter().try_fold(true, |all, part| Some(all & part.truth(values)?))?
+            }
+            Condition::Not(part) => !part.truth(values)?,
+            Condition::Constant(_) | Condition::Compare { .. } => self.holds(values),
+            Condition::CompareDivided(divided) => divided.holds(values)?,
+        })
+    }
+}
+
+impl Comparison {
+    fn holds(self, left: i32, right: i32) -> bool {
+        match self {
+            Comparison::Same => left == right,
+            Comparison::Differs => left != right,
+            Comparison::Below => left < right,
+            Comparison::AtMost => left <= right,
+            Comparison::Above => left > right,
+            Comparison::AtLeast => left >= right,
         }
     }
 }
@@ -148,19 +275,34 @@ impl Monitor {
         values
     }
 
-    /// Runs a block; false as soon as an assignment is outside its range.
+    /// Runs a block; false as soon as an assignment is outside its range or a value is
+    /// missing.
     pub fn run(&self, block: &[Statement], values: &mut Values) -> bool {
         block.iter().all(|statement| match statement {
-            Statement::Assign { variable, expression } => {
-                let new = value(expression, values);
-                values[*variable] = new;
-                let Variable { lowest, highest, .. } = self.variables[*variable];
-                lowest <= new && new <= highest
+            Statement::Assign { variable, terms } => {
+                self.assign(*variable, sum(terms, values), values)
             }
-            Statement::If { condition, then, otherwise } => {
-                self.run(if condition.holds(values) { then } else { otherwise }, values)
+            Statement::AssignDivided { variable, expression } => match expression.value(values) {
+                Some(new) => self.assign(*variable, new, values),
+                None => false,
+            },
+            Statement::If { condition, divides, then, otherwise } => {
+                let truth = if *divides {
+                    let Some(truth) = condition.truth(values) else { return false };
+                    truth
+                } else {
+                    condition.holds(values)
+                };
+                self.run(if truth { then } else { otherwise }, values)
             }
         })
+    }
+
+    /// False where the value is outside the variable's range.
+    fn assign(&self, variable: usize, new: i32, values: &mut Values) -> bool {
+        values[variable] = new;
+        let Variable { lowest, highest, .. } = self.variables[variable];
+        lowest <= new && new <= highest
     }
 
     /// The guards that each region touches, one bit a guard: those that name a variable

@@ -18,6 +18,7 @@ pub enum Kind<'a> {
     Else,
     True,
     False,
+    Mod,
     // Marks.
     LBrace,
     RBrace,
@@ -117,6 +118,7 @@ fn word_at(rest: &[u8]) -> Option<(Kind<'_>, usize)> {
         b"else" => Kind::Else,
         b"true" => Kind::True,
         b"false" => Kind::False,
+        b"mod" => Kind::Mod,
         name => Kind::Name(name),
     };
     Some((kind, length))

@@ -14,4 +14,6 @@ pub mod Points
 pub mod Tries
 pub mod Pairs
 pub mod Queues
+pub mod Remainders
+pub mod Lacking
 pub mod Numbers

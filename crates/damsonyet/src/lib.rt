@@ -52,7 +52,7 @@ pub struct Values {
     pub held: [u16; syntax::VARIABLES],
 }
 
-// The verdict of a file: 0, or a refusal from 1 to 9 with its places.
+// The verdict of a file: 0, or a refusal from 1 to 9, or 15, with its places.
 #[no_mangle]
 pub extern "C" fn damsonyet_check(file: &[u8]) -> Answer
     ensures { λ r. ⌜ Is r (meaning.check (now (file .entry))) ⌝ }

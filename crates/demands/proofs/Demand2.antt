@@ -45,6 +45,9 @@ use Rattle.meaning.proofs.Verdicts.{accepted-iff, refused-iff}
 use Rattle.meaning.specs.Decide.Choice.{inSet, chosenTries}
 use Rattle.meaning.proofs.Choosing.{chosen-largest, one-largest, fates, chosen-members, chosen-small, kept-iff}
 use Rattle.meaning.proofs.Choosing.{no-tries, none-chosen}
+use Rattle.meaning.proofs.Remainders.{modulo-iff, one-remainder, modulo-none}
+use Rattle.meaning.proofs.Unvalued.{keep-valued, try-valued, guard-valued, missing-iff}
+use Rattle.meaning.proofs.Faults.{not-keeps-iff}
 use Rattle.meaning.proofs.Sizes.{sizes}
 use Rattle.meaning.specs.Touch.{Touched}
 use Rattle.meaning.specs.Decide.Touch.{touched}
@@ -398,6 +401,14 @@ pub demand-2 : Demand2
 demand-2 = record {
   accepts = accepted-iff;
   refuses = refused-iff;
+  remainders = record { value = modulo-iff; only = one-remainder; missing = modulo-none };
+  have-values = λ m h. record {
+    keep = λ as′ s. keep-valued m h s;
+    tries = λ i c e as′ s. try-valued m h s i c e;
+    guards = λ k r e as′ s. guard-valued m h s k r e;
+  };
+  divisors = λ m good. missing-iff good;
+  faults = not-keeps-iff;
   choice = λ m good. record {
     largest = chosen-largest m good;
     only = λ X p i. one-largest m X (inSet (chosenTries m)) p (chosen-largest m good) i;

@@ -35,7 +35,7 @@ use Rattle.meaning.specs.Trace.{linesOf}
 use Rattle.meaning.proofs.Frames.{lines-seven}
 use Rattle.meaning.specs.Accepted.{Accepted}
 use Rattle.meaning.specs.Refusal.{Past2, Refusal, too-long, no-token, too-many, no-file, ends-early, past-limit}
-use Rattle.meaning.specs.Refusal.{wrong-name, ill-ranged, start-not-kept, broken}
+use Rattle.meaning.specs.Refusal.{wrong-name, ill-ranged, unvalued, start-not-kept, broken, Unvalued}
 use Rattle.meaning.proofs.Verdicts.{refusal-number, accepted-iff}
 use Rattle.meaning.proofs.Sizes.{sizes-of, sizes}
 use Rattle.meaning.proofs.ModelLaws.{startable-iff}
@@ -70,17 +70,18 @@ refusal-places (past-limit {k = k} p f) = (offends-place (p .past .past) PastLim
 refusal-places (wrong-name {k = k} p f) = (offends-place (p .past .past .past) Misnamed k f, omega arith)
 refusal-places (ill-ranged p t s) =
     (token-place (p .past .past .past .past) (s .front) (s .back) (s .token) _ (s .whole) (s .place), omega arith)
+refusal-places (unvalued {m = m} {k = k} p f) = (offends-place (p .past .past .past .past .past) (Unvalued m) k f, omega arith)
 refusal-places (start-not-kept p h s) =
-    (token-place (p .past .past .past .past .past) (s .front) (s .back) (s .token) _ (s .whole) (s .place), omega arith)
+    (token-place (p .past .past .past .past .past .past) (s .front) (s .back) (s .token) _ (s .whole) (s .place), omega arith)
 refusal-places (broken {ts = ts} {m = m} {k = k} p h b) =
-    let q = p .past .past in
+    let q = p .past .past .past in
     let few = sizes-of ts m (q .past .grammar) (q .counts) .regions in
     let low = element-below (regions m) k (b .region) noRegion (b .numbered) .0 in
     let state = b .below in
-    let states = p .few in
+    let states = p .past .few in
     (omega arith, omega arith)
 
-refusal-digits : {file : List ℕ} {a : Answer} → Refusal file a → a .number ≤ 14
+refusal-digits : {file : List ℕ} {a : Answer} → Refusal file a → a .number ≤ 15
 refusal-digits (too-long h) = omega arith
 refusal-digits (no-token h s) = omega arith
 refusal-digits (too-many p f) = omega arith
@@ -89,6 +90,7 @@ refusal-digits (ends-early p v n) = omega arith
 refusal-digits (past-limit p f) = omega arith
 refusal-digits (wrong-name p f) = omega arith
 refusal-digits (ill-ranged p t s) = omega arith
+refusal-digits (unvalued p f) = omega arith
 refusal-digits (start-not-kept p f s) = omega arith
 refusal-digits (broken p t b) = omega arith
 

@@ -27,7 +27,7 @@ use Rattle.meaning.specs.Refusal.{Refusal, HasVerdict}
 
 -- (R 7.13)
 pub data PlacesAs (file buffer : List ℕ) : Placing → Type 0 where
-  -- 1 to 9 (R 7.14)
+  -- 1 to 9 and 15 (R 7.14)
   file-refused : {a : Answer} → Refusal file a → PlacesAs file buffer (notPlaced a buffer)
   -- 10: "table buffer shorter than the table" (R 7.15)
   too-short : {m : Monitor} → Accepted file m → length buffer < length (tableOf (model m))
@@ -49,7 +49,7 @@ pub data PlacesAs (file buffer : List ℕ) : Placing → Type 0 where
 
 -- (R 8.11)
 pub data RunsAs (file bytes : List ℕ) (s : ℕ) (w : Machine) : Running → Type 0 where
-  -- 1 to 9 (R 8.13)
+  -- 1 to 9 and 15 (R 8.13)
   no-monitor : {a : Answer} → Refusal file a → RunsAs file bytes s w (refused-file a)
   -- 11 (R 8.12)
   no-start : {m : Monitor} → Accepted file m → (Startable m s → ⊥) → RunsAs file bytes s w (not-run (answer 11 0 0))

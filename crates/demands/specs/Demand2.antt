@@ -1,36 +1,38 @@
 -- Demand 2: a file is accepted exactly when it is within the grammar and limits, its kept condition holds at the start,
 -- and every region keeps it and every range; the table has the entries of Algorithm 1, no more, no fewer; each machine
--- accepts exactly the traces that its step rules allow. Beside these stand what the numbers of states and guards are, and
--- which entries the text rules out. The claim is `Demand2`.
+-- accepts exactly the traces that its step rules allow. Beside these stand what the numbers of states and guards are, what
+-- remainders are and where they lack a value, and which entries the text rules out. The claim is `Demand2`.
 use Rattle.machine.specs.Monitor as machine
 use Prim.Native.Nat.{ℕ, suc, _^_, _≤_, _<_}
 use mathlib.Core.Path.{_≡_}
 use mathlib.Core.Bool.{Bool, true, false}
-use mathlib.Core.Logic.{_↔_}
+use mathlib.Core.Logic.{_⊎_, _↔_}
 use mathlib.Core.List.{List, [], List·Memᴰ}
+use mathlib.Core.Option.{none, some}
 use lib.ListN.{length, getD, drop}
-use Rattle.syntax.specs.Tree.{Monitor, Region, Var, spellCond}
+use Rattle.syntax.specs.Tree.{Atom, remainder, Cond, Monitor, Region, Var, spellCond}
 use Rattle.machine.specs.Monitor.{Frame, Point, Config, stopped, withState, allIdle}
 use Rattle.machine.specs.Limits.{mostStates, mostLines}
 use Rattle.syntax.specs.Limits.{mostTries}
 use Rattle.sets.specs.Set.{member}
 use Rattle.machine.specs.Algorithm1.{Holds, Fails, Triple, Stands, Signals}
 use Rattle.machine.specs.Rules.{Rules, Stops, Semantics, NoticesOver, PlainNoticesBy, TableNoticesBy, RulesBy, StopsBy}
-use Rattle.meaning.specs.Value.{truth}
-use Rattle.meaning.specs.State.{count, stateAt, numberOf, Earlier}
+use Rattle.meaning.specs.Value.{less, atomValue, IsRemainder, modulo, termValue, condValue, truth}
+use Rattle.meaning.specs.State.{count, stateAt, numberOf, Earlier, lowest}
 use Rattle.meaning.specs.Held.{Offset, Biased, Ranges}
 use Rattle.meaning.specs.SixteenBits.{wrapped, unlimited, countIn, weightIn, share, numberIn, valueIn}
 use Rattle.meaning.specs.Answer.{Answer, accepted, refused}
 use Rattle.meaning.specs.Decide.Check.{check}
 use Rattle.meaning.specs.Kept.{keptAt}
-use Rattle.meaning.specs.Choice.{TrySet, AllHold, Largest, AreFates}
+use Rattle.meaning.specs.Choice.{TrySet, IsTry, AllHold, Largest, AreFates}
 use Rattle.meaning.specs.Decide.Choice.{inSet, chosenTries, chosenBits, fateOf}
 use Rattle.meaning.specs.Model.{vars, model, noGuard, regions, guards, region, guardOf}
 use Rattle.meaning.specs.Decide.Table.{tableOf}
 use Rattle.meaning.specs.Calls.{noticesOf, Machine, plain-machine, table-machine, Startable}
 use Rattle.meaning.specs.Decide.Calls.{runList}
-use Rattle.meaning.specs.Accepted.{Accepted, GoodRanges, Meets}
-use Rattle.meaning.specs.Runs.{BlockRuns, State}
+use Rattle.meaning.specs.Accepted.{Accepted, GoodRanges, NoneLacks, Meets, Keeps}
+use Rattle.meaning.specs.Faults.{BlockFaults}
+use Rattle.meaning.specs.Runs.{BlockRuns, State, IsRegion}
 use Rattle.meaning.specs.Touch.{Touched, Pairs}
 use Rattle.meaning.specs.Decide.Touch.{pairsOf}
 use Rattle.meaning.specs.Table.{Row, rowLines, Increasing, Small}
@@ -87,6 +89,22 @@ pub record GuardsNumbered (m : Monitor) : Type 0 where
       → (guardOf m r ≡ guardOf m q) ↔ (spellCond (region m r .guard) ≡ spellCond (region m q .guard))
   -- "numbered from 0 by first appearance": an earlier region has each lower number (R 3.9)
   pub first : (r g : ℕ) → r < length (regions m) → g < guardOf m r → (q : ℕ) × (q < r) × (guardOf m q ≡ g)
+
+-- Remainders
+
+-- what `mod` gives: the value in words, which is the only one, and none exactly with a divisor below 1 (R 4.21, 4.22)
+pub record Remainders : Type 0 where
+  pub value : (a b r : ℤ) → (modulo a b ≡ some r) ↔ IsRemainder a b r
+  pub only : (a b r s : ℤ) → IsRemainder a b r → IsRemainder a b s → r ≡ s
+  pub missing : (a b : ℤ) → (modulo a b ≡ none) ↔ (less b (pos 1) ≡ true)
+
+-- behind 15: keep, the tries and the guards have a value at every state, so that their truth is it (R 4.26)
+pub record HaveValues (m : Monitor) : Type 0 where
+  pub keep : (as′ : List ℤ) → State (vars m) as′ → condValue (m .keep) (vars m) as′ ≡ some (truth (m .keep) (vars m) as′)
+  pub tries : (i : ℕ) (c : Cond) → IsTry m i c → (as′ : List ℤ) → State (vars m) as′
+      → condValue c (vars m) as′ ≡ some (truth c (vars m) as′)
+  pub guards : (k : ℕ) (r : Region) → IsRegion m k r → (as′ : List ℤ) → State (vars m) as′
+      → condValue (r .guard) (vars m) as′ ≡ some (truth (r .guard) (vars m) as′)
 
 -- The kept condition
 
@@ -215,6 +233,20 @@ pub record Demand2 : Type 0 where
   -- (R 12.4)
   pub accepts : (file : List ℕ) (m : Monitor) → (check file ≡ accepted m) ↔ Accepted file m
   pub refuses : (file : List ℕ) (a : Answer) → (check file ≡ refused a) ↔ Refusal file a
+  -- (R 12.20)
+  pub remainders : Remainders
+  pub have-values : (m : Monitor) → NoneLacks m → HaveValues m
+  -- "in some state of the ranges" is where the divisor, a number or the lowest value of a variable, is below 1 (R 6.37)
+  pub divisors :
+      (m : Monitor) → GoodRanges (vars m) → (a b : Atom)
+      → ((as′ : List ℤ) × State (vars m) as′ × (termValue (vars m) as′ (remainder a b) ≡ none))
+      ↔ (less (atomValue (vars m) (lowest (vars m)) b) (pos 1) ≡ true)
+  -- 9 in positive words: a body does not keep exactly where it faults or ends with the kept condition false (R 6.33)
+  pub faults :
+      (m : Monitor) (r : Region) (as′ : List ℤ) → State (vars m) as′
+      → (Keeps m r as′ → ⊥)
+      ↔ (BlockFaults (vars m) (r .body) as′
+      ⊎ ((bs : List ℤ) × BlockRuns (vars m) (r .body) as′ bs × (keptAt m bs ≡ false)))
   -- for every tree with good ranges, so for every file that 1 to 7 pass (R 12.16)
   pub choice : (m : Monitor) → GoodRanges (vars m) → Choice m
   pub no-tries : (m : Monitor) → m .tries ≡ [] → NoTries m

@@ -20,7 +20,7 @@ pub record RecordFits (r : Record) : Type 0 where
 
 pub record AnswerFits (a : Answer) : Type 0 where
   pub refuses : 1 ≤ a .number
-  pub number : a .number ≤ 14
+  pub number : a .number ≤ 15
   pub first : a .first < 65536
   pub second : a .second < 65536
 

@@ -3,22 +3,23 @@
 use Prim.Native.Nat.{ℕ, suc, _+_, _-_, _<_}
 use native.Mathlib.Omega.{arith}
 use mathlib.Core.Path.{_≡_, refl, sym, ap, _∙_, subst}
-use mathlib.Core.Bool.{Bool, true, false, not, _&&_, cond}
+use mathlib.Core.Bool.{Bool, true, false, not, _&&_, cond, and-true, and-false}
 use mathlib.Core.List.{List, [], _∷_, _++_, append-assoc}
 use mathlib.Core.Option.{Option, none, some}
 use lib.ListN.{length, getD, drop, replicate, length-drop, length-append, getD-replicate}
 use lib.IntN.{ℤ}
+use Rattle.sets.specs.Set.{member}
+use Rattle.sets.proofs.SetLaws.{member-none}
 use Rattle.syntax.specs.Token.{Lexeme, key, mark, rbrace, rparen, semicolon, k-else, k-if}
 use Rattle.syntax.specs.Decide.Lexeme.{markNumber, keywordNumber}
 use Rattle.syntax.specs.Held.Kind.{kindOf, nameKind, noKind}
-use Rattle.syntax.specs.Tree.{Var, Cond, Block, end, then, Stmt, assign, if-then, if-else, spellExpr, spellBlock}
+use Rattle.syntax.specs.Tree.{Var, Block, end, then, Stmt, assign, if-then, if-else, spellExpr, spellBlock}
 use Rattle.syntax.specs.Tree.{spellStmt}
-use Rattle.meaning.specs.Value.{truth}
 use Rattle.meaning.specs.Decide.Bodies.{assigned, andThen, runBlock, runStmt}
 use Rattle.evaluator.specs.Coding.{Codes, RunAs, lane}
 use Rattle.meaning.specs.Held.{Biased, Ranges}
-use Rattle.evaluator.specs.Promises.{Next, Closes, frontKind, ExprRead, CondRead, Stored, BlockRun, StmtRun}
-use Rattle.evaluator.specs.Promises.{BranchRun, RunIn, oneBlock}
+use Rattle.evaluator.specs.Promises.{Next, Closes, frontKind, given, ExprRead, CondRead, Stored, BlockRun}
+use Rattle.evaluator.specs.Promises.{StmtRun, BranchRun, RunIn, worth, oneBlock}
 use Rattle.evaluator.proofs.Places.{front-is, behind, name-at, apart, same-length}
 use Rattle.evaluator.proofs.Readings.{semicolon-ends, rparen-ends}
 
@@ -144,26 +145,42 @@ module _ {ks values lows highs vars : List ℕ} {on : List Bool} where
 
 -- Statements
 
-if-runs : (c : Cond) (b : Block) (vs : List Var) (as′ : List ℤ) (t : Bool) → t ≡ truth c vs as′
-    → cond t (runBlock b vs as′) (some as′) ≡ runStmt (if-then c b) vs as′
-unfolding runStmt
-if-runs c b vs as′ true h = cc
-if-runs c b vs as′ false h = cc
+-- one run or the other, as `runStmt` chooses
+abbrev choose : Option (List ℤ) → Option (List ℤ) → Bool → Option (List ℤ)
+choose o p t = elim t [ true ↦ o | false ↦ p ]
 
-if-else-runs : (c : Cond) (a b : Block) (vs : List Var) (as′ : List ℤ) (t : Bool) → t ≡ truth c vs as′
-    → cond t (runBlock a vs as′) (runBlock b vs as′) ≡ runStmt (if-else c a b) vs as′
-unfolding runStmt
-if-else-runs c a b vs as′ true h = cc
-if-else-runs c a b vs as′ false h = cc
+chosen : (h : Bool) (o p : Option (List ℤ)) → cond h o p ≡ choose o p h
+chosen true o p = refl
+chosen false o p = refl
 
-module _ {ks values lows highs vars : List ℕ} {on ok : List Bool} {held : List ℕ} where
-  pub stmt-assign : {at a b k n slot : ℕ} {sums : List ℕ} → (getD ks at noKind ≡ kindOf (key k-if) → ⊥)
+-- where nothing lacks, nothing changes
+pub no-fault : (a b : Bool) → a ≡ a && not (b && false)
+no-fault true true = refl
+no-fault true false = refl
+no-fault false b = refl
+
+pub none-lack : (on ok : List Bool) (j : ℕ) → getD ok j false ≡ getD ok j false && not (getD on j false && member 0 j)
+none-lack on ok j = rw (member-none j) (no-fault (getD ok j false) (getD on j false))
+
+-- a lane of the set that lacks a value has a fault, and else what follows from the value
+lacking : {A : Type 0} (vs : List Var) (ok : Bool) {ok′ : Bool} (on p : Bool) (held : List ℕ) (as′ : List ℤ) (a : A)
+    (f : A → Option (List ℤ))
+    → RunAs vs ok held (cond on (f a) (some as′)) → ok′ ≡ ok && not (on && p)
+    → RunAs vs ok′ held (cond on (andThen (given p a) f) (some as′))
+unfolding RunAs andThen given
+lacking vs ok true true held as′ a f run e = e ∙ and-false ok
+lacking vs ok true false held as′ a f run e = subst (λ b. RunAs vs b held (f a)) (sym (e ∙ and-true ok)) run
+lacking vs ok false p held as′ a f run e = (e ∙ and-true ok ∙ run .0, run .1)
+
+module _ {ks values lows highs vars : List ℕ} {on ok ok′ : List Bool} {held : List ℕ} where
+  pub stmt-assign : {at a b k n slot lacks : ℕ} {sums : List ℕ} → (getD ks at noKind ≡ kindOf (key k-if) → ⊥)
       → at < length ks → Next ks at a → Next ks a b
-      → ExprRead ks values vars b sums k → Next ks k n → slot ≡ getD values at 0
+      → ExprRead ks values vars b sums lacks k → Next ks k n → slot ≡ getD values at 0
       → Stored lows highs vars on slot sums ok held
-      → StmtRun ks values lows highs vars on at ok held n
+      → ((j : ℕ) → j < 16 → getD ok′ j false ≡ getD ok j false && not (getD on j false && member lacks j))
+      → StmtRun ks values lows highs vars on at ok′ held n
   unfolding spellStmt runStmt frontKind kindOf keywordNumber
-  stmt-assign {at} {a} {b} {k} {n} {slot} {sums} no-if within one two expr last value stored = record {
+  stmt-assign {at} {a} {b} {k} {n} {slot} {lacks} {sums} no-if within one two expr last value stored faults = record {
     long = stored .long;
     from = omega (arith, one .one-more within, two .from, expr .from, last .from);
     to = last .to;
@@ -172,49 +189,62 @@ module _ {ks values lows highs vars : List ℕ} {on ok : List Bool} {held : List
     where
       go : (j : ℕ) → j < 16 → (vs : List Var) (as′ : List ℤ) (ls us : List Lexeme) (s : Stmt) → Codes vs ls ks values
           → Biased vs as′ (lane vars j)
-          → Ranges vs lows highs → drop at ls ≡ spellStmt s ++ us → RunIn vs on ok held j as′ (runStmt s vs as′)
+          → Ranges vs lows highs → drop at ls ≡ spellStmt s ++ us → RunIn vs on ok′ held j as′ (runStmt s vs as′)
           × (drop n ls ≡ us)
       go j l vs as′ ls us (assign x e) codes biased ranges h =
           let t = expr .reads j l vs as′ ls (mark semicolon ∷ us) e codes biased
           (behind codes two (behind codes one h) ∙ append-assoc (spellExpr e) (mark semicolon ∷ []) us)
           (semicolon-ends us) in (
-            subst (λ z. RunIn vs on ok held j as′ (assigned vs as′ x z)) (sym (t .0))
-                (stored .stores j l vs as′ x biased ranges (value ∙ name-at codes at x h)),
+            subst (λ z. RunIn vs on ok′ held j as′ (andThen z (λ b. assigned vs as′ x b))) (sym (t .0))
+                (lacking vs (getD ok j false) (getD on j false) (member lacks j) (lane held j) as′
+                (worth (getD sums j 0)) (λ b. assigned vs as′ x b)
+                (stored .stores j l vs as′ x biased ranges (value ∙ name-at codes at x h))
+                (faults j l)),
             behind codes last (t .1),
           )
       go j l vs as′ ls us (if-then c d) codes biased ranges h = absurd (no-if (sym (front-is codes at refl h)))
       go j l vs as′ ls us (if-else c d d′) codes biased ranges h = absurd (no-if (sym (front-is codes at refl h)))
 
-  pub stmt-if : {at a b k open′ n : ℕ} {holds : List Bool} → getD ks at noKind ≡ kindOf (key k-if) → at < length ks
-      → Next ks at a → Next ks a b
-      → CondRead ks values vars b holds k → Next ks k open′
+  pub stmt-if : {at a b k open′ n lacks : ℕ} {holds : List Bool} → getD ks at noKind ≡ kindOf (key k-if)
+      → at < length ks → Next ks at a → Next ks a b
+      → CondRead ks values vars b holds lacks k → Next ks k open′
       → BranchRun ks values lows highs vars on open′ holds ok held n
-      → StmtRun ks values lows highs vars on at ok held n
+      → ((j : ℕ) → j < 16 → getD ok′ j false ≡ getD ok j false && not (getD on j false && member lacks j))
+      → StmtRun ks values lows highs vars on at ok′ held n
   unfolding spellStmt runStmt frontKind kindOf keywordNumber oneBlock
-  stmt-if {at} {a} {b} {k} {open′} {n} {holds} kind within one two test last branch = record {
+  stmt-if {at} {a} {b} {k} {open′} {n} {lacks} {holds} kind within one two test last branch faults = record {
     long = branch .long;
     from = omega (arith, one .one-more within, two .from, test .from, last .from, branch .from);
     to = branch .to;
     runs = λ j l vs as′ ls us s codes biased ranges e no-else. go j l vs as′ ls us s codes biased ranges e no-else;
   }
     where
+      -- by the condition's value
+      branched : (j : ℕ) → j < 16 → (vs : List Var) (as′ : List ℤ) (o p : Option (List ℤ)) {z : Option Bool}
+          → z ≡ given (member lacks j) (getD holds j false) → RunIn vs on ok held j as′ (cond (getD holds j false) o p)
+          → RunIn vs on ok′ held j as′ (andThen z (choose o p))
+      branched j l vs as′ o p e run =
+          subst (λ y. RunIn vs on ok′ held j as′ (andThen y (choose o p))) (sym e)
+          (lacking vs (getD ok j false) (getD on j false) (member lacks j) (lane held j) as′ (getD holds j false)
+          (choose o p) (subst (RunIn vs on ok held j as′) (chosen (getD holds j false) o p) run) (faults j l))
+
       go : (j : ℕ) → j < 16 → (vs : List Var) (as′ : List ℤ) (ls us : List Lexeme) (s : Stmt) → Codes vs ls ks values
           → Biased vs as′ (lane vars j)
           → Ranges vs lows highs → drop at ls ≡ spellStmt s ++ us → (frontKind us ≡ kindOf (key k-else) → ⊥)
-          → RunIn vs on ok held j as′ (runStmt s vs as′) × (drop n ls ≡ us)
+          → RunIn vs on ok′ held j as′ (runStmt s vs as′) × (drop n ls ≡ us)
       go j l vs as′ ls us (assign x e) codes biased ranges d f =
           apart nameKind (kindOf (key k-if)) refl refl (front-is codes at kind d)
       go j l vs as′ ls us (if-then c b) codes biased ranges d f =
           let t = test .reads j l vs as′ ls (mark rparen ∷ oneBlock b us) c codes biased
           (behind codes two (behind codes one d) ∙ simp append-assoc) (rparen-ends (oneBlock b us)) in
           let u = branch .runs-one j l vs as′ ls us b codes biased ranges (behind codes last (t .1)) f in
-          (subst (RunIn vs on ok held j as′) (if-runs c b vs as′ (getD holds j false) (t .0)) (u .0), u .1)
+          (branched j l vs as′ (runBlock b vs as′) (some as′) (t .0) (u .0), u .1)
       go j l vs as′ ls us (if-else c a b) codes biased ranges d f =
           let t = test .reads j l vs as′ ls (mark rparen ∷ oneBlock a (key k-else ∷ oneBlock b us)) c codes biased
           (behind codes two (behind codes one d) ∙ simp append-assoc)
           (rparen-ends (oneBlock a (key k-else ∷ oneBlock b us))) in
           let u = branch .runs-two j l vs as′ ls us a b codes biased ranges (behind codes last (t .1)) in
-          (subst (RunIn vs on ok held j as′) (if-else-runs c a b vs as′ (getD holds j false) (t .0)) (u .0), u .1)
+          (branched j l vs as′ (runBlock a vs as′) (runBlock b vs as′) (t .0) (u .0), u .1)
 
 -- Branches
 

@@ -2,25 +2,28 @@
 // loaded file (a number's value, a name's slot among the variables, an opening brace's closing one). A place is at most
 // the count of tokens, and the place behind the last is the count. Sixteen states go at once, each in a lane: `vars`
 // holds the value of variable v in lane j at v * 16 + j, with 128 added; an expression's value is held with ZERO added,
-// a truth as a bool for each lane.
+// a truth as a bool for each lane. Lanes that lack a value, by a remainder's divisor below 1, are a set of bits. What
+// has no `mod` pays little for that: an expression is summed up as if it had none (`eval_plain`), and where it meets
+// one its comparison or assignment begins again (`compare_mod`, `assign_mod`); where truths are joined, so is a word.
 ghost use mathlib.Core.Path.{_≡_};
 ghost use mathlib.Core.Bool.{not, _&&_, _||_, cond, false};
 ghost use mathlib.Core.List.{List, _∷_, _++_};
-ghost use Prim.Native.Nat.{ℕ, _+_, _-_, _%_, _<_, _≤_};
+ghost use Prim.Native.Nat.{ℕ, _+_, _-_, _/_, _%_, _<_, _≤_};
 ghost use lib.ListN.{drop, length, getD, set};
 ghost use lib.Dec.{ltb};
 ghost use lib.IntN.{ℤ};
 ghost use Rattle.sets.specs.Set.{member};
 ghost use Rattle.syntax.specs.Limits.{mostVars};
-ghost use Rattle.syntax.specs.Token.{Lexeme, mark, rbrace};
-ghost use Rattle.syntax.specs.Held.Kind.{noKind};
+ghost use Rattle.syntax.specs.Token.{Lexeme, key, mark, rbrace, k-if};
+ghost use Rattle.syntax.specs.Held.Kind.{kindOf, noKind};
 ghost use Rattle.syntax.specs.Tree.{Var, Cond, Block, spellCond, spellBlock};
 ghost use Rattle.meaning.specs.Value.{truth};
 ghost use Rattle.meaning.specs.Decide.Bodies.{runBlock};
 ghost use Rattle.meaning.specs.Held.{Biased, Ranges};
 ghost use Rattle.evaluator.specs.Coding.{Codes, EndsCond, RunAs, lane};
-ghost use Rattle.evaluator.specs.Promises.{Placed, Next, Closes, operand, AtomRead, Near, TermRead, ExprRead};
-ghost use Rattle.evaluator.specs.Promises.{testOf, CompareRead, CondRead, ConjRead, SimpleRead, Stored, BlockRun};
+ghost use Rattle.evaluator.specs.Promises.{Placed, Next, Closes, Operand, AtomRead, Small, Adds, rest, RestsBy};
+ghost use Rattle.evaluator.specs.Promises.{Remains, Near, Joined, TermRead, ExprRead, AtomSum, PlainRead, testOf};
+ghost use Rattle.evaluator.specs.Promises.{CompareRead, CondRead, ConjRead, SimpleRead, Stored, BlockRun};
 ghost use Rattle.evaluator.specs.Promises.{StmtRun, BranchRun};
 
 // What is added to an expression's value.
@@ -35,25 +38,40 @@ struct Atom {
     next: usize,
 }
 
-// The value of an expression in each lane, and the token behind it.
+// A remainder in each lane, and the lanes that lack one.
+struct Rests {
+    lanes: [u32; 16],
+    lacks: u16,
+}
+
+// The value of an expression in each lane, the lanes that lack one, and the token behind it.
 struct Sum {
     lanes: [u32; 16],
+    lacks: u16,
     next: usize,
 }
 
-// Whether a condition holds in each lane, and the token behind it.
+// The same up to the first `mod`, the token there or behind the expression, and its kind.
+struct Plain {
+    lanes: [u32; 16],
+    next: usize,
+    kind: u8,
+}
+
+// Whether a condition holds in each lane, the lanes that lack a value, and the token behind it.
 struct Truth {
     holds: [bool; 16],
+    lacks: u16,
     next: usize,
 }
 
-// Whether a statement stayed in its ranges in each lane, and the token behind it.
+// Whether a statement ran in each lane with no fault, and the token behind it.
 struct Step {
     ok: [bool; 16],
     next: usize,
 }
 
-// The lanes in which a body stayed in its ranges, and the values after it there.
+// The lanes in which a body ran with no fault, and the values after it there.
 pub struct Ran {
     pub ok: u16,
     pub values: [u16; 96],
@@ -124,8 +142,7 @@ fn read_atom(kinds: &[u8], values: &[u16], at: usize) -> Atom
 
 // A variable's value in each lane, or a number in all.
 fn operands(vars: &[u16; 96], slot: usize, plus: u32) -> [u32; 16]
-    ensures { λ r. ⌜ ((j : ℕ) → j < 16 → (getD r j 0 ≡ operand (lane (now (vars .entry)) j) slot plus)
-        × (plus ≤ 65535 → getD r j 0 ≤ 65535)) ⌝ }
+    ensures { λ r. ⌜ Adds (now (vars .entry)) slot plus r ⌝ }
 {
     let mut lanes = [plus; 16];
     if slot < syntax::VARIABLES {
@@ -151,57 +168,6 @@ fn moved(lanes: [u32; 16], plus: [u32; 16], minus: [u32; 16]) -> [u32; 16]
         j += 1;
     }
     sums
-}
-
-// What is summed up to an operand, with the operand added or taken away.
-fn eval_term(
-    kinds: &[u8],
-    values: &[u16],
-    vars: &[u16; 96],
-    lanes: [u32; 16],
-    taken: bool,
-    at: usize,
-) -> Sum
-    requires { ⌜ Placed (now kinds) at ⌝ }
-    requires { ⌜ Near at lanes ⌝ }
-    ensures { λ r. ⌜ TermRead (now (kinds .entry)) (now (values .entry)) (now (vars .entry)) taken lanes at (r .lanes)
-        (r .next) ⌝ }
-{
-    let atom = read_atom(kinds, values, at);
-    let one = operands(vars, atom.slot, atom.plus);
-    let two = [atom.minus; 16];
-    if taken {
-        return Sum {
-            lanes: moved(lanes, two, one),
-            next: atom.next,
-        };
-    }
-    Sum {
-        lanes: moved(lanes, one, two),
-        next: atom.next,
-    }
-}
-
-fn eval_expr(kinds: &[u8], values: &[u16], vars: &[u16; 96], at: usize) -> Sum
-    requires { ⌜ Placed (now kinds) at ⌝ }
-    ensures { λ r. ⌜ ExprRead (now (kinds .entry)) (now (values .entry)) (now (vars .entry)) at (r .lanes) (r .next) ⌝ }
-{
-    let mut lanes = [ZERO; 16];
-    let mut taken = false;
-    let mut place = at;
-    loop {
-        let sum = eval_term(kinds, values, vars, lanes, taken, place);
-        let kind = kind_at(kinds, sum.next);
-        if kind == syntax::PLUS {
-            taken = false;
-        } else if kind == syntax::MINUS {
-            taken = true;
-        } else {
-            return sum;
-        }
-        lanes = sum.lanes;
-        place = after(kinds, sum.next);
-    }
 }
 
 // The lanes of one set that another has not.
@@ -262,6 +228,246 @@ fn below(a: [u32; 16], b: [u32; 16]) -> [bool; 16]
     set
 }
 
+// Sums with what a term adds less what it takes away, added in each lane or taken away.
+fn joined(lanes: [u32; 16], taken: bool, plus: [u32; 16], minus: u32) -> [u32; 16]
+    requires { ⌜ Near 8192 lanes ⌝ }
+    requires { ⌜ Small plus ⌝ }
+    requires { ⌜ minus ≤ 65535 ⌝ }
+    ensures { λ r. ⌜ Joined taken plus minus lanes r ⌝ }
+{
+    let all = [minus; 16];
+    if taken {
+        return moved(lanes, all, plus);
+    }
+    moved(lanes, plus, all)
+}
+
+// The remainder of one number less another by a third less a fourth, and 0 where that is below 1.
+fn remainder(plus: u32, minus: u32, by: u32, less: u32) -> u32
+    requires { ⌜ (plus ≤ 65535) × (minus ≤ 65535) × (by ≤ 65535) ⌝ }
+    ensures { λ r. ⌜ r ≡ cond (ltb less by) (rest plus minus (by - less)) 0 ⌝ }
+{
+    if less < by {
+        let divisor = by - less;
+        return (plus + (divisor - minus % divisor)) % divisor;
+    }
+    0
+}
+
+// Remainders by a divisor that differs from lane to lane.
+fn by_lanes(plus: [u32; 16], minus: u32, by: [u32; 16], less: u32) -> Rests
+    requires { ⌜ Small plus × (minus ≤ 65535) × Small by ⌝ }
+    ensures { λ r. ⌜ ((j : ℕ) → j < 16 → (member (r .lacks) j ≡ not (ltb less (getD by j 0)))
+        × (getD (r .lanes) j 0 ≡ cond (ltb less (getD by j 0)) (rest (getD plus j 0) minus (getD by j 0 - less)) 0)) ⌝ }
+{
+    let mut lanes = [0u32; 16];
+    let mut j: usize = 0;
+    while j < 16 {
+        lanes[j] = remainder(plus[j], minus, by[j], less);
+        j += 1;
+    }
+    let lacks = mask(other(below([less; 16], by)));
+    Rests { lanes, lacks }
+}
+
+// The remainder of a small number, with a multiplication in the place of a division: `times` is 65,536 by the divisor
+// and one more.
+fn cast_out(x: u32, by: u32, times: u32) -> u32
+    requires { ⌜ (0 < by) × (by ≤ 128) × (x ≤ 255 + by) × (times ≡ 65536 / by + 1) ⌝ }
+    ensures { λ r. ⌜ r ≡ x % by ⌝ }
+{
+    x - x * times / 65536 * by
+}
+
+// Remainders of a variable's values by a number up to 128. The values have 128 added, and `more` makes that a multiple
+// of the divisor.
+fn by_small(lanes: [u32; 16], by: u32) -> [u32; 16]
+    requires { ⌜ (0 < by) × (by ≤ 128) ⌝ }
+    ensures { λ r. ⌜ ((j : ℕ) → j < 16 → getD r j 0 ≡ rest (getD lanes j 0 % 256) 128 by) ⌝ }
+{
+    let times = 65536 / by + 1;
+    let more = by - 128 % by;
+    let mut rests = [0u32; 16];
+    let mut j: usize = 0;
+    while j < 16 {
+        rests[j] = cast_out(lanes[j] % 256 + more, by, times);
+        j += 1;
+    }
+    rests
+}
+
+// Remainders of a variable's values by a number above 128: each value is less than that away from 0.
+fn by_large(lanes: [u32; 16], by: u32) -> [u32; 16]
+    requires { ⌜ (128 < by) × (by ≤ 65535) ⌝ }
+    ensures { λ r. ⌜ ((j : ℕ) → j < 16 → getD r j 0 ≡ rest (getD lanes j 0 % 256) 128 by) ⌝ }
+{
+    let mut rests = [0u32; 16];
+    let mut j: usize = 0;
+    while j < 16 {
+        let x = lanes[j] % 256;
+        rests[j] = if x < 128 { x + (by - 128) } else { x - 128 };
+        j += 1;
+    }
+    rests
+}
+
+// Remainders by a number.
+fn by_number(vars: &[u16; 96], left: Atom, by: u32) -> [u32; 16]
+    requires { ⌜ (0 < by) × (by ≤ 65535) ⌝ }
+    requires { ⌜ Operand (left .slot) (left .plus) (left .minus) ⌝ }
+    ensures { λ r. ⌜ RestsBy (now (vars .entry)) (left .slot) (left .plus) (left .minus) by r ⌝ }
+{
+    if left.slot < syntax::VARIABLES {
+        let lanes = operands(vars, left.slot, left.plus);
+        if by <= 128 {
+            return by_small(lanes, by);
+        }
+        return by_large(lanes, by);
+    }
+    [remainder(left.plus, left.minus, by, 0); 16]
+}
+
+// The remainders of one operand by another.
+fn divide(vars: &[u16; 96], left: Atom, right: Atom) -> Rests
+    requires { ⌜ Operand (left .slot) (left .plus) (left .minus) ⌝ }
+    requires { ⌜ Operand (right .slot) (right .plus) (right .minus) ⌝ }
+    ensures { λ r. ⌜ Remains (now (vars .entry)) (left .slot) (left .plus) (left .minus) (right .slot) (right .plus)
+        (right .minus) (r .lanes) (r .lacks) ⌝ }
+{
+    if right.slot < syntax::VARIABLES {
+        let one = operands(vars, left.slot, left.plus);
+        let two = operands(vars, right.slot, right.plus);
+        return by_lanes(one, left.minus, two, right.minus);
+    }
+    if right.minus < right.plus {
+        return Rests {
+            lanes: by_number(vars, left, right.plus - right.minus),
+            lacks: 0,
+        };
+    }
+    Rests {
+        lanes: [0; 16],
+        lacks: 65535,
+    }
+}
+
+// What is summed up to a term, with the term added or taken away.
+fn eval_term(
+    kinds: &[u8],
+    values: &[u16],
+    vars: &[u16; 96],
+    lanes: [u32; 16],
+    lacks: u16,
+    taken: bool,
+    at: usize,
+) -> Sum
+    requires { ⌜ Placed (now kinds) at ⌝ }
+    requires { ⌜ Near at lanes ⌝ }
+    ensures { λ r. ⌜ TermRead (now (kinds .entry)) (now (values .entry)) (now (vars .entry)) taken lanes lacks at
+        (r .lanes) (r .lacks) (r .next) ⌝ }
+{
+    let left = read_atom(kinds, values, at);
+    let next = left.next;
+    if kind_at(kinds, next) == syntax::KEY_MOD {
+        let right = read_atom(kinds, values, after(kinds, next));
+        let rests = divide(vars, left, right);
+        let plus = rests.lanes;
+        return Sum {
+            lanes: joined(lanes, taken, plus, 0),
+            lacks: sets::union(lacks, rests.lacks),
+            next: right.next,
+        };
+    }
+    let plus = operands(vars, left.slot, left.plus);
+    Sum {
+        lanes: joined(lanes, taken, plus, left.minus),
+        lacks,
+        next,
+    }
+}
+
+// An expression with or without `mod`.
+fn eval_expr(kinds: &[u8], values: &[u16], vars: &[u16; 96], at: usize) -> Sum
+    requires { ⌜ Placed (now kinds) at ⌝ }
+    ensures { λ r. ⌜ ExprRead (now (kinds .entry)) (now (values .entry)) (now (vars .entry)) at (r .lanes) (r .lacks)
+        (r .next) ⌝ }
+{
+    let mut lanes = [ZERO; 16];
+    let mut lacks: u16 = 0;
+    let mut taken = false;
+    let mut place = at;
+    loop {
+        let sum = eval_term(kinds, values, vars, lanes, lacks, taken, place);
+        let kind = kind_at(kinds, sum.next);
+        if kind == syntax::PLUS {
+            taken = false;
+        } else if kind == syntax::MINUS {
+            taken = true;
+        } else {
+            return sum;
+        }
+        lanes = sum.lanes;
+        lacks = sum.lacks;
+        place = after(kinds, sum.next);
+    }
+}
+
+// What is summed up to an operand, with the operand added or taken away.
+fn eval_atom(
+    kinds: &[u8],
+    values: &[u16],
+    vars: &[u16; 96],
+    lanes: [u32; 16],
+    taken: bool,
+    at: usize,
+) -> Plain
+    requires { ⌜ Placed (now kinds) at ⌝ }
+    requires { ⌜ Near at lanes ⌝ }
+    ensures { λ r. ⌜ AtomSum (now (kinds .entry)) (now (values .entry)) (now (vars .entry)) taken lanes at (r .lanes)
+        (r .next) (r .kind) ⌝ }
+{
+    let atom = read_atom(kinds, values, at);
+    let one = operands(vars, atom.slot, atom.plus);
+    let two = [atom.minus; 16];
+    let kind = kind_at(kinds, atom.next);
+    if taken {
+        return Plain {
+            lanes: moved(lanes, two, one),
+            next: atom.next,
+            kind,
+        };
+    }
+    Plain {
+        lanes: moved(lanes, one, two),
+        next: atom.next,
+        kind,
+    }
+}
+
+// An expression without `mod`. The kind tells whether it was one.
+fn eval_plain(kinds: &[u8], values: &[u16], vars: &[u16; 96], at: usize) -> Plain
+    requires { ⌜ Placed (now kinds) at ⌝ }
+    ensures { λ r. ⌜ PlainRead (now (kinds .entry)) (now (values .entry)) (now (vars .entry)) at (r .lanes) (r .next)
+        (r .kind) ⌝ }
+{
+    let mut lanes = [ZERO; 16];
+    let mut taken = false;
+    let mut place = at;
+    loop {
+        let sum = eval_atom(kinds, values, vars, lanes, taken, place);
+        let kind = sum.kind;
+        if kind == syntax::PLUS {
+            taken = false;
+        } else if kind == syntax::MINUS {
+            taken = true;
+        } else {
+            return sum;
+        }
+        lanes = sum.lanes;
+        place = after(kinds, sum.next);
+    }
+}
+
 fn compare(kind: u8, a: [u32; 16], b: [u32; 16]) -> [bool; 16]
     ensures { λ r. ⌜ ((j : ℕ) → j < 16 → getD r j false ≡ testOf kind (getD a j 0) (getD b j 0)) ⌝ }
 {
@@ -284,10 +490,45 @@ fn compare(kind: u8, a: [u32; 16], b: [u32; 16]) -> [bool; 16]
     other(differ)
 }
 
-fn eval_compare(kinds: &[u8], values: &[u16], vars: &[u16; 96], at: usize) -> Truth
+fn test(kind: u8, a: u32, b: u32) -> bool
+    ensures { λ r. ⌜ r ≡ testOf kind a b ⌝ }
+{
+    if kind == syntax::BELOW {
+        return a < b;
+    }
+    if kind == syntax::ABOVE {
+        return b < a;
+    }
+    if kind == syntax::AT_MOST {
+        return !(b < a);
+    }
+    if kind == syntax::AT_LEAST {
+        return !(a < b);
+    }
+    if kind == syntax::DIFFERS {
+        return (a < b) | (b < a);
+    }
+    !((a < b) | (b < a))
+}
+
+// The same as `compare`, which is called once and so stands where it is called.
+fn compare_each(kind: u8, a: [u32; 16], b: [u32; 16]) -> [bool; 16]
+    ensures { λ r. ⌜ ((j : ℕ) → j < 16 → getD r j false ≡ testOf kind (getD a j 0) (getD b j 0)) ⌝ }
+{
+    let mut set = [false; 16];
+    let mut j: usize = 0;
+    while j < 16 {
+        set[j] = test(kind, a[j], b[j]);
+        j += 1;
+    }
+    set
+}
+
+// A comparison with `mod`.
+fn compare_mod(kinds: &[u8], values: &[u16], vars: &[u16; 96], at: usize) -> Truth
     requires { ⌜ Placed (now kinds) at ⌝ }
     ensures { λ r. ⌜ CompareRead (now (kinds .entry)) (now (values .entry)) (now (vars .entry)) at (r .holds)
-        (r .next) ⌝ }
+        (r .lacks) (r .next) ⌝ }
 {
     let one = eval_expr(kinds, values, vars, at);
     let kind = kind_at(kinds, one.next);
@@ -295,16 +536,57 @@ fn eval_compare(kinds: &[u8], values: &[u16], vars: &[u16; 96], at: usize) -> Tr
     let two = eval_expr(kinds, values, vars, next);
     let a = one.lanes;
     let b = two.lanes;
+    let holds = compare_each(kind, a, b);
+    Truth {
+        holds,
+        lacks: sets::union(one.lacks, two.lacks),
+        next: two.next,
+    }
+}
+
+// Called twice, `compare_mod` stays a call, and what it returns is handed on by its fields: so the way without `mod`
+// keeps few registers and copies nothing.
+fn eval_compare(kinds: &[u8], values: &[u16], vars: &[u16; 96], at: usize) -> Truth
+    requires { ⌜ Placed (now kinds) at ⌝ }
+    ensures { λ r. ⌜ CompareRead (now (kinds .entry)) (now (values .entry)) (now (vars .entry)) at (r .holds)
+        (r .lacks) (r .next) ⌝ }
+{
+    let one = eval_plain(kinds, values, vars, at);
+    let kind = one.kind;
+    if kind == syntax::KEY_MOD {
+        let with = compare_mod(kinds, values, vars, at);
+        let holds = with.holds;
+        return Truth {
+            holds,
+            lacks: with.lacks,
+            next: with.next,
+        };
+    }
+    let next = after(kinds, one.next);
+    let two = eval_plain(kinds, values, vars, next);
+    if two.kind == syntax::KEY_MOD {
+        let with = compare_mod(kinds, values, vars, at);
+        let holds = with.holds;
+        return Truth {
+            holds,
+            lacks: with.lacks,
+            next: with.next,
+        };
+    }
+    let a = one.lanes;
+    let b = two.lanes;
     let holds = compare(kind, a, b);
     Truth {
         holds,
+        lacks: 0,
         next: two.next,
     }
 }
 
 fn eval_cond(kinds: &[u8], values: &[u16], vars: &[u16; 96], at: usize) -> Truth
     requires { ⌜ Placed (now kinds) at ⌝ }
-    ensures { λ r. ⌜ CondRead (now (kinds .entry)) (now (values .entry)) (now (vars .entry)) at (r .holds) (r .next) ⌝ }
+    ensures { λ r. ⌜ CondRead (now (kinds .entry)) (now (values .entry)) (now (vars .entry)) at (r .holds) (r .lacks)
+        (r .next) ⌝ }
 {
     let conj = eval_conj(kinds, values, vars, at);
     if kind_at(kinds, conj.next) == syntax::OR_OR {
@@ -314,15 +596,22 @@ fn eval_cond(kinds: &[u8], values: &[u16], vars: &[u16; 96], at: usize) -> Truth
         let b = more.holds;
         return Truth {
             holds: union(a, b),
+            lacks: sets::union(conj.lacks, more.lacks),
             next: more.next,
         };
     }
-    conj
+    let holds = conj.holds;
+    Truth {
+        holds,
+        lacks: conj.lacks,
+        next: conj.next,
+    }
 }
 
 fn eval_conj(kinds: &[u8], values: &[u16], vars: &[u16; 96], at: usize) -> Truth
     requires { ⌜ Placed (now kinds) at ⌝ }
-    ensures { λ r. ⌜ ConjRead (now (kinds .entry)) (now (values .entry)) (now (vars .entry)) at (r .holds) (r .next) ⌝ }
+    ensures { λ r. ⌜ ConjRead (now (kinds .entry)) (now (values .entry)) (now (vars .entry)) at (r .holds) (r .lacks)
+        (r .next) ⌝ }
 {
     let simple = eval_simple(kinds, values, vars, at);
     if kind_at(kinds, simple.next) == syntax::AND_AND {
@@ -332,16 +621,22 @@ fn eval_conj(kinds: &[u8], values: &[u16], vars: &[u16; 96], at: usize) -> Truth
         let b = more.holds;
         return Truth {
             holds: both(a, b),
+            lacks: sets::union(simple.lacks, more.lacks),
             next: more.next,
         };
     }
-    simple
+    let holds = simple.holds;
+    Truth {
+        holds,
+        lacks: simple.lacks,
+        next: simple.next,
+    }
 }
 
 fn eval_simple(kinds: &[u8], values: &[u16], vars: &[u16; 96], at: usize) -> Truth
     requires { ⌜ Placed (now kinds) at ⌝ }
     ensures { λ r. ⌜ SimpleRead (now (kinds .entry)) (now (values .entry)) (now (vars .entry)) at (r .holds)
-        (r .next) ⌝ }
+        (r .lacks) (r .next) ⌝ }
 {
     let kind = kind_at(kinds, at);
     let next = after(kinds, at);
@@ -350,6 +645,7 @@ fn eval_simple(kinds: &[u8], values: &[u16], vars: &[u16; 96], at: usize) -> Tru
         let a = simple.holds;
         return Truth {
             holds: other(a),
+            lacks: simple.lacks,
             next: simple.next,
         };
     }
@@ -357,17 +653,23 @@ fn eval_simple(kinds: &[u8], values: &[u16], vars: &[u16; 96], at: usize) -> Tru
         let cond = eval_cond(kinds, values, vars, next);
         let past = after(kinds, cond.next);
         let holds = cond.holds;
-        return Truth { holds, next: past };
+        return Truth {
+            holds,
+            lacks: cond.lacks,
+            next: past,
+        };
     }
     if kind == syntax::KEY_TRUE {
         return Truth {
             holds: [true; 16],
+            lacks: 0,
             next,
         };
     }
     if kind == syntax::KEY_FALSE {
         return Truth {
             holds: [false; 16],
+            lacks: 0,
             next,
         };
     }
@@ -389,7 +691,7 @@ pub fn holds(kinds: &[u8], values: &[u16], vars: &[u16; 96], at: usize) -> u16
     }
     let cond = eval_cond(kinds, values, vars, at);
     let lanes = cond.holds;
-    mask(lanes)
+    sets::minus(mask(lanes), cond.lacks)
 }
 
 // The new value in the lanes of a set, with 128 added, and the old one in the others.
@@ -445,6 +747,30 @@ fn store(
     other(on)
 }
 
+// The set of bits as lanes.
+fn spread(set: u16) -> [bool; 16]
+    ensures { λ r. ⌜ ((j : ℕ) → j < 16 → getD r j false ≡ member set j) ⌝ }
+{
+    let mut lanes = [false; 16];
+    let mut j: u32 = 0;
+    while j < 16 {
+        lanes[j as usize] = sets::has(set, j);
+        j += 1;
+    }
+    lanes
+}
+
+// The lanes with no fault, once those of a set that lack a value have one.
+fn faulted(ok: [bool; 16], on: [bool; 16], lacks: u16) -> [bool; 16]
+    ensures { λ r. ⌜ ((j : ℕ) → j < 16
+        → getD r j false ≡ getD ok j false && not (getD on j false && member lacks j)) ⌝ }
+{
+    if lacks == 0 {
+        return ok;
+    }
+    unless(ok, both(on, spread(lacks)))
+}
+
 // The closing brace of the block that opens at a token, or the end where what is held is none.
 fn close_of(kinds: &[u8], values: &[u16], brace: usize) -> usize
     requires { ⌜ brace ≤ length (now kinds) ⌝ }
@@ -459,7 +785,35 @@ fn close_of(kinds: &[u8], values: &[u16], brace: usize) -> usize
     kinds.len()
 }
 
-// Statements up to the closing brace, in the lanes of a set: whether they stayed in their ranges there.
+// An assignment with `mod`.
+fn assign_mod(
+    kinds: &[u8],
+    values: &[u16],
+    lows: [u16; syntax::VARIABLES],
+    highs: [u16; syntax::VARIABLES],
+    vars: &mut [u16; 96],
+    on: [bool; 16],
+    at: usize,
+) -> Step
+    requires { ⌜ Placed (now kinds) at ⌝ }
+    requires { ⌜ length (now vars) ≡ 96 ⌝ }
+    requires { ⌜ at < length (now kinds) ⌝ }
+    requires { ⌜ (getD (now kinds) at noKind ≡ kindOf (key k-if) → ⊥) ⌝ }
+    ensures { λ r. ⌜ StmtRun (now (kinds .entry)) (now (values .entry)) lows highs (now (vars .entry)) on at
+        (r .ok) (now (vars .exit)) (r .next) ⌝ }
+{
+    let second = after(kinds, at);
+    let third = after(kinds, second);
+    let sum = eval_expr(kinds, values, vars, third);
+    let next = after(kinds, sum.next);
+    let assigned = value_at(values, at) as usize;
+    let lanes = sum.lanes;
+    let stored = store(lows, highs, vars, on, assigned, lanes);
+    let ok = faulted(stored, on, sum.lacks);
+    Step { ok, next }
+}
+
+// Statements up to the closing brace, in the lanes of a set: whether they ran there with no fault.
 fn run_block(
     kinds: &[u8],
     values: &[u16],
@@ -508,9 +862,17 @@ fn run_stmt(
         let cond = eval_cond(kinds, values, vars, third);
         let open = after(kinds, cond.next);
         let holds = cond.holds;
-        return run_branch(kinds, values, lows, highs, vars, on, open, holds);
+        let step = run_branch(kinds, values, lows, highs, vars, on, open, holds);
+        let ran = step.ok;
+        return Step {
+            ok: faulted(ran, on, cond.lacks),
+            next: step.next,
+        };
     }
-    let sum = eval_expr(kinds, values, vars, third);
+    let sum = eval_plain(kinds, values, vars, third);
+    if sum.kind == syntax::KEY_MOD {
+        return assign_mod(kinds, values, lows, highs, vars, on, at);
+    }
     let next = after(kinds, sum.next);
     let assigned = value_at(values, at) as usize;
     let lanes = sum.lanes;

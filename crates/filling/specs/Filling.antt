@@ -1,5 +1,5 @@
 -- What filling the slices from a file whose names and braces are resolved says: refusals 8 and 9.
-use Prim.Native.Nat.{ℕ, _≤_}
+use Prim.Native.Nat.{ℕ}
 use mathlib.Core.Path.{_≡_}
 use mathlib.Core.Bool.{true, false}
 use mathlib.Core.List.{List}
@@ -39,8 +39,8 @@ pub record Filled (m : Monitor) (place : ℕ) (r : Settled) (kept holds after : 
   pub fails : keptAt m (starts (vars m)) ≡ false → Says (r .answer) (answer 8 place 0)
   pub settles : keptAt m (starts (vars m)) ≡ true → Settles m r kept holds after
 
--- what is left in the slices that are lent: those of a file refused with 1 to 8 are as they were, and none changes its
--- length. What they hold where 8 passes, so beside 0 and 9, `Rows` says; left free is what stands behind the states.
+-- what is left in the slices that are lent: those of a file refused otherwise than with 9 are as they were, and none changes
+-- its length. What they hold where 8 passes, so beside 0 and 9, `Rows` says; left free is what stands behind the states.
 pub record Leaves (number : ℕ) (kept₀ holds₀ after₀ kept holds after : List ℕ) : Type 0 where
-  pub untouched : 1 ≤ number → number ≤ 8 → (kept ≡ kept₀) × (holds ≡ holds₀) × (after ≡ after₀)
+  pub untouched : (number ≡ 0 → ⊥) → (number ≡ 9 → ⊥) → (kept ≡ kept₀) × (holds ≡ holds₀) × (after ≡ after₀)
   pub as-long : (length kept ≡ length kept₀) × (length holds ≡ length holds₀) × (length after ≡ length after₀)

@@ -7,11 +7,11 @@ ghost use Prim.Native.Nat.{_≤_};
 ghost use Rattle.syntax.specs.Limits.{mostBytes};
 ghost use Rattle.syntax.specs.Token.{Lexeme, k-var, k-method, k-waituntil, k-try};
 ghost use Rattle.syntax.specs.Decide.Lexeme.{isKey};
-ghost use Rattle.syntax.specs.Tree.{Int, Atom, Term, Expr, Cond, Conj, Simple, Block, Stmt, Region, Method, Var};
-ghost use Rattle.syntax.specs.Tree.{Monitor};
-ghost use Rattle.syntax.specs.Decide.Reading.{atEnd, isSign, readMany, readInt, readAtom, readTerm, readExpr, readCond};
-ghost use Rattle.syntax.specs.Decide.Reading.{readConj, readSimple, readBlock, readStmt, readRegion, readMethod};
-ghost use Rattle.syntax.specs.Decide.Reading.{readVar, readTry, readMonitor};
+ghost use Rattle.syntax.specs.Tree.{Int, Atom, Term, Signed, Expr, Cond, Conj, Simple, Block, Stmt, Region, Method};
+ghost use Rattle.syntax.specs.Tree.{Var, Monitor};
+ghost use Rattle.syntax.specs.Decide.Reading.{atEnd, isSign, readMany, readInt, readAtom, readTerm, readSigned};
+ghost use Rattle.syntax.specs.Decide.Reading.{readExpr, readCond, readConj, readSimple, readBlock, readStmt};
+ghost use Rattle.syntax.specs.Decide.Reading.{readRegion, readMethod, readVar, readTry, readMonitor};
 ghost use Rattle.syntax.specs.Decide.Reading as reading;
 ghost use Rattle.syntax.specs.Held.Kind.{kindOf};
 ghost use Rattle.grammar.specs.Reads.{Reads, Follows, Expects, halted, seen};
@@ -115,17 +115,29 @@ fn read_atom(kinds: &[u8], from: Pos) -> Pos
     read_int(kinds, from)
 }
 
+// An atom, or two with `mod` between them.
+fn read_term(kinds: &[u8], from: Pos) -> Pos
+    ensures { λ r. ⌜ Follows Term (now (kinds .entry)) from readTerm r ⌝ }
+{
+    let atom = read_atom(kinds, from);
+    if sees(kinds, atom, syntax::KEY_MOD) {
+        let word = expect(kinds, atom, syntax::KEY_MOD);
+        return read_atom(kinds, word);
+    }
+    atom
+}
+
 // Terms joined by + and -, as many as there are.
 fn read_terms(kinds: &[u8], from: Pos, left: usize) -> Pos
-    ensures { λ r. ⌜ Follows (List Term) (now (kinds .entry)) from (readMany isSign readTerm left) r ⌝ }
+    ensures { λ r. ⌜ Follows (List Signed) (now (kinds .entry)) from (readMany isSign readSigned left) r ⌝ }
 {
     if left == 0 {
         return stop(from);
     }
     if sees_among(kinds, from, syntax::PLUS, syntax::MINUS) {
         let sign = expect_among(kinds, from, syntax::PLUS, syntax::MINUS);
-        let atom = read_atom(kinds, sign);
-        return read_terms(kinds, atom, left - 1);
+        let term = read_term(kinds, sign);
+        return read_terms(kinds, term, left - 1);
     }
     from
 }
@@ -133,8 +145,8 @@ fn read_terms(kinds: &[u8], from: Pos, left: usize) -> Pos
 fn read_expr(kinds: &[u8], from: Pos, left: usize) -> Pos
     ensures { λ r. ⌜ Follows Expr (now (kinds .entry)) from (readExpr left) r ⌝ }
 {
-    let atom = read_atom(kinds, from);
-    read_terms(kinds, atom, left)
+    let term = read_term(kinds, from);
+    read_terms(kinds, term, left)
 }
 
 fn read_cond(kinds: &[u8], from: Pos, left: usize) -> Pos

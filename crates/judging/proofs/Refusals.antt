@@ -1,4 +1,4 @@
--- What the answers of the passes, of the reader and of the variables' reader say of a file's check: refusals 3 to 8,
+-- What the answers of the passes, of the reader and of the variables' reader say of a file's check: refusals 3 to 9 and 15,
 -- and what is known where they do not arise.
 use Prim.Native.Nat.{ℕ, _≤_, _<_}
 use native.Mathlib.Omega.{arith}
@@ -15,11 +15,13 @@ use Rattle.syntax.proofs.Grammar.{read-spells, spelled-read}
 use Rattle.meaning.specs.State.{starts}
 use Rattle.meaning.specs.Kept.{keptAt}
 use Rattle.meaning.specs.Answer.{answer, refused, accepted}
-use Rattle.meaning.specs.Decide.Check.{crowded, pastLimit, misnamed, illRanged, placesOf, broken, check}
+use Rattle.meaning.specs.Decide.Check.{crowded, pastLimit, misnamed, illRanged, unvalued, placesOf, broken}
+use Rattle.meaning.specs.Decide.Check.{check}
 use Rattle.meaning.proofs.RangeLaws.{ill-ranged-good}
 use Rattle.meaning.specs.Held.{behindKeep}
 use Rattle.logic.proofs.Bools.{different}
-use Rattle.meaning.proofs.Stages.{check-3, check-4, check-5, check-6, check-7, check-8, check-9, check-0}
+use Rattle.meaning.proofs.Stages.{check-3, check-4, check-5, check-6, check-7, check-15, check-8}
+use Rattle.meaning.proofs.Stages.{check-9, check-0}
 use Rattle.grammar.specs.Reads.{Reads}
 use Rattle.grammar.specs.declared.Pos.the-variants.{Next, Stuck}
 use Rattle.passes.specs.Pass.{foundOf}
@@ -103,18 +105,23 @@ module _ {file : List ℕ} {ts : List Token} {kinds values places : List ℕ} (w
           no-7 d r = ill-ranged-good (placesOf k-var ts) (r .0 .good) (r .0 .few-states)
 
           module _ (ranges : illRanged 1 (all (m .vars)) (placesOf k-var ts) ≡ none) where
-            -- 8
-            pub says-8 : (k : ℕ) → drop k (lexemes ts) ≡ key k-keep ∷ behindKeep m
-                → keptAt m (starts (all (m .vars))) ≡ false → check file ≡ refused (answer 8 (getD places k 0) 0)
-            says-8 k at h =
-                check-8 file (w .short) (w .cut) room tree few names ranges h
-                ∙ ap (λ (b : ℕ). refused (answer 8 b 0)) (sym (keep-byte ts m spelt k at w))
+            -- 15
+            pub says-15 : {k : ℕ} → unvalued (all (m .vars)) false ts ≡ some k → check file ≡ refused (answer 15 k 0)
+            says-15 = check-15 file (w .short) (w .cut) room tree few names ranges
 
-            module _ (start : keptAt m (starts (all (m .vars))) ≡ true) where
-              -- 9
-              pub says-9 : {k n : ℕ} → broken m ≡ some (k, n)
-                  → check file ≡ refused (answer 9 k n)
-              says-9 = check-9 file (w .short) (w .cut) room tree few names ranges start
+            module _ (valued : unvalued (all (m .vars)) false ts ≡ none) where
+              -- 8
+              pub says-8 : (k : ℕ) → drop k (lexemes ts) ≡ key k-keep ∷ behindKeep m
+                  → keptAt m (starts (all (m .vars))) ≡ false → check file ≡ refused (answer 8 (getD places k 0) 0)
+              says-8 k at h =
+                  check-8 file (w .short) (w .cut) room tree few names ranges valued h
+                  ∙ ap (λ (b : ℕ). refused (answer 8 b 0)) (sym (keep-byte ts m spelt k at w))
 
-              pub says-0 : broken m ≡ none → check file ≡ accepted m
-              says-0 = check-0 file (w .short) (w .cut) room tree few names ranges start
+              module _ (start : keptAt m (starts (all (m .vars))) ≡ true) where
+                -- 9
+                pub says-9 : {k n : ℕ} → broken m ≡ some (k, n)
+                    → check file ≡ refused (answer 9 k n)
+                says-9 = check-9 file (w .short) (w .cut) room tree few names ranges valued start
+
+                pub says-0 : broken m ≡ none → check file ≡ accepted m
+                says-0 = check-0 file (w .short) (w .cut) room tree few names ranges valued start

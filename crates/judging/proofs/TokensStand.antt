@@ -14,12 +14,13 @@ use Rattle.meaning.specs.Decide.Check.{placesOf, placeOf, leftOf, illRanged}
 use Rattle.meaning.specs.Refusal.{FirstIllRanged}
 use Rattle.meaning.proofs.RangeLaws.{ill-ranged-first}
 use Rattle.logic.proofs.Bools.{different}
-use Rattle.meaning.specs.Refusal.{KeywordAt, upTo}
+use Rattle.meaning.specs.Refusal.{KeywordAt}
 use Rattle.meaning.specs.Held.{behindKeep}
 use Rattle.meaning.proofs.KeywordPlaces.{spell-from, var-place, keep-place}
 use Rattle.variables.specs.Bounded.{EndsVars}
 use Rattle.variables.specs.Places.{firstVar}
 use Rattle.layout.proofs.Same.{lexemes-length}
+use Rattle.meaning.specs.Before.{upTo}
 
 place-at : (front : List Token) (t : Token) (back : List Token)
     → getD (map (λ u. u .at) (front ++ (t ∷ back))) (length front) 0 ≡ t .at

@@ -7,14 +7,15 @@ use mathlib.Core.Bool.{Bool, true, false, not, _&&_, true≢false}
 use mathlib.Core.List.{List, [], _∷_, _++_, append-assoc}
 use lib.Dec.{eqb}
 use Rattle.syntax.specs.Token.{Lexeme, name, key, number, mark, lbrace, rbrace, lparen, rparen, semicolon}
-use Rattle.syntax.specs.Token.{becomes, minus, bang, and-and, or-or, k-if, k-else, k-true, k-false}
+use Rattle.syntax.specs.Token.{becomes, minus, bang, and-and, or-or, k-if, k-else, k-true, k-false, k-mod}
 use Rattle.syntax.specs.Decide.Lexeme.{markNumber, keywordNumber}
 use Rattle.syntax.specs.Held.Kind.{kindOf, noKind}
 use Rattle.syntax.proofs.ByKind.{kind-below}
-use Rattle.syntax.specs.Tree.{Int, plain, negated, Atom, literal, variable, Sign, added, taken, Term, Expr, Comparison}
+use Rattle.syntax.specs.Tree.{Int, plain, negated, Atom, literal, variable, Sign, added, taken, Term, alone}
+use Rattle.syntax.specs.Tree.{remainder, Signed, Expr, Comparison}
 use Rattle.syntax.specs.Tree.{eq, ne, lt, le, gt, ge, Cond, only, or, Conj, just, and, Simple, negation, bracketed}
 use Rattle.syntax.specs.Tree.{constant, compare, Block, end, then, Stmt, assign, if-then, if-else, each}
-use Rattle.syntax.specs.Tree.{spellInt, spellAtom, signMark, spellTerm, spellExpr}
+use Rattle.syntax.specs.Tree.{spellInt, spellAtom, signMark, spellTerm, spellSigned, spellExpr}
 use Rattle.syntax.specs.Tree.{comparisonMark, spellConstant, spellCond, spellConj, spellSimple, spellBlock, spellStmt}
 use Rattle.layout.proofs.Closes.{Balanced, balanced-nil, balanced-join, balanced-one, balanced-wrap}
 use Rattle.layout.proofs.Closes.{openBracket, shutBracket, openBrace, shutBrace, semicolonKind}
@@ -64,15 +65,20 @@ module _ (P : List Lexeme → Type 0) (nil : P []) (joins : (v w : List Lexeme) 
   of-atom (literal i) = of-int i
   of-atom (variable x) = calmly (name x) refl
 
-  of-terms : (ts : List Term) → P (each spellTerm ts)
-  unfolding each spellTerm
+  of-term : (t : Term) → P (spellTerm t)
+  unfolding spellTerm kindOf markNumber keywordNumber
+  of-term (alone a) = of-atom a
+  of-term (remainder a b) = join (of-atom a) (join (calmly (key k-mod) refl) (of-atom b))
+
+  of-terms : (ts : List Signed) → P (each spellSigned ts)
+  unfolding each spellSigned
   of-terms [] = nil
   of-terms (t ∷ ts) =
-      join (join (calmly (mark (signMark (t .sign))) (sign-kind (t .sign))) (of-atom (t .atom))) (of-terms ts)
+      join (join (calmly (mark (signMark (t .sign))) (sign-kind (t .sign))) (of-term (t .term))) (of-terms ts)
 
   of-expr : (e : Expr) → P (spellExpr e)
   unfolding spellExpr
-  of-expr e = join (of-atom (e .first)) (of-terms (e .more))
+  of-expr e = join (of-term (e .first)) (of-terms (e .more))
 
   of-constant : (b : Bool) → P (spellConstant b)
   unfolding spellConstant kindOf markNumber keywordNumber

@@ -3,7 +3,8 @@
 use Prim.Native.Nat.{ℕ, zero, suc, _≤_}
 use native.Mathlib.Omega.{arith}
 use mathlib.Core.Path.{_≡_, refl, sym, subst, ap, _∙_}
-use mathlib.Core.Bool.{true}
+use mathlib.Core.Bool.{true, false}
+use mathlib.Core.Logic.{⊎-elim}
 use mathlib.Core.List.{List}
 use mathlib.Core.Option.{Option, none, some}
 use lib.ListN.{length, getD, length-map}
@@ -16,10 +17,10 @@ use Rattle.meaning.specs.State.{starts}
 use Rattle.meaning.specs.Kept.{keptAt}
 use Rattle.meaning.specs.Answer.{Answer, answer, Verdict, accepted, refused}
 use Rattle.meaning.specs.Refusal as words
-use Rattle.meaning.specs.Decide.Check.{broken, check}
+use Rattle.meaning.specs.Decide.Check.{unvalued, broken, check}
 use Rattle.meaning.specs.Model.{vars, regions}
 use Rattle.meaning.proofs.Sizes.{Sizes}
-use Rattle.meaning.proofs.Verdicts.{accepted-iff, past-7-late, past-7-one}
+use Rattle.meaning.proofs.Verdicts.{accepted-iff, past-15-late, past-7-one}
 use Rattle.variables.specs.Bounded.{Bounded}
 use Rattle.names.specs.Slots.{Resolved}
 use Rattle.layout.specs.Laid.{IsKeep, Laid, TriesLaid, Linked}
@@ -30,7 +31,8 @@ use Rattle.states.proofs.Holding.{held}
 use Rattle.answers.specs.Says.{Says, Is, answerOf}
 use Rattle.answers.specs.declared.Answer as code
 use Rattle.layout.proofs.Same.{lexemes-length}
-use Rattle.judging.proofs.Refusals.{kinds-of, says-8, says-9, says-0}
+use Rattle.judging.proofs.Refusals.{kinds-of, says-15, says-8, says-9, says-0}
+use Rattle.divisors.specs.Coded.{Coded}
 use Rattle.judging.proofs.Counts.{few-tokens, few-parts}
 use Rattle.loader.proofs.Names.{codes}
 use Rattle.loader.proofs.Flags.{held-places}
@@ -49,40 +51,45 @@ use Rattle.filling.specs.declared.Settled.{Settled}
 use Rattle.loader.specs.declared.Loaded.{Loaded}
 use Rattle.filling.proofs.Fills.{numbers-of}
 
--- an answer from 1 to 7 is that of no file that passes these checks
-not-passed : (file : List ℕ) (l : Loaded) → (l .answer .number ≡ 0 → ⊥) → l .answer .number ≤ 7
-    → Is (l .answer) (check file) → (ts : List Token) (m : Monitor) → words.Past7 file ts m → ⊥
+-- the number of an answer by which nothing more is known of a file: that of 1 to 7, or 15
+abbrev Early : ℕ → Type 0
+Early n = (n ≡ 0 → ⊥) × (n ≡ 8 → ⊥) × (n ≡ 9 → ⊥)
+
+-- such an answer is that of no file that passes these checks
+not-passed : (file : List ℕ) (l : Loaded) → Early (l .answer .number) → Is (l .answer) (check file)
+    → (ts : List Token) (m : Monitor) → words.Past15 file ts m → ⊥
 unfolding Is answerOf
-not-passed file l other low is ts m p = go (check file) refl
+not-passed file l early is ts m p = go (check file) refl
   where
     go : (v : Verdict) → check file ≡ v → ⊥
-    go (accepted n) e = other (rw e at (is .number))
-    go (refused a) e = let h : l .answer .number ≡ a .number = rw e at (is .number) in omega (arith, past-7-late p e)
+    go (accepted n) e = early .0 (rw e at (is .number))
+    go (refused a) e =
+        let h : l .answer .number ≡ a .number = rw e at (is .number) in
+        ⊎-elim (λ eight. early .1 (h ∙ eight)) (λ nine. early .2 (h ∙ nine)) (past-15-late p e)
 
-loads-refused : (file : List ℕ) (l : Loaded) (kept holds after : List ℕ) → (l .answer .number ≡ 0 → ⊥)
-    → l .answer .number ≤ 7 → Is (l .answer) (check file)
-    → Loads file l kept holds after
+loads-refused : (file : List ℕ) (l : Loaded) (kept holds after : List ℕ) → Early (l .answer .number)
+    → Is (l .answer) (check file) → Loads file l kept holds after
 unfolding Is answerOf
-loads-refused file l kept holds after other low is =
+loads-refused file l kept holds after early is =
     record {
       verdict = is;
-      monitored = λ m e. absurd (other (rw e at (is .number)));
-      outlined = λ ts m p. absurd (not-passed file l other low is ts m p);
-      rows = λ ts m p on. absurd (not-passed file l other low is ts m p);
+      monitored = λ m e. absurd (early .0 (rw e at (is .number)));
+      outlined = λ ts m p. absurd (not-passed file l early is ts m p);
+      rows = λ ts m p on. absurd (not-passed file l early is ts m p);
     }
 
 is-refused : (file : List ℕ) {r : code.Answer} {a : Answer} → check file ≡ refused a → Says r a → Is r (check file)
 unfolding Is answerOf
 is-refused file e s = rw e s
 
--- 1 and 2
-pub loads-said : (file : List ℕ) (l : Loaded) (kept holds after : List ℕ) {r : code.Answer} (n : ℕ) {k : ℕ} → n ≤ 6
+-- 1, 2 and 15
+pub loads-said : (file : List ℕ) (l : Loaded) (kept holds after : List ℕ) {r : code.Answer} (n : ℕ) {k : ℕ} → Early n
     → l .answer ≡ r
-    → (r .number ≡ suc n) × (r .first ≡ k) × (r .second ≡ 0) → check file ≡ refused (answer (suc n) k 0)
+    → (r .number ≡ n) × (r .first ≡ k) × (r .second ≡ 0) → check file ≡ refused (answer n k 0)
     → Loads file l kept holds after
-loads-said file l kept holds after n low same (a, b, c) e =
-    loads-refused file l kept holds after (λ z. omega (arith, ap (λ (x : code.Answer). x .number) same))
-    (omega (arith, ap (λ (x : code.Answer). x .number) same))
+loads-said file l kept holds after n early same (a, b, c) e =
+    let is = ap (λ (x : code.Answer). x .number) same ∙ a in
+    loads-refused file l kept holds after (subst Early (sym is) early)
     (subst (λ (x : code.Answer). Is x (check file)) (sym same)
     (is-refused file e (record { number = a; first = b; second = c })))
 
@@ -100,8 +107,9 @@ module _ (file : List ℕ) (ts : List Token) (j : Judged) where
       → Judges file ts j
       → Loads file l kept holds after
   loads-judged l kept holds after same other q =
-      loads-refused file l kept holds after (λ z. other (ap (λ (x : code.Answer). x .number) (sym same) ∙ z))
-      (omega (arith, ap (λ (x : code.Answer). x .number) same, judged-other other q .0))
+      let few = judged-other other q .0 in
+      loads-refused file l kept holds after (subst Early (ap (λ (x : code.Answer). x .number) (sym same))
+      (other, (λ z. omega arith), λ z. omega arith))
       (subst (λ (x : code.Answer). Is x (check file)) (sym same) (judged-other other q .1))
 
   pub judged-tree : j .answer .number ≡ 0 → Judges file ts j → (m : Monitor) × Past7 ts m j
@@ -150,6 +158,28 @@ module _ {file : List ℕ} {ts : List Token} {kinds values places : List ℕ} (w
         few-tries = sizes .tries;
       }
 
+  -- what 15 asks for
+  pub coded : {l : Layout} {t : Tries} {linked : List ℕ} → Filling m (lexemes ts) kinds linked (j .bounds) l t
+      → Coded (vars m) (lexemes ts) kinds linked (j .bounds .lows) (j .bounds .count)
+  coded f =
+      record {
+        codes = f .codes;
+        lowest =
+            record {
+              few = f .bounded .few-vars;
+              counted = f .bounded .counted;
+              held = f .bounded .ranges .lows-held;
+            };
+      }
+
+  -- 15, at a place that was found
+  pub loads-15 : (l : Loaded) (kept holds after : List ℕ) {r : code.Answer} {k i : ℕ} → l .answer ≡ r
+      → (r .number ≡ 15) × (r .first ≡ i) × (r .second ≡ 0) → i ≡ k → unvalued (vars m) false ts ≡ some k
+      → Loads file l kept holds after
+  loads-15 l kept holds after same (a, b, c) e u =
+      loads-said file l kept holds after 15 ((λ z. omega arith), (λ z. omega arith), λ z. omega arith) same (a, b ∙ e, c)
+      (says-15 w (p .uncrowded) m (p .grammar) (p .counts) (p .names) (p .ranges) u)
+
   -- what is known of its names
   pub resolved : {l : Layout} {t : Tries} {linked : List ℕ} → Filling m (lexemes ts) kinds linked (j .bounds) l t
       → mentions.Resolved m (lexemes ts) kinds linked (j .bounds .count) l t
@@ -167,7 +197,7 @@ module _ {file : List ℕ} {ts : List Token} {kinds values places : List ℕ} (w
   module _ (l : Layout) (t : Tries) (n : Mentions) (pairs : ℕ) (r : Settled) (kept holds after : List ℕ)
       {linked : List ℕ} (f : Filling m (lexemes ts) kinds linked (j .bounds) l t) (named : mentions.Mentioned m n)
       (counts : l .regions ≤ 16 → pairs ≡ sumOf (l .regions) (λ q. size (getD (n .touched) q 0) 16))
-      {place : ℕ} (at-keep : place ≡ getD places (j .keep) 0) (filled : Filled m place r kept holds after) where
+      {place : ℕ} (at-keep : place ≡ getD places (j .keep) 0) (valued : unvalued (vars m) false ts ≡ none) (filled : Filled m place r kept holds after) where
     abbrev loaded : Loaded
     loaded =
         record {
@@ -186,19 +216,19 @@ module _ {file : List ℕ} {ts : List Token} {kinds values places : List ℕ} (w
         ∙ ap (λ (k : ℕ). sumOf k (λ q. size (getD (n .touched) q 0) 16)) (f .laid .region-count)
         ∙ pairs-counted m (n .touched) (named .touched) (few-guards (f .laid) (f .few-regions))
 
-    outlined : (us : List Token) (n : Monitor) → words.Past7 file us n
+    outlined : (us : List Token) (n : Monitor) → words.Past15 file us n
         → Bounded (vars n) (j .bounds) × Laid n (lexemes us) l
     outlined us n q =
-        let (one, two) = past-7-one (w .cut) (p .grammar) q in
+        let (one, two) = past-7-one (w .cut) (p .grammar) (q .past) in
         rw (one, two) (p .bounded, f .laid)
 
     chosen : keptAt m (starts (vars m)) ≡ true → Chosen m loaded
     chosen on = record { counted = f .tries-laid .count; choice = filled .settles on .choice }
 
-    rows : (us : List Token) (n : Monitor) → words.Past7 file us n → keptAt n (starts (vars n)) ≡ true
+    rows : (us : List Token) (n : Monitor) → words.Past15 file us n → keptAt n (starts (vars n)) ≡ true
         → Rows n kept holds after × Chosen n loaded
     rows us n q =
-        let (one, two) = past-7-one (w .cut) (p .grammar) q in
+        let (one, two) = past-7-one (w .cut) (p .grammar) (q .past) in
         subst (λ (x : Monitor). keptAt x (starts (vars x)) ≡ true → Rows x kept holds after × Chosen x loaded) (sym two)
         (λ on. (filled .settles on .rows, chosen on))
 
@@ -235,13 +265,13 @@ module _ {file : List ℕ} {ts : List Token} {kinds values places : List ℕ} (w
     unfolding regions
     loads =
         split (keptAt m (starts (vars m))) (λ on. go on (broken m) refl)
-        (λ off. refuses (says-8 w (p .uncrowded) m (p .grammar) (p .counts) (p .names) (p .ranges) (j .keep)
-        (p .keep-stands) off)
+        (λ off. refuses (says-8 w (p .uncrowded) m (p .grammar) (p .counts) (p .names) (p .ranges) valued
+        (j .keep) (p .keep-stands) off)
         (rw at-keep at (filled .fails off)))
       where
         go : keptAt m (starts (vars m)) ≡ true → (o : Option (ℕ × ℕ)) → broken m ≡ o
             → Loads file loaded kept holds after
         go on (some (k, n)) e =
-            refuses (says-9 w (p .uncrowded) m (p .grammar) (p .counts) (p .names) (p .ranges) on e)
+            refuses (says-9 w (p .uncrowded) m (p .grammar) (p .counts) (p .names) (p .ranges) valued on e)
             (filled .settles on .breaks k n e)
-        go on none e = accepts on e (says-0 w (p .uncrowded) m (p .grammar) (p .counts) (p .names) (p .ranges) on e)
+        go on none e = accepts on e (says-0 w (p .uncrowded) m (p .grammar) (p .counts) (p .names) (p .ranges) valued on e)

@@ -12,9 +12,10 @@ use Rattle.syntax.specs.Token.{Lexeme, name, key, number, mark, lbrace, rbrace,
 use Rattle.syntax.specs.Token.{lexemes}
 use Rattle.syntax.specs.Decide.Lexeme.{isKey, keywordNumber}
 use Rattle.syntax.specs.Held.Kind.{kindOf, Words}
-use Rattle.syntax.specs.Tree.{Int, plain, negated, Atom, literal, variable, Term, Expr, Cond, only, or, Conj, just, and}
+use Rattle.syntax.specs.Tree.{Int, plain, negated, Atom, literal, variable, Term, alone, remainder, Signed, Expr}
+use Rattle.syntax.specs.Tree.{Cond, only, or, Conj, just, and}
 use Rattle.syntax.specs.Tree.{Simple, negation, bracketed, constant, compare, Block, end, then, Stmt, assign, if-then}
-use Rattle.syntax.specs.Tree.{if-else, Region, Method, Var, Monitor, all, each, spellInt, spellAtom, spellTerm}
+use Rattle.syntax.specs.Tree.{if-else, Region, Method, Var, Monitor, all, each, spellInt, spellAtom, spellTerm, spellSigned}
 use Rattle.syntax.specs.Tree.{spellExpr, spellConstant, spellCond, spellConj, spellSimple, spellBlock, spellStmt}
 use Rattle.syntax.specs.Tree.{spellRegion, spellMethod, spellTry, spellVar, spell}
 use Rattle.logic.proofs.Bools.{split}
@@ -68,12 +69,17 @@ none-each f h [] = refl
 none-each f h (a ∷ as′) = simp (times-append, h, none-each f h as′)
 
 none-term : (t : Term) → times k-var (spellTerm t) ≡ 0
-unfolding times spellTerm isKey
-none-term t = none-atom (t .atom)
+unfolding times spellTerm isKey keywordNumber
+none-term (alone a) = none-atom a
+none-term (remainder a b) = simp (times-append, none-atom)
+
+none-signed : (t : Signed) → times k-var (spellSigned t) ≡ 0
+unfolding times spellSigned isKey
+none-signed t = none-term (t .term)
 
 none-expr : (e : Expr) → times k-var (spellExpr e) ≡ 0
 unfolding spellExpr
-none-expr e = simp (times-append, none-atom, none-each spellTerm none-term)
+none-expr e = simp (times-append, none-term, none-each spellSigned none-signed)
 
 none-constant : (b : Bool) → times k-var (spellConstant b) ≡ 0
 unfolding times spellConstant isKey keywordNumber

@@ -39,12 +39,12 @@ pub record Monitored (m : Monitor) (l : Loaded) (kept holds after : List ℕ) : 
   pub touched : TouchedSets m (l .touched)
   pub pairs : l .pairs ≡ pairsOf m
 
--- the verdict; of an accepted file its monitor; of every file that the checks 1 to 7 pass its variables and its layout, and
--- where 8 passes too the rows of truths and outcomes, and the choice
+-- the verdict; of an accepted file its monitor; of every file that the checks 1 to 7 and 15 pass its variables and its
+-- layout, and where 8 passes too the rows of truths and outcomes, and the choice
 pub record Loads (file : List ℕ) (l : Loaded) (kept holds after : List ℕ) : Type 0 where
   pub verdict : Is (l .answer) (check file)
   pub monitored : (m : Monitor) → check file ≡ accepted m → Monitored m l kept holds after
-  pub outlined : (ts : List Token) (m : Monitor) → words.Past7 file ts m
+  pub outlined : (ts : List Token) (m : Monitor) → words.Past15 file ts m
       → Bounded (vars m) (l .bounds) × Laid m (lexemes ts) (l .layout)
-  pub rows : (ts : List Token) (m : Monitor) → words.Past7 file ts m → keptAt m (starts (vars m)) ≡ true
+  pub rows : (ts : List Token) (m : Monitor) → words.Past15 file ts m → keptAt m (starts (vars m)) ≡ true
       → Rows m kept holds after × Chosen m l

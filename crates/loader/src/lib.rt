@@ -1,8 +1,9 @@
-// Loads a file: the refusals 1 to 9 in order, and of an accepted file all that the table and the machines look up.
+// Loads a file: the refusals 1 to 9 and 15 in order, and of an accepted file all that the table and the machines look up.
 use answers::Answer;
 use choice::Choice;
 use judging::Judged;
 use layout::Layout;
+use passes::Found;
 use tokens::Scanned;
 use variables::Bounds;
 ghost use mathlib.Core.Path.{_≡_};
@@ -17,7 +18,7 @@ ghost use Rattle.judging.specs.Judging.{Past7};
 ghost use Rattle.filling.specs.Filling.{Leaves};
 ghost use Rattle.loader.specs.Loading.{Loads};
 
-// 1 to 9: the answer, and of an accepted file its variables, its layout, how many tries it has with the choice among
+// 1 to 9 and 15: the answer, and of an accepted file its variables, its layout, how many tries it has with the choice among
 // them, and for each region the guards that it touches, with the count of these pairs.
 pub struct Loaded {
     pub answer: Answer,
@@ -43,7 +44,14 @@ fn not_loaded(answer: Answer) -> Loaded
     }
 }
 
-// 8 and 9, over the tokens of a file that passed 3 to 7; into `operands` goes what the evaluator looks up at each.
+// A place as an index; as a call it asks no proof that it fits.
+fn wide(x: u16) -> usize
+    ensures { λ r. ⌜ r ≡ x ⌝ }
+{
+    x as usize
+}
+
+// 15, 8 and 9, over the tokens of a file that passed 3 to 7; into `operands` goes what the evaluator looks up at each.
 fn load_judged(
     file: &[u8],
     kinds: &[u8],
@@ -70,6 +78,10 @@ fn load_judged(
     let layout = layout::lay_out(file, kinds, values, places, keep, tries.next);
     names::resolve(file, kinds, values, places, operands);
     layout::link_braces(kinds, operands);
+    let lows = bounds.lows;
+    if let Found::At(k) = divisors::find_unvalued(kinds, operands, places, lows, bounds.count) {
+        return not_loaded(answers::say(15, wide(k), 0));
+    }
     let mentions = mentions::survey(kinds, operands, bounds.count, layout, tries);
     let last = filling::fill(
         kinds,
@@ -97,7 +109,7 @@ fn load_judged(
     }
 }
 
-// 3 to 9, over a file's tokens. A file that passed 3 has no more tokens than `operands` has room for.
+// 3 to 9 and 15, over a file's tokens. A file that passed 3 has no more tokens than `operands` has room for.
 fn load_tokens(
     file: &[u8],
     kinds: &[u8],
@@ -138,7 +150,7 @@ fn load_tokens(
     )
 }
 
-// 1 to 9: the verdict of a file, of an accepted one all that the table and the machines look up, and of one that is
+// 1 to 9 and 15: the verdict of a file, of an accepted one all that the table and the machines look up, and of one that is
 // refused with 8 or 9 what is known of it.
 pub fn load(file: &[u8], kept: &mut [u8], holds: &mut [u16], after: &mut [u16]) -> Loaded
     ensures { λ r. ⌜ (mostStates ≤ length (now (kept .entry)) → mostStates ≤ length (now (holds .entry))

@@ -31,7 +31,7 @@ pub record Looked (m : Monitor) (b : Bounds) (l : Layout) (kept′ holds′ afte
   pub by-holds : HoldsAll m holds′
   pub outcomes : Outcomes m after′
 
--- a move as a number: in the place of a state after a body, that it assigns outside a range or does not run (R 16.14)
+-- a move as a number: in the place of a state after a body, that it faults or does not run (R 16.14)
 abbrev pub faultsMark : ℕ
 faultsMark = 65534
 

@@ -39,7 +39,7 @@ pub struct Numbered {
     pub number: usize,
 }
 
-// In the place of a state after a body: it assigns outside a range; it does not run.
+// In the place of a state after a body: it faults; it does not run.
 pub const FAULTS: u16 = 65534;
 
 pub const NEVER: u16 = 65535;

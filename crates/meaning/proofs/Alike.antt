@@ -2,25 +2,25 @@
 -- a condition has one truth, and the two runs of a body go together, variable by variable. By induction on trees.
 use Prim.Native.Nat.{ℕ, _+_, _*_}
 use native.Mathlib.Omega.{arith}
-use mathlib.Core.Path.{_≡_, refl, sym, ap, ap₂, _∙_}
+use mathlib.Core.Path.{_≡_, refl, sym, ap, ap₂, subst, _∙_}
 use mathlib.Core.Bool.{Bool, true, false, not, _&&_, _||_}
 use mathlib.Core.Logic.{_⊎_, inl, inr}
 use mathlib.Core.List.{List, [], _∷_, _++_, List·Memᴰ, List·Memᴰ·head, List·Memᴰ·tail, Memᴰ·append-left}
 use mathlib.Core.List.{Memᴰ·append-right}
-use mathlib.Core.Option.{Option, none, some}
+use mathlib.Core.Option.{Option, none, some, Option·some-injective}
 use lib.ListN.{length}
 use lib.IntN.{ℤ, natAbs, _-ℤ_}
 use Rattle.syntax.specs.Bytes.{sameBytes}
 use Rattle.syntax.specs.Token.{Lexeme, name}
-use Rattle.syntax.specs.Tree.{Atom, literal, variable, Term, Expr, Cond, only, or, Conj, just, and, Simple, negation}
-use Rattle.syntax.specs.Tree.{bracketed, constant, compare, Block, end, then, Stmt, assign, if-then, if-else, Var}
-use Rattle.syntax.specs.Tree.{each, spellAtom, spellTerm, spellExpr, spellCond, spellConj, spellSimple, spellBlock}
+use Rattle.syntax.specs.Tree.{Atom, literal, variable, Term, alone, remainder, Signed, Expr, Cond, only, or, Conj}
+use Rattle.syntax.specs.Tree.{just, and, Simple, negation, bracketed, constant, compare, Block, end, then, Stmt, assign, if-then, if-else, Var}
+use Rattle.syntax.specs.Tree.{each, spellAtom, spellTerm, spellSigned, spellExpr, spellCond, spellConj, spellSimple, spellBlock}
 use Rattle.syntax.specs.Tree.{spellStmt}
-use Rattle.meaning.specs.Value.{intOf, compares, valueOf, inRange, atomValue, joined, termsValue, exprValue}
-use Rattle.meaning.specs.Value.{truth, conjTruth, simpleTruth}
+use Rattle.meaning.specs.Value.{intOf, compares, valueOf, inRange, atomValue, modulo, ofOne, ofBoth, termValue}
+use Rattle.meaning.specs.Value.{joined, termsValue, exprValue, condValue, conjValue, simpleValue, isTrue, truth}
 use Rattle.meaning.specs.State.{count, numberOf}
 use Rattle.meaning.specs.Decide.Bodies.{assigned, andThen, runBlock, runStmt}
-use Rattle.logic.proofs.Bools.{split, clash}
+use Rattle.logic.proofs.Bools.{split, no-some}
 
 -- two lists of values are alike on the names that pass a test
 pub record Alike (P : List ℕ → Bool) (vs : List Var) (as′ bs : List ℤ) : Type 0 where
@@ -53,43 +53,50 @@ module _ {P : List ℕ → Bool} {vs : List Var} {as′ bs : List ℤ} (same : A
   atom-value (literal i) h = refl
   atom-value (variable x) h = same .same-value x (h x (List·Memᴰ·head refl))
 
-  terms-value : (a b : ℤ) (ts : List Term) → a ≡ b → NamesPass P (each spellTerm ts)
+  term-value : (t : Term) → NamesPass P (spellTerm t) → termValue vs as′ t ≡ termValue vs bs t
+  unfolding spellTerm termValue
+  term-value (alone a) h = ap some (atom-value a h)
+  term-value (remainder a b) h =
+      ap₂ modulo (atom-value a (in-left (spellAtom a) _ h)) (atom-value b (past (spellAtom a) _ _ h))
+
+  terms-value : (a b : Option ℤ) (ts : List Signed) → a ≡ b → NamesPass P (each spellSigned ts)
       → termsValue vs as′ a ts ≡ termsValue vs bs b ts
-  unfolding each spellTerm termsValue
+  unfolding each spellSigned termsValue
   terms-value a b [] e h = e
   terms-value a b (t ∷ ts) e h =
-      let one = atom-value (t .atom) (in-rest _ _ (in-left (spellTerm t) (each spellTerm ts) h)) in
-      terms-value _ _ ts (ap₂ (joined (t .sign)) e one) (in-right (spellTerm t) (each spellTerm ts) h)
+      let one = term-value (t .term) (in-rest _ _ (in-left (spellSigned t) (each spellSigned ts) h)) in
+      terms-value _ _ ts (ap₂ (ofBoth (joined (t .sign))) e one) (in-right (spellSigned t) (each spellSigned ts) h)
 
   expr-value : (e : Expr) → NamesPass P (spellExpr e) → exprValue vs as′ e ≡ exprValue vs bs e
   unfolding spellExpr exprValue
   expr-value e h =
-      let s = spellAtom (e .first) in
-      terms-value _ _ (e .more) (atom-value (e .first) (in-left s _ h)) (in-right s _ h)
+      let s = spellTerm (e .first) in
+      terms-value _ _ (e .more) (term-value (e .first) (in-left s _ h)) (in-right s _ h)
 
   mutual
-    unfolding spellCond truth
+    unfolding spellCond condValue
 
-    cond-truth : (c : Cond) → NamesPass P (spellCond c) → truth c vs as′ ≡ truth c vs bs
-    cond-truth (only c) h = conj-truth c h
-    cond-truth (or c d) h =
-        ap₂ _||_ (conj-truth c (in-left (spellConj c) _ h)) (cond-truth d (past (spellConj c) _ _ h))
+    cond-value : (c : Cond) → NamesPass P (spellCond c) → condValue c vs as′ ≡ condValue c vs bs
+    cond-value (only c) h = conj-value c h
+    cond-value (or c d) h =
+        ap₂ (ofBoth _||_) (conj-value c (in-left (spellConj c) _ h)) (cond-value d (past (spellConj c) _ _ h))
 
-    conj-truth : (c : Conj) → NamesPass P (spellConj c) → conjTruth c vs as′ ≡ conjTruth c vs bs
-    conj-truth (just s) h = simple-truth s h
-    conj-truth (and s c) h =
-        ap₂ _&&_ (simple-truth s (in-left (spellSimple s) _ h)) (conj-truth c (past (spellSimple s) _ _ h))
+    conj-value : (c : Conj) → NamesPass P (spellConj c) → conjValue c vs as′ ≡ conjValue c vs bs
+    conj-value (just s) h = simple-value s h
+    conj-value (and s c) h =
+        ap₂ (ofBoth _&&_) (simple-value s (in-left (spellSimple s) _ h)) (conj-value c (past (spellSimple s) _ _ h))
 
-    simple-truth : (s : Simple) → NamesPass P (spellSimple s) → simpleTruth s vs as′ ≡ simpleTruth s vs bs
-    simple-truth (negation s) h = ap not (simple-truth s (in-rest _ _ h))
-    simple-truth (bracketed c) h = cond-truth c (in-left (spellCond c) _ (in-rest _ _ h))
-    simple-truth (constant b) h = refl
-    simple-truth (compare e o f) h =
-        ap₂ (compares o) (expr-value e (in-left (spellExpr e) _ h)) (expr-value f (past (spellExpr e) _ _ h))
+    simple-value : (s : Simple) → NamesPass P (spellSimple s) → simpleValue s vs as′ ≡ simpleValue s vs bs
+    simple-value (negation s) h = ap (ofOne not) (simple-value s (in-rest _ _ h))
+    simple-value (bracketed c) h = cond-value c (in-left (spellCond c) _ (in-rest _ _ h))
+    simple-value (constant b) h = refl
+    simple-value (compare e o f) h =
+        ap₂ (ofBoth (compares o)) (expr-value e (in-left (spellExpr e) _ h)) (expr-value f (past (spellExpr e) _ _ h))
 
 pub truth-alike : {P : List ℕ → Bool} {vs : List Var} {as′ bs : List ℤ} (c : Cond) → NamesPass P (spellCond c)
     → Alike P vs as′ bs → truth c vs as′ ≡ truth c vs bs
-truth-alike c h same = cond-truth same c h
+unfolding truth
+truth-alike c h same = ap isTrue (cond-value same c h)
 
 -- Two runs
 
@@ -180,14 +187,22 @@ module _ {vs : List Var} where
   in-turn f both-fault g = both-fault
   in-turn f (both-end {cs} {ds} k) g = follow k (g cs ds k)
 
+  -- both go on by the same value, or lack it
+  by-value : {A : Type 0} {as′ bs : List ℤ} {f g : A → Option (List ℤ)} (a b : Option A) → a ≡ b
+      → ((x : A) → Together vs as′ bs (f x) (g x)) → Together vs as′ bs (andThen a f) (andThen b g)
+  unfolding andThen
+  by-value none none e h = both-fault
+  by-value none (some y) e h = no-some e
+  by-value (some x) none e h = no-some (sym e)
+  by-value {as′ = as′} {bs} {f} {g} (some x) (some y) e h =
+      subst (λ z. Together vs as′ bs (f x) (g z)) (Option·some-injective _ _ e) (h x)
+
   -- both take the same branch
-  one-branch : {as′ bs : List ℤ} {o o′ p p′ : Option (List ℤ)} (t u : Bool) → t ≡ u → Together vs as′ bs o p
-      → Together vs as′ bs o′ p′
-      → Together vs as′ bs (elim t [ true ↦ o | false ↦ o′ ]) (elim u [ true ↦ p | false ↦ p′ ])
-  one-branch true true e f g = f
-  one-branch true false e f g = clash refl e
-  one-branch false true e f g = clash e refl
-  one-branch false false e f g = g
+  one-branch : {as′ bs : List ℤ} {o o′ p p′ : Option (List ℤ)} → Together vs as′ bs o p → Together vs as′ bs o′ p′
+      → (t : Bool)
+      → Together vs as′ bs (elim t [ true ↦ o | false ↦ o′ ]) (elim t [ true ↦ p | false ↦ p′ ])
+  one-branch f g true = f
+  one-branch f g false = g
 
   -- one more variable, which an assignment leaves
   left-alone : (v : Var) (a b : ℤ) {as′ bs : List ℤ} {o p : Option (List ℤ)} → Together vs as′ bs o p
@@ -227,20 +242,20 @@ module _ {P : List ℕ → Bool} {vs : List Var} where
     stmt-alike : (s : Stmt) → NamesPass P (spellStmt s) → (as′ bs : List ℤ) → length as′ ≡ length vs
         → length bs ≡ length vs → Alike P vs as′ bs → Together vs as′ bs (runStmt s vs as′) (runStmt s vs bs)
     stmt-alike (assign x e) h as′ bs p q same =
-        rw (← expr-value same e (in-left (spellExpr e) _ (in-rest _ _ (in-rest _ _ h))))
-        (assigned-alike vs as′ bs x (exprValue vs as′ e) p q (same .same-value x (h x (List·Memᴰ·head refl))))
+        by-value _ _ (expr-value same e (in-left (spellExpr e) _ (in-rest _ _ (in-rest _ _ h))))
+        (λ b. assigned-alike vs as′ bs x b p q (same .same-value x (h x (List·Memᴰ·head refl))))
     stmt-alike (if-then c b) h as′ bs p q same =
         let k = in-rest _ _ (in-rest _ _ h) in
         let l = in-rest _ _ (past (spellCond c) _ _ k) in
-        one-branch _ _ (truth-alike c (in-left (spellCond c) _ k) same)
-        (block-alike b (in-left (spellBlock b) _ l) as′ bs p q same) (both-end (kins-still vs as′ bs p q))
+        by-value _ _ (cond-value same c (in-left (spellCond c) _ k))
+        (one-branch (block-alike b (in-left (spellBlock b) _ l) as′ bs p q same) (both-end (kins-still vs as′ bs p q)))
     stmt-alike (if-else c a b) h as′ bs p q same =
         let k = in-rest _ _ (in-rest _ _ h) in
         let l = in-rest _ _ (past (spellCond c) _ _ k) in
         let n = in-rest _ _ (in-rest _ _ (past (spellBlock a) _ _ l)) in
-        one-branch _ _ (truth-alike c (in-left (spellCond c) _ k) same)
-        (block-alike a (in-left (spellBlock a) _ l) as′ bs p q same)
-        (block-alike b (in-left (spellBlock b) _ n) as′ bs p q same)
+        by-value _ _ (cond-value same c (in-left (spellCond c) _ k))
+        (one-branch (block-alike a (in-left (spellBlock a) _ l) as′ bs p q same)
+        (block-alike b (in-left (spellBlock b) _ n) as′ bs p q same))
 
 pub runs-alike : {P : List ℕ → Bool} {vs : List Var} {as′ bs : List ℤ} (b : Block) → NamesPass P (spellBlock b)
     → length as′ ≡ length vs → length bs ≡ length vs → Alike P vs as′ bs

@@ -2,13 +2,14 @@
 -- keeps every value in its range.
 use Prim.Native.Nat.{ℕ}
 use mathlib.Core.Path.{_≡_, refl, sym, subst}
+use mathlib.Core.Bool.{Bool, true, false}
 use mathlib.Core.Logic.{_↔_}
 use mathlib.Core.List.{List, [], _∷_}
 use mathlib.Core.Option.{Option, none, some, Option·some-injective}
 use lib.IntN.{ℤ}
 use Rattle.syntax.specs.Bytes.{sameBytes}
-use Rattle.syntax.specs.Tree.{Block, end, then, Stmt, assign, if-then, if-else, Region, Var}
-use Rattle.meaning.specs.Value.{inRange, exprValue, truth}
+use Rattle.syntax.specs.Tree.{Cond, Block, end, then, Stmt, assign, if-then, if-else, Region, Var}
+use Rattle.meaning.specs.Value.{inRange, exprValue, condValue}
 use Rattle.meaning.specs.Decide.Bodies.{assigned, andThen, runBlock, runStmt, outcome}
 use Rattle.meaning.specs.Runs.{State, one-value, Assigns, here, later, BlockRuns, ends, goes-on, StmtRuns}
 use Rattle.meaning.specs.Runs.{assigns, if-true, if-false, else-true, else-false}
@@ -55,11 +56,30 @@ assigns-state (later ne t) (one-value q s) = one-value q (assigns-state t s)
 
 -- Bodies
 
-first-then : {bs : List ℤ} (o : Option (List ℤ)) (f : List ℤ → Option (List ℤ)) → andThen o f ≡ some bs
-    → (cs : List ℤ) × (o ≡ some cs) × (f cs ≡ some bs)
+first-then : {A : Type 0} {bs : List ℤ} (o : Option A) (f : A → Option (List ℤ)) → andThen o f ≡ some bs
+    → (a : A) × (o ≡ some a) × (f a ≡ some bs)
 unfolding andThen
 first-then none f h = no-some h
-first-then (some cs) f h = (cs, refl, h)
+first-then (some a) f h = (a, refl, h)
+
+-- an if, from what its blocks do
+abbrev RunsOf : List Var → Block → List ℤ → Type 0
+RunsOf vs b as′ = (bs : List ℤ) → runBlock b vs as′ ≡ some bs → BlockRuns vs b as′ bs
+
+one-block : {vs : List Var} (c : Cond) (b : Block) (as′ : List ℤ) {bs : List ℤ} → RunsOf vs b as′ → (u : Bool)
+    → condValue c vs as′ ≡ some u
+    → elim u as (λ u. Option (List ℤ)) [ true ↦ runBlock b vs as′ | false ↦ some as′ ] ≡ some bs
+    → StmtRuns vs (if-then c b) as′ bs
+one-block c b as′ f true t h = if-true t (f _ h)
+one-block {vs} c b as′ f false t h =
+    subst (StmtRuns vs (if-then c b) as′) (Option·some-injective _ _ h) (if-false t)
+
+one-of-two : {vs : List Var} (c : Cond) (a b : Block) (as′ : List ℤ) {bs : List ℤ} → RunsOf vs a as′ → RunsOf vs b as′
+    → (u : Bool) → condValue c vs as′ ≡ some u
+    → elim u as (λ u. Option (List ℤ)) [ true ↦ runBlock a vs as′ | false ↦ runBlock b vs as′ ] ≡ some bs
+    → StmtRuns vs (if-else c a b) as′ bs
+one-of-two c a b as′ f g true t h = else-true t (f _ h)
+one-of-two c a b as′ f g false t h = else-false t (g _ h)
 
 mutual
   unfolding runBlock runStmt
@@ -73,13 +93,17 @@ mutual
 
   pub stmt-runs-of-run : {vs : List Var} (s : Stmt) (as′ : List ℤ) {bs : List ℤ} → runStmt s vs as′ ≡ some bs
       → StmtRuns vs s as′ bs
-  stmt-runs-of-run {vs} (assign x e) as′ h = assigns (assigns-of-assigned vs as′ x (exprValue vs as′ e) h)
+  stmt-runs-of-run {vs} (assign x e) as′ h =
+      let t = first-then (exprValue vs as′ e) (λ b. assigned vs as′ x b) h in
+      assigns (t .1) (assigns-of-assigned vs as′ x (t .0) (t .2))
   stmt-runs-of-run {vs} (if-then c b) as′ {bs} h =
-      split (truth c vs as′) (λ t. if-true t (block-runs-of-run b as′ (cc)))
-      (λ t. subst (StmtRuns vs (if-then c b) as′) (let e : as′ ≡ bs = cc in e) (if-false t))
-  stmt-runs-of-run {vs} (if-else c a b) as′ h =
-      split (truth c vs as′) (λ t. else-true t (block-runs-of-run a as′ (cc)))
-      (λ t. else-false t (block-runs-of-run b as′ (cc)))
+      let t = first-then (condValue c vs as′)
+      (λ u. elim u as (λ u. Option (List ℤ)) [ true ↦ runBlock b vs as′ | false ↦ some as′ ]) h in
+      one-block c b as′ (λ bs q. block-runs-of-run b as′ q) (t .0) (t .1) (t .2)
+  stmt-runs-of-run {vs} (if-else c a b) as′ {bs} h =
+      let t = first-then (condValue c vs as′)
+      (λ u. elim u as (λ u. Option (List ℤ)) [ true ↦ runBlock a vs as′ | false ↦ runBlock b vs as′ ]) h in
+      one-of-two c a b as′ (λ bs q. block-runs-of-run a as′ q) (λ bs q. block-runs-of-run b as′ q) (t .0) (t .1) (t .2)
 
 mutual
   unfolding runBlock runStmt andThen
@@ -91,7 +115,7 @@ mutual
 
   pub run-of-stmt-runs : {vs : List Var} {s : Stmt} {as′ bs : List ℤ} → StmtRuns vs s as′ bs → runStmt s vs as′
       ≡ some bs
-  run-of-stmt-runs (assigns a) = assigned-of-assigns a
+  run-of-stmt-runs (assigns v a) = cc (assigned-of-assigns a)
   run-of-stmt-runs (if-true t r) = cc (run-of-block-runs r)
   run-of-stmt-runs (if-false t) = cc
   run-of-stmt-runs (else-true t r) = cc (run-of-block-runs r)
@@ -123,7 +147,7 @@ mutual
   block-runs-state (goes-on r t) s = block-runs-state t (stmt-runs-state r s)
 
   pub stmt-runs-state : {vs : List Var} {c : Stmt} {as′ bs : List ℤ} → StmtRuns vs c as′ bs → State vs as′ → State vs bs
-  stmt-runs-state (assigns a) s = assigns-state a s
+  stmt-runs-state (assigns v a) s = assigns-state a s
   stmt-runs-state (if-true t r) s = block-runs-state r s
   stmt-runs-state (if-false t) s = s
   stmt-runs-state (else-true t r) s = block-runs-state r s

@@ -1,48 +1,26 @@
--- Refusal 9 in positive words: a body does not keep from a state exactly where it "assigns outside a range at any
--- moment or ends with the kept condition false". A body runs or faults, by induction on trees, and not both.
+-- Refusal 9 in positive words: a body does not keep from a state exactly where it faults or "ends with the kept condition
+-- false". A body runs or faults, by induction on trees, and not both.
 use Prim.Native.Nat.{ℕ}
-use mathlib.Core.Path.{_≡_, refl}
-use mathlib.Core.Bool.{true, false}
-use mathlib.Core.Logic.{_⊎_, inl, inr, ⊎-elim}
+use mathlib.Core.Path.{_≡_, refl, sym, _∙_}
+use mathlib.Core.Bool.{Bool, true, false}
+use mathlib.Core.Logic.{_⊎_, inl, inr, ⊎-elim, _↔_}
 use mathlib.Core.List.{List, [], _∷_}
-use mathlib.Core.Option.{none}
+use mathlib.Core.Option.{Option, none, some, Option·some-injective}
 use lib.IntN.{ℤ}
 use Rattle.syntax.specs.Bytes.{sameBytes}
-use Rattle.syntax.specs.Tree.{Expr, Cond, Block, end, then, Stmt, assign, if-then, if-else, Var}
-use Rattle.meaning.specs.Value.{inRange, exprValue, truth}
+use Rattle.syntax.specs.Tree.{Block, end, then, Stmt, assign, if-then, if-else, Region, Var, Monitor, all}
+use Rattle.meaning.specs.Value.{inRange, exprValue, condValue}
 use Rattle.meaning.specs.Decide.Bodies.{assigned, andThen, runBlock, runStmt}
 use Rattle.meaning.specs.Runs.{State, no-values, one-value, Assigns, here, later, BlockRuns, ends, goes-on}
 use Rattle.meaning.specs.Runs.{StmtRuns, assigns, if-true, if-false, else-true, else-false}
-use Rattle.logic.proofs.Bools.{split, clash, is-false}
+use Rattle.meaning.specs.Faults.{Outside, undeclared, out-here, out-later, BlockFaults, faults-first, faults-later}
+use Rattle.meaning.specs.Faults.{StmtFaults, no-value, assigns-outside, if-lacks, if-faults, else-lacks, then-faults}
+use Rattle.meaning.specs.Faults.{else-faults}
+use Rattle.meaning.specs.Kept.{keptAt}
+use Rattle.meaning.specs.Accepted.{Keeps}
+use Rattle.logic.proofs.Bools.{split, clash, is-false, no-some}
 use Rattle.syntax.proofs.Lexemes.{decides-same}
-use Rattle.meaning.proofs.BodyLaws.{run-of-stmt-runs, stmt-runs-state}
-
--- a value is outside the range of the first variable named x; or there is none of that name, which 6 refuses
-pub data Outside : List Var → List ℕ → ℤ → Type 0 where
-  undeclared : {x : List ℕ} {b : ℤ} → Outside [] x b
-  out-here : {v : Var} {vs : List Var} {x : List ℕ} {b : ℤ} → v .title ≡ x → inRange v b ≡ false → Outside (v ∷ vs) x b
-  out-later : {v : Var} {vs : List Var} {x : List ℕ} {b : ℤ} → (v .title ≡ x → ⊥) → Outside vs x b
-      → Outside (v ∷ vs) x b
-
--- a body that comes to such an assignment
-mutual
-  pub data BlockFaults (vs : List Var) : Block → List ℤ → Type 0 where
-    faults-first : {s : Stmt} {b : Block} {as′ : List ℤ} → StmtFaults vs s as′ → BlockFaults vs (then s b) as′
-    faults-later :
-        {s : Stmt} {b : Block} {as′ bs : List ℤ} → StmtRuns vs s as′ bs → BlockFaults vs b bs
-        → BlockFaults vs (then s b) as′
-
-  pub data StmtFaults (vs : List Var) : Stmt → List ℤ → Type 0 where
-    assigns-outside : {x : List ℕ} {e : Expr} {as′ : List ℤ} → Outside vs x (exprValue vs as′ e)
-        → StmtFaults vs (assign x e) as′
-    if-faults : {c : Cond} {b : Block} {as′ : List ℤ} → truth c vs as′ ≡ true → BlockFaults vs b as′
-        → StmtFaults vs (if-then c b) as′
-    then-faults :
-        {c : Cond} {a b : Block} {as′ : List ℤ} → truth c vs as′ ≡ true → BlockFaults vs a as′
-        → StmtFaults vs (if-else c a b) as′
-    else-faults :
-        {c : Cond} {a b : Block} {as′ : List ℤ} → truth c vs as′ ≡ false → BlockFaults vs b as′
-        → StmtFaults vs (if-else c a b) as′
+use Rattle.meaning.proofs.BodyLaws.{run-of-block-runs, run-of-stmt-runs, stmt-runs-state}
 
 -- A body that faults does not run
 
@@ -63,7 +41,10 @@ mutual
   block-none (faults-later r t) = cc (run-of-stmt-runs r, block-none t)
 
   stmt-none : {vs : List Var} {s : Stmt} {as′ : List ℤ} → StmtFaults vs s as′ → runStmt s vs as′ ≡ none
-  stmt-none (assigns-outside {as′ = as′} o) = outside-none as′ o
+  stmt-none (no-value v) = cc
+  stmt-none (assigns-outside {as′ = as′} v o) = cc (outside-none as′ o)
+  stmt-none (if-lacks v) = cc
+  stmt-none (else-lacks v) = cc
   stmt-none (if-faults t f) = cc (block-none f)
   stmt-none (then-faults t f) = cc (block-none f)
   stmt-none (else-faults t f) = cc (block-none f)
@@ -92,14 +73,41 @@ mutual
 
   stmt-runs-or-faults : {vs : List Var} (c : Stmt) (as′ : List ℤ) → State vs as′
       → ((bs : List ℤ) × StmtRuns vs c as′ bs) ⊎ StmtFaults vs c as′
-  stmt-runs-or-faults {vs} (assign x e) as′ s =
-      ⊎-elim (λ t. inl (t .0, assigns (t .1))) (λ o. inr (assigns-outside o))
-      (assigns-or-outside s x (exprValue vs as′ e))
-  stmt-runs-or-faults {vs} (if-then c b) as′ s =
-      split (truth c vs as′)
-      (λ t. ⊎-elim (λ u. inl (u .0, if-true t (u .1))) (λ f. inr (if-faults t f)) (runs-or-faults b as′ s))
-      (λ t. inl (as′, if-false t))
+  stmt-runs-or-faults {vs} (assign x e) as′ s = one (exprValue vs as′ e) refl
+    where
+      one : (o : Option ℤ) → exprValue vs as′ e ≡ o
+          → ((bs : List ℤ) × StmtRuns vs (assign x e) as′ bs) ⊎ StmtFaults vs (assign x e) as′
+      one none v = inr (no-value v)
+      one (some a) v =
+          ⊎-elim (λ t. inl (t .0, assigns v (t .1))) (λ o. inr (assigns-outside v o)) (assigns-or-outside s x a)
+  stmt-runs-or-faults {vs} (if-then c b) as′ s = one (runs-or-faults b as′ s) (condValue c vs as′) refl
+    where
+      one : ((bs : List ℤ) × BlockRuns vs b as′ bs) ⊎ BlockFaults vs b as′ → (o : Option Bool) → condValue c vs as′ ≡ o
+          → ((bs : List ℤ) × StmtRuns vs (if-then c b) as′ bs) ⊎ StmtFaults vs (if-then c b) as′
+      one r none t = inr (if-lacks t)
+      one r (some true) t = ⊎-elim (λ u. inl (u .0, if-true t (u .1))) (λ f. inr (if-faults t f)) r
+      one r (some false) t = inl (as′, if-false t)
   stmt-runs-or-faults {vs} (if-else c a b) as′ s =
-      split (truth c vs as′)
-      (λ t. ⊎-elim (λ u. inl (u .0, else-true t (u .1))) (λ f. inr (then-faults t f)) (runs-or-faults a as′ s))
-      (λ t. ⊎-elim (λ u. inl (u .0, else-false t (u .1))) (λ f. inr (else-faults t f)) (runs-or-faults b as′ s))
+      one (runs-or-faults a as′ s) (runs-or-faults b as′ s) (condValue c vs as′) refl
+    where
+      one : ((bs : List ℤ) × BlockRuns vs a as′ bs) ⊎ BlockFaults vs a as′
+          → ((bs : List ℤ) × BlockRuns vs b as′ bs) ⊎ BlockFaults vs b as′ → (o : Option Bool) → condValue c vs as′ ≡ o
+          → ((bs : List ℤ) × StmtRuns vs (if-else c a b) as′ bs) ⊎ StmtFaults vs (if-else c a b) as′
+      one q r none t = inr (else-lacks t)
+      one q r (some true) t = ⊎-elim (λ u. inl (u .0, else-true t (u .1))) (λ f. inr (then-faults t f)) q
+      one q r (some false) t = ⊎-elim (λ u. inl (u .0, else-false t (u .1))) (λ f. inr (else-faults t f)) r
+
+-- a body has one end
+one-end : {vs : List Var} {b : Block} {as′ bs cs : List ℤ} → BlockRuns vs b as′ bs → BlockRuns vs b as′ cs → bs ≡ cs
+one-end r t = Option·some-injective _ _ (sym (run-of-block-runs r) ∙ run-of-block-runs t)
+
+pub not-keeps-iff : (m : Monitor) (r : Region) (as′ : List ℤ) → State (all (m .vars)) as′
+    → (Keeps m r as′ → ⊥)
+    ↔ (BlockFaults (all (m .vars)) (r .body) as′
+    ⊎ ((bs : List ℤ) × BlockRuns (all (m .vars)) (r .body) as′ bs × (keptAt m bs ≡ false)))
+unfolding Keeps
+not-keeps-iff m r as′ s = (
+  λ n. ⊎-elim (λ t. inr (t .0, t .1, is-false (λ h. n (t .0, t .1, h)))) inl (runs-or-faults (r .body) as′ s),
+  ⊎-elim (λ f k. no-some (sym (block-none f) ∙ run-of-block-runs (k .1)))
+      (λ t k. clash (k .2) (rw (one-end (t .1) (k .1)) at (t .2))),
+)

@@ -21,7 +21,7 @@ pub record Cut (ts : List Token) (pre ls : List Lexeme) : Type 0 where
   pub passed : lexemes front ≡ pre
   pub left : lexemes back ≡ ls
 
-lexemes-append : (a b : List Token) → lexemes (a ++ b) ≡ lexemes a ++ lexemes b
+pub lexemes-append : (a b : List Token) → lexemes (a ++ b) ≡ lexemes a ++ lexemes b
 unfolding lexemes
 lexemes-append [] b = refl
 lexemes-append (t ∷ a) b = ap (λ (ls : List Lexeme). t .lexeme ∷ ls) (lexemes-append a b)

@@ -98,7 +98,7 @@ equal-of-not-less a b h k =
     let zeros : n ≡ 0 = omega arith in
     sym (up ∙ ap (λ (i : ℕ). a +ℤ pos i) zeros ∙ +ℤ-idr a)
 
-not-less-self : (a : ℤ) → less a a ≡ false
+pub not-less-self : (a : ℤ) → less a a ≡ false
 not-less-self a = ap (λ z. less z a) (sym (+ℤ-idr a)) ∙ not-less-up a 0
 
 pub compares-eq-iff : (a b : ℤ) → (compares eq a b ≡ true) ↔ (a ≡ b)

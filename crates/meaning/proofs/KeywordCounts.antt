@@ -9,18 +9,18 @@ use mathlib.Core.List.{List, [], _∷_, _++_, head-eq-of-cons-eq}
 use lib.ListN.{length, length-append}
 use Rattle.syntax.specs.Token.{Lexeme, name, key, number, mark, lbrace, rbrace, lparen, rparen, semicolon, equals, dots}
 use Rattle.syntax.specs.Token.{becomes, minus, bang, and-and, or-or, Keyword, k-monitor, k-var, k-in, k-keep, k-method}
-use Rattle.syntax.specs.Token.{k-waituntil, k-if, k-else, k-true, k-false, k-try}
+use Rattle.syntax.specs.Token.{k-waituntil, k-if, k-else, k-true, k-false, k-try, k-mod}
 use Rattle.syntax.specs.Decide.Lexeme.{isKey, keywordNumber}
-use Rattle.syntax.specs.Tree.{Int, plain, negated, Atom, literal, variable, Term, Expr, Cond, only, or, Conj, just, and}
+use Rattle.syntax.specs.Tree.{Int, plain, negated, Atom, literal, variable, Term, alone, remainder, Signed, Expr}
+use Rattle.syntax.specs.Tree.{Cond, only, or, Conj, just, and}
 use Rattle.syntax.specs.Tree.{Simple, negation, bracketed, constant, compare, Block, end, then, Stmt, assign, if-then}
 use Rattle.syntax.specs.Tree.{if-else, Region, Method, Var, Monitor, all, each, spell, spellInt, spellAtom, signMark}
-use Rattle.syntax.specs.Tree.{spellTerm, spellExpr, comparisonMark, spellConstant, spellCond, spellConj, spellSimple}
+use Rattle.syntax.specs.Tree.{spellTerm, spellSigned, spellExpr, comparisonMark, spellConstant, spellCond, spellConj, spellSimple}
 use Rattle.syntax.specs.Tree.{spellBlock, spellStmt, spellRegion, spellMethod, spellVar, spellTry}
 use Rattle.logic.proofs.Bools.{different}
 use Rattle.meaning.specs.Runs.{regionsOf}
-use Rattle.meaning.specs.Refusal.{upTo}
-use Rattle.meaning.specs.Outline.{upToTry, upToMethod, upToRegion}
 use Rattle.meaning.proofs.KeywordPlaces.{times, times-append}
+use Rattle.meaning.specs.Before.{upTo, upToTry, upToMethod, upToRegion}
 
 -- A keyword that is not there
 
@@ -53,23 +53,29 @@ module _ (k : Keyword) where
   of-atom (literal i) = of-int i
   of-atom (variable x) = next (name x) refl nil
 
-  of-terms : (ts : List Term) → Free (each spellTerm ts)
-  unfolding each spellTerm isKey
-  of-terms [] = nil
-  of-terms (t ∷ ts) = join (next (mark (signMark (t .sign))) refl (of-atom (t .atom))) (of-terms ts)
-
-  of-expr : (e : Expr) → Free (spellExpr e)
-  unfolding spellExpr
-  of-expr e = join (of-atom (e .first)) (of-terms (e .more))
-
 -- it is none of the words of conditions and bodies
 record Outer (k : Keyword) : Type 0 where
+  no-mod : isKey k (key k-mod) ≡ false
   no-if : isKey k (key k-if) ≡ false
   no-else : isKey k (key k-else) ≡ false
   no-true : isKey k (key k-true) ≡ false
   no-false : isKey k (key k-false) ≡ false
 
 module _ (k : Keyword) (outer : Outer k) where
+  of-term : (t : Term) → Free k (spellTerm t)
+  unfolding spellTerm
+  of-term (alone a) = of-atom k a
+  of-term (remainder a b) = join k (of-atom k a) (next k (key k-mod) (outer .no-mod) (of-atom k b))
+
+  of-terms : (ts : List Signed) → Free k (each spellSigned ts)
+  unfolding each spellSigned isKey
+  of-terms [] = nil k
+  of-terms (t ∷ ts) = join k (next k (mark (signMark (t .sign))) refl (of-term (t .term))) (of-terms ts)
+
+  of-expr : (e : Expr) → Free k (spellExpr e)
+  unfolding spellExpr
+  of-expr e = join k (of-term (e .first)) (of-terms (e .more))
+
   of-constant : (b : Bool) → Free k (spellConstant b)
   unfolding spellConstant
   of-constant true = next k (key k-true) (outer .no-true) (nil k)
@@ -90,7 +96,7 @@ module _ (k : Keyword) (outer : Outer k) where
     of-simple (negation s) = next k (mark bang) refl (of-simple s)
     of-simple (bracketed c) = next k (mark lparen) refl (join k (of-cond c) (next k (mark rparen) refl (nil k)))
     of-simple (constant b) = of-constant b
-    of-simple (compare e o f) = join k (of-expr k e) (next k (mark (comparisonMark o)) refl (of-expr k f))
+    of-simple (compare e o f) = join k (of-expr e) (next k (mark (comparisonMark o)) refl (of-expr f))
 
   -- what stands in brackets, and in braces, with something behind
   bracketed-then : {w v : List Lexeme} → Free k w → Free k v → Free k (mark lparen ∷ (w ++ (mark rparen ∷ v)))
@@ -110,7 +116,7 @@ module _ (k : Keyword) (outer : Outer k) where
 
     of-stmt : (s : Stmt) → Free k (spellStmt s)
     of-stmt (assign x e) =
-        next k (name x) refl (next k (mark becomes) refl (join k (of-expr k e) (next k (mark semicolon) refl (nil k))))
+        next k (name x) refl (next k (mark becomes) refl (join k (of-expr e) (next k (mark semicolon) refl (nil k))))
     of-stmt (if-then c b) =
         next k (key k-if) (outer .no-if) (bracketed-then (of-cond c) (braced-then (of-block b) (nil k)))
     of-stmt (if-else c a b) =
@@ -150,15 +156,15 @@ module _ (k : Keyword) (no-monitor : isKey k (key k-monitor) ≡ false) (no-var 
 
 outer-try : Outer k-try
 unfolding isKey keywordNumber
-outer-try = record { no-if = refl; no-else = refl; no-true = refl; no-false = refl }
+outer-try = record { no-mod = refl; no-if = refl; no-else = refl; no-true = refl; no-false = refl }
 
 outer-method : Outer k-method
 unfolding isKey keywordNumber
-outer-method = record { no-if = refl; no-else = refl; no-true = refl; no-false = refl }
+outer-method = record { no-mod = refl; no-if = refl; no-else = refl; no-true = refl; no-false = refl }
 
 outer-wait : Outer k-waituntil
 unfolding isKey keywordNumber
-outer-wait = record { no-if = refl; no-else = refl; no-true = refl; no-false = refl }
+outer-wait = record { no-mod = refl; no-if = refl; no-else = refl; no-true = refl; no-false = refl }
 
 try-here : (ls : List Lexeme) → times k-try (key k-try ∷ ls) ≡ suc (times k-try ls)
 unfolding times isKey keywordNumber
@@ -319,7 +325,7 @@ pub not-monitor : (c : Cond) (us ls : List Lexeme) → spellCond c ++ (mark rpar
 unfolding times isKey keywordNumber
 not-monitor c us ls e =
     go (spellCond c)
-    (of-cond k-monitor (record { no-if = refl; no-else = refl; no-true = refl; no-false = refl }) c .none) e
+    (of-cond k-monitor (record { no-mod = refl; no-if = refl; no-else = refl; no-true = refl; no-false = refl }) c .none) e
   where
     go : (w : List Lexeme) → times k-monitor w ≡ 0 → w ++ (mark rparen ∷ us) ≡ key k-monitor ∷ ls → ⊥
     go [] z e = different (cc)

@@ -18,8 +18,9 @@ use Rattle.logic.proofs.Bools.{split}
 use Rattle.logic.proofs.Bools.{different}
 use Rattle.syntax.proofs.Lexemes.{decides-key}
 use Rattle.meaning.proofs.GrammarPlace.{cut}
-use Rattle.meaning.specs.Refusal.{KeywordAt, upTo}
+use Rattle.meaning.specs.Refusal.{KeywordAt}
 use Rattle.meaning.specs.Held.{behindKeep}
+use Rattle.meaning.specs.Before.{upTo}
 
 -- How often a keyword stands among some lexemes
 

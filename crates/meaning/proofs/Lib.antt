@@ -1,6 +1,7 @@
 pub mod Limits
 pub mod GrammarPlace
 pub mod KeywordPlaces
+pub mod FromPart
 pub mod KeywordCounts
 pub mod Digits
 pub mod Frames
@@ -8,6 +9,7 @@ pub mod TableLines
 pub mod Written
 pub mod Integers
 pub mod Offsets
+pub mod Remainders
 pub mod RangeLaws
 pub mod StateLaws
 pub mod SixteenBits
@@ -15,6 +17,7 @@ pub mod BodyLaws
 pub mod Alike
 pub mod Faults
 pub mod SameGuards
+pub mod Unvalued
 pub mod Judged
 pub mod Searching
 pub mod Each

@@ -2,7 +2,7 @@
 -- before, used three times.
 use Prim.Native.Nat.{ℕ, suc, _+_, _≤_}
 use native.Mathlib.Omega.{arith}
-use mathlib.Core.Path.{_≡_, refl, sym, ap, _∙_}
+use mathlib.Core.Path.{_≡_, refl, sym, ap, subst, _∙_}
 use mathlib.Core.Bool.{Bool, true, false, _&&_, _||_, not, false≢true, or-assoc}
 use mathlib.Core.Logic.{_⊎_, inl, inr, ⊎-elim, _↔_}
 use mathlib.Core.List.{List, [], _∷_, _++_, append-nil, append-assoc}
@@ -93,34 +93,38 @@ module _ (Offends : List Token → Token → Type 0) where
     (λ e. different (cc), λ m. absurd (none-or-first ts j m f)),
   )
 
--- a pass with a summary of type S, and what it is for a summary to be that of the tokens before
-record Pass (S : Type 0) (Offends : List Token → Token → Type 0) : Type 1 where
-  find : S → List Token → Option ℕ
-  test : S → Token → Bool
-  update : S → Token → S
-  Sums : S → List Token → Type 0
-  at-end : (s : S) → find s [] ≡ none
-  at-token : (s : S) (t : Token) (ts : List Token)
-      → find s (t ∷ ts) ≡ elim (test s t) as (λ b. Option ℕ) [ true ↦ some (t .at) | false ↦ find (update s t) ts ]
-  goes-on : (s : S) (before : List Token) (t : Token) → Sums s before → Sums (update s t) (before ++ (t ∷ []))
-  decides : (s : S) (before : List Token) (t : Token) → Sums s before → Decides (test s t) (Offends before t)
+-- a pass with a summary of type S, over tokens of which something holds; what it is for a summary to be that of the
+-- tokens before; and a test of a token that may look at those behind it
+pub record Pass (S : Type 0) (Offends : List Token → Token → Type 0) (Whole : List Token → Type 0) : Type 1 where
+  pub find : S → List Token → Option ℕ
+  pub test : S → Token → List Token → Bool
+  pub update : S → Token → S
+  pub Sums : S → List Token → Type 0
+  pub at-end : (s : S) → find s [] ≡ none
+  pub at-token : (s : S) (t : Token) (ts : List Token)
+      → find s (t ∷ ts) ≡ elim (test s t ts) as (λ b. Option ℕ) [ true ↦ some (t .at) | false ↦ find (update s t) ts ]
+  pub goes-on : (s : S) (before : List Token) (t : Token) → Sums s before → Sums (update s t) (before ++ (t ∷ []))
+  pub decides : (s : S) (before : List Token) (t : Token) (ts : List Token) → Whole (before ++ (t ∷ ts)) → Sums s before
+      → Decides (test s t ts) (Offends before t)
 
-module _ {S : Type 0} {Offends : List Token → Token → Type 0} (p : Pass S Offends) where
-  finds-from : (ts before : List Token) (s : S) → p .Sums s before → NoneOffends Offends before
-      → Finds Offends (p .find s ts) (before ++ ts)
-  unfolding FirstOffends
-  finds-from [] before s sums n = rw (p .at-end s, append-nil) n
-  finds-from (t ∷ ts) before s sums n = split (p .test s t)
-      (λ h. rw (p .at-token s t ts, h) (before, ts, t, refl, p .decides s before t sums .0 h, refl, n))
-      (λ h. rw (p .at-token s t ts, h, ← (append-snoc before t ts))
-      (finds-from ts (before ++ (t ∷ [])) (p .update s t) (p .goes-on s before t sums)
-      (none-more Offends before t n (λ o. clash (p .decides s before t sums .1 o) h))))
+module _ {S : Type 0} {Offends : List Token → Token → Type 0} {Whole : List Token → Type 0} (p : Pass S Offends Whole)
+  where
+    finds-from : (ts before : List Token) (s : S) → Whole (before ++ ts) → p .Sums s before → NoneOffends Offends before
+        → Finds Offends (p .find s ts) (before ++ ts)
+    unfolding FirstOffends
+    finds-from [] before s w sums n = rw (p .at-end s, append-nil) n
+    finds-from (t ∷ ts) before s w sums n = split (p .test s t ts)
+        (λ h. rw (p .at-token s t ts, h) (before, ts, t, refl, p .decides s before t ts w sums .0 h, refl, n))
+        (λ h. rw (p .at-token s t ts, h, ← (append-snoc before t ts))
+        (finds-from ts (before ++ (t ∷ [])) (p .update s t) (subst Whole (sym (append-snoc before t ts)) w)
+        (p .goes-on s before t sums)
+        (none-more Offends before t n (λ o. clash (p .decides s before t ts w sums .1 o) h))))
 
-  law : (s : S) (ts : List Token) → p .Sums s []
-      → ((k : ℕ) → (p .find s ts ≡ some k) ↔ FirstOffends Offends ts k)
-      × ((p .find s ts ≡ none) ↔ NoneOffends Offends ts)
-  unfolding NoneOffends
-  law s ts sums = exactly Offends (p .find s ts) ts (finds-from ts [] s sums (λ b a t e o. no-more b t a e))
+    pub law : (s : S) (ts : List Token) → Whole ts → p .Sums s []
+        → ((k : ℕ) → (p .find s ts ≡ some k) ↔ FirstOffends Offends ts k)
+        × ((p .find s ts ≡ none) ↔ NoneOffends Offends ts)
+    unfolding NoneOffends
+    law s ts w sums = exactly Offends (p .find s ts) ts (finds-from ts [] s w sums (λ b a t e o. no-more b t a e))
 
 -- Counts of what stands before
 
@@ -139,18 +143,22 @@ more-of p (u ∷ before) t = split (p (u .lexeme))
 
 -- 3
 
-crowding : Pass (ℕ × ℕ × ℕ) Crowded
+-- of all tokens
+abbrev Any : List Token → Type 0
+Any _ = Unit {0}
+
+crowding : Pass (ℕ × ℕ × ℕ) Crowded Any
 unfolding crowded Crowded
 crowding =
     record {
       find = λ s ts. crowded (s .0) (s .1) (s .2) ts;
-      test = λ s t. leb 1024 (s .0) || (opens (t .lexeme) && leb (s .2 + 12) (s .1));
+      test = λ s t ts. leb 1024 (s .0) || (opens (t .lexeme) && leb (s .2 + 12) (s .1));
       update = λ s t. (s .0 + 1, tally (opens (t .lexeme)) (s .1), tally (closes (t .lexeme)) (s .2));
       Sums = λ s before. s ≡ (length before, howMany opens before, howMany closes before);
       at-end = λ s. refl;
       at-token = λ s t ts. refl;
       goes-on = λ s before t h. rw (h, length-append, more-of opens, more-of closes);
-      decides = λ s before t h. rw h (decides-or _ _ (decides-leb 1024 (length before))
+      decides = λ s before t ts w h. rw h (decides-or _ _ (decides-leb 1024 (length before))
           (decides-and _ _ ((λ e. e), λ e. e)
           (decides-by ((λ e. omega arith), λ e. omega arith)
           (decides-leb (howMany closes before + 12) (howMany opens before)))));
@@ -158,20 +166,20 @@ crowding =
 
 pub crowded-first : (ts : List Token) (k : ℕ) → (crowded 0 0 0 ts ≡ some k) ↔ FirstOffends Crowded ts k
 unfolding crowding howMany
-crowded-first ts k = law crowding (0, 0, 0) ts refl .0 k
+crowded-first ts k = law crowding (0, 0, 0) ts tt refl .0 k
 
 pub crowded-none : (ts : List Token) → (crowded 0 0 0 ts ≡ none) ↔ NoneOffends Crowded ts
 unfolding crowding howMany
-crowded-none ts = law crowding (0, 0, 0) ts refl .1
+crowded-none ts = law crowding (0, 0, 0) ts tt refl .1
 
 -- 5
 
-limiting : Pass (ℕ × ℕ × ℕ × ℕ) PastLimit
+limiting : Pass (ℕ × ℕ × ℕ × ℕ) PastLimit Any
 unfolding pastLimit PastLimit
 limiting =
     record {
       find = λ s ts. pastLimit (s .0) (s .1) (s .2) (s .3) ts;
-      test = λ s t. (isKey k-var (t .lexeme) && leb 6 (s .0)) || (isKey k-method (t .lexeme) && leb 8 (s .1))
+      test = λ s t ts. (isKey k-var (t .lexeme) && leb 6 (s .0)) || (isKey k-method (t .lexeme) && leb 8 (s .1))
           || (isKey k-waituntil (t .lexeme) && leb 16 (s .2)) || (isKey k-try (t .lexeme) && leb 16 (s .3));
       update = λ s t. (
         tally (isKey k-var (t .lexeme)) (s .0),
@@ -188,7 +196,7 @@ limiting =
       at-end = λ s. refl;
       at-token = λ s t ts. refl;
       goes-on = λ s before t h. rw (h, more-of (isKey k-var), more-of (isKey k-method), more-of (isKey k-waituntil), more-of (isKey k-try));
-      decides = λ s before t h. rw (h, or-assoc, or-assoc)
+      decides = λ s before t ts w h. rw (h, or-assoc, or-assoc)
           (decides-or _ _ (past k-var 6 before t)
           (decides-or _ _ (past k-method 8 before t)
           (decides-or _ _ (past k-waituntil 16 before t) (past k-try 16 before t))));
@@ -201,11 +209,11 @@ limiting =
 
 pub past-first : (ts : List Token) (k : ℕ) → (pastLimit 0 0 0 0 ts ≡ some k) ↔ FirstOffends PastLimit ts k
 unfolding limiting howMany
-past-first ts k = law limiting (0, 0, 0, 0) ts refl .0 k
+past-first ts k = law limiting (0, 0, 0, 0) ts tt refl .0 k
 
 pub past-none : (ts : List Token) → (pastLimit 0 0 0 0 ts ≡ none) ↔ NoneOffends PastLimit ts
 unfolding limiting howMany
-past-none ts = law limiting (0, 0, 0, 0) ts refl .1
+past-none ts = law limiting (0, 0, 0, 0) ts tt refl .1
 
 -- 6: what one more token does to what stands last and to what is declared
 
@@ -359,11 +367,11 @@ judges s before t (key k) n e = ((λ h. absurd (false≢true h)), λ p. let f = 
 judges s before t (number m) n e = ((λ h. absurd (false≢true h)), λ p. let f = p .1 in cc)
 judges s before t (mark m) n e = ((λ h. absurd (false≢true h)), λ p. let f = p .1 in cc)
 
-naming : Pass Summary Misnamed
+naming : Pass Summary Misnamed Any
 naming =
     record {
       find = λ s ts. misnamed (s .0) (s .1) (s .2) ts;
-      test = λ s t. wrongly s (t .lexeme);
+      test = λ s t ts. wrongly s (t .lexeme);
       update = λ s t. named s (t .lexeme);
       Sums = Names;
       at-end = λ s. unfold misnamed in refl;
@@ -378,7 +386,7 @@ naming =
                 λ x. decides-by (declared-more k-method x before t)
                 (declares _ (t .lexeme) (s .2) x (n .methods x) (n .last k-method));
           };
-      decides = λ s before t n. judges s before t (t .lexeme) n refl;
+      decides = λ s before t ts w n. judges s before t (t .lexeme) n refl;
     }
 
 nothing-before : Names (number 0, [], []) []
@@ -392,8 +400,8 @@ nothing-before =
 
 pub misnamed-first : (ts : List Token) (k : ℕ) → (misnamed (number 0) [] [] ts ≡ some k) ↔ FirstOffends Misnamed ts k
 unfolding naming
-misnamed-first ts k = law naming (number 0, [], []) ts nothing-before .0 k
+misnamed-first ts k = law naming (number 0, [], []) ts tt nothing-before .0 k
 
 pub misnamed-none : (ts : List Token) → (misnamed (number 0) [] [] ts ≡ none) ↔ NoneOffends Misnamed ts
 unfolding naming
-misnamed-none ts = law naming (number 0, [], []) ts nothing-before .1
+misnamed-none ts = law naming (number 0, [], []) ts tt nothing-before .1

@@ -14,7 +14,7 @@ use borrow.Author.Tests.{ltb-true, ltb-false, lt-ltb, le-ltb, eqb-true, eqb-fals
 use Rattle.syntax.specs.Tree.{Cond, Region, Monitor, all, spellCond}
 use Rattle.machine.specs.Monitor as machine
 use Rattle.machine.specs.Decide.Step.{isWaiting}
-use Rattle.meaning.specs.Value.{truth}
+use Rattle.meaning.specs.Value.{condValue, isTrue, truth}
 use Rattle.meaning.specs.State.{count, stateAt, numberOf}
 use Rattle.meaning.specs.Kept.{keptAt}
 use Rattle.meaning.specs.Model.{sameGuard, placeIn, guardsOf, goesOnIn, noGuard, noRegion, numberAfter, vars}
@@ -266,7 +266,7 @@ module _ (m : Monitor) where
 
   -- only a guard of the file holds
   pub holds-below : (g s : ℕ) → holds m g s ≡ true → g < length (guards m)
-  unfolding holds noGuard truth
+  unfolding holds noGuard truth condValue isTrue
   holds-below g s h =
       split (ltb g (length (guards m))) (ltb-true g (length (guards m)))
       (λ high. clash h (ap (λ (c : Cond). truth c (vars m) (stateAt (vars m) s))
@@ -297,7 +297,7 @@ module _ (m : Monitor) where
     holds-guard r n = ap (λ c. truth c (vars m) (stateAt (vars m) n)) (guard-of-region r)
 
     pub outside : (r s : ℕ) → length (regions m) ≤ r → holds m (guardOf m r) s ≡ false
-    unfolding noRegion noGuard truth
+    unfolding noRegion noGuard truth condValue isTrue
     outside r s h = holds-guard r s ∙ ap (λ (q : Region). truth (q .guard) (vars m) (stateAt (vars m) s))
         (no-region r h)
 

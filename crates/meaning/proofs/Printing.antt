@@ -15,7 +15,7 @@ use Rattle.meaning.specs.Bits.{eachFrom, bits, ones}
 use Rattle.meaning.specs.Accepted.{opens, closes}
 use Rattle.meaning.specs.Runs.{regionsOf}
 use Rattle.meaning.specs.Decide.Check.{tally, crowded, placeOf, leftOf, pastLimit, member, misnamed, placesOf}
-use Rattle.meaning.specs.Decide.Check.{inByte, goodRange, illRanged, keptAfter, breaks}
+use Rattle.meaning.specs.Decide.Check.{inByte, goodRange, illRanged, asks, lowDivisor, unvalued, keptAfter, breaks}
 use Rattle.meaning.specs.Decide.First.{firstFrom, firstWhere}
 use Rattle.meaning.specs.Decide.Choice.{noTry, endsFalse, isNone, inSet, tryAt, eachTry, allHold, binds}
 use Rattle.meaning.specs.Decide.Choice.{breaksTry, firstBreak, pass, passes, trueAtStart, chosenTries, chosenBits}
@@ -30,32 +30,35 @@ use Rattle.meaning.specs.Model.{noGuard, noRegion, numberAfter, regions,
 use Rattle.meaning.specs.Model.{after, follows, vars, model}
 use Rattle.meaning.specs.Hex.{hexDigit, hex2, hexBool}
 use Rattle.meaning.specs.Decide.Table.{entryLine, forEach, tableOf}
-use Rattle.meaning.specs.State.{size, count, stateAt, numberOf, starts, startNumber}
+use Rattle.meaning.specs.State.{size, count, stateAt, numberOf, starts, lowest, startNumber}
 use Rattle.meaning.specs.SixteenBits.{wrapped, weightIn, share, numberIn, restIn, valueIn}
 use Rattle.meaning.specs.Kept.{keptAt}
 use Rattle.meaning.specs.Decide.Frames.{linesFrom, isHex, hexValue, allHex, pairAt, isFrame, frameOf, prepend}
 use Rattle.meaning.specs.Decide.Frames.{framesFrom, framesOf}
 use Rattle.meaning.specs.Value.{intOf, negative, less, compares, valueOf, inRange, atomValue, joined}
 use Rattle.meaning.specs.Decide.Bodies.{assigned}
-use Rattle.meaning.specs.Value.{termsValue, exprValue, truth, conjTruth, simpleTruth}
+use Rattle.meaning.specs.Value.{remainderBy, modulo, ofOne, ofBoth, termValue, termsValue, exprValue, condValue}
+use Rattle.meaning.specs.Value.{conjValue, simpleValue, isTrue, truth}
 use Rattle.meaning.specs.Decide.Bodies.{andThen, runBlock, runStmt}
 use Rattle.meaning.specs.Decide.Bodies.{outcome}
 use Rattle.syntax.specs.Bytes.{bytes, between, blank, letter, digit, wordByte, decimal, sameBytes}
 use Rattle.syntax.specs.Decide.Leading.{leading, startsWith}
 use Rattle.syntax.specs.Decide.Reading.{onwards, _>>=_, give, begins, rest, choose, expect, readName, readNumber}
-use Rattle.syntax.specs.Decide.Reading.{readMany, readSome, readInt, readAtom, readSign, readTerm, isSign, readExpr}
+use Rattle.syntax.specs.Decide.Reading.{readMany, readSome, readInt, readAtom, readSign, readTerm, readSigned}
+use Rattle.syntax.specs.Decide.Reading.{isSign, readExpr}
 use Rattle.syntax.specs.Decide.Reading.{readComparison, readCond, readConj, readSimple, readBlock, readStmt, readRegion}
 use Rattle.syntax.specs.Decide.Reading.{readMethod, readVar, readTry, atEnd, readMonitor, read, got, stuck}
 use Rattle.syntax.specs.Token.{keywords, marks, lexemes}
 use Rattle.syntax.specs.Decide.Lexeme.{markNumber, keywordNumber, isMark, isKey, isName}
 use Rattle.syntax.specs.Decide.Scan.{wordOf, atMost, markOf, scan, prepend as token-prepend, tokensFrom, tokenize}
 use Rattle.syntax.specs.Decide.Scan.{tokens, none-at}
-use Rattle.syntax.specs.Tree.{spellInt, spellAtom, signMark, spellTerm, each, spellExpr, comparisonMark, spellConstant}
+use Rattle.syntax.specs.Tree.{spellInt, spellAtom, signMark, spellTerm, spellSigned, each, spellExpr}
+use Rattle.syntax.specs.Tree.{comparisonMark, spellConstant}
 use Rattle.syntax.specs.Tree.{spellCond, spellConj, spellSimple, spellBlock, spellStmt, spellRegion, spellMethod}
 use Rattle.syntax.specs.Tree.{spellVar, spellTry, spell, InGrammar, Viable, Var, all}
 use Rattle.meaning.specs.Points.{valueBytes, placeBytes, turnBytes, setBytes, sharedBytes, noticeBytes, noticesAt}
 use Rattle.meaning.specs.Points.{plainPart, tablePart, turnPart, pointAt, stopAnswer, pointCount, listPoints, framePoints, pointsFrom}
-use Rattle.meaning.specs.Decide.Touch.{atomNames, termsName, exprNames, condNames, conjNames, simpleNames}
+use Rattle.meaning.specs.Decide.Touch.{atomNames, termNames, termsName, exprNames, condNames, conjNames, simpleNames}
 use Rattle.meaning.specs.Decide.Touch.{blockAssigns, stmtAssigns, anyVar, sumOf, touched, pairsOf}
 use Rattle.meaning.specs.Points.{pointRoom, pointsOf}
 use lib.IntN.{ℤ, pos, _+ℤ_, natAbs}
@@ -138,7 +141,7 @@ numbersLines file ns =
     ]
 
 unfoldable pub printing : Case → List ℕ
-unfolding any threads put without isDue isWaiting turnAt turn those joined-behind left-out turn-in beginWait leave allIdle onGuard waitsOn line atFront firstIn next firstNotified own plainTold mayBeAt may ran waited rechecked allowed act judged step run runs someMove everyMove stands unconditional broadcast entryOf acts entryTold tableTold written place toldBy eachFrom bits ones recordOf runningOf runList runFrames runFrom running opens closes tally crowded placeOf leftOf pastLimit member misnamed placesOf inByte goodRange illRanged regionsOf keptAfter breaks firstFrom firstWhere broken noTry endsFalse isNone inSet tryAt eachTry allHold binds breaksTry firstBreak pass passes trueAtStart chosenTries chosenBits fateFrom fateOf fateLine triesLines turnDigits turnsLine turnsLines atomNames termsName exprNames condNames conjNames simpleNames blockAssigns stmtAssigns anyVar sumOf touched pairsOf pairsLine wrapped weightIn share numberIn restIn valueIn stateLine heldAs stateLines numbersLines checkMeaning checkTokens check hex4 refusalLine placeByte valueDigits placeDigits recordLine runLine machineLine placer runner valueBytes placeBytes turnBytes setBytes sharedBytes noticeBytes noticesAt plainPart tablePart turnPart pointAt stopAnswer pointCount listPoints framePoints pointsFrom pointRoom pointsOf sameLexeme sameLexemes sameGuard placeIn guardsOf beginsIn goesOnIn noGuard noRegion numberAfter regions guards region guardOf holds kept after follows model hexDigit hex2 hexBool entryLine forEach tableOf size count stateAt numberOf starts linesFrom isHex hexValue allHex pairAt isFrame frameOf prepend framesFrom framesOf intOf negative less compares valueOf inRange assigned atomValue joined termsValue exprValue truth conjTruth simpleTruth andThen runBlock runStmt outcome keptAt bytes between blank letter digit wordByte leading decimal sameBytes startsWith onwards _>>=_ give begins rest choose expect readName readNumber readMany readSome readInt readAtom readSign readTerm isSign readExpr readComparison readCond readConj readSimple readBlock readStmt readRegion readMethod readVar readTry atEnd readMonitor read keywords marks wordOf atMost markOf scan token-prepend tokensFrom tokenize lexemes markNumber keywordNumber isMark isKey isName spellInt spellAtom signMark spellTerm each spellExpr comparisonMark spellConstant spellCond spellConj spellSimple spellBlock spellStmt spellRegion spellMethod spellVar spellTry spell InGrammar Viable
+unfolding any threads put without isDue isWaiting turnAt turn those joined-behind left-out turn-in beginWait leave allIdle onGuard waitsOn line atFront firstIn next firstNotified own plainTold mayBeAt may ran waited rechecked allowed act judged step run runs someMove everyMove stands unconditional broadcast entryOf acts entryTold tableTold written place toldBy eachFrom bits ones recordOf runningOf runList runFrames runFrom running opens closes tally crowded placeOf leftOf pastLimit member misnamed placesOf inByte goodRange illRanged asks lowDivisor unvalued regionsOf keptAfter breaks firstFrom firstWhere broken noTry endsFalse isNone inSet tryAt eachTry allHold binds breaksTry firstBreak pass passes trueAtStart chosenTries chosenBits fateFrom fateOf fateLine triesLines turnDigits turnsLine turnsLines atomNames termNames termsName exprNames condNames conjNames simpleNames blockAssigns stmtAssigns anyVar sumOf touched pairsOf pairsLine wrapped weightIn share numberIn restIn valueIn stateLine heldAs stateLines numbersLines checkMeaning checkTokens check hex4 refusalLine placeByte valueDigits placeDigits recordLine runLine machineLine placer runner valueBytes placeBytes turnBytes setBytes sharedBytes noticeBytes noticesAt plainPart tablePart turnPart pointAt stopAnswer pointCount listPoints framePoints pointsFrom pointRoom pointsOf sameLexeme sameLexemes sameGuard placeIn guardsOf beginsIn goesOnIn noGuard noRegion numberAfter regions guards region guardOf holds kept after follows model hexDigit hex2 hexBool entryLine forEach tableOf size count stateAt numberOf starts lowest linesFrom isHex hexValue allHex pairAt isFrame frameOf prepend framesFrom framesOf intOf negative less compares valueOf inRange assigned atomValue joined termsValue exprValue remainderBy modulo ofOne ofBoth termValue condValue conjValue simpleValue isTrue truth andThen runBlock runStmt outcome keptAt bytes between blank letter digit wordByte leading decimal sameBytes startsWith onwards _>>=_ give begins rest choose expect readName readNumber readMany readSome readInt readAtom readSign readTerm readSigned isSign readExpr readComparison readCond readConj readSimple readBlock readStmt readRegion readMethod readVar readTry atEnd readMonitor read keywords marks wordOf atMost markOf scan token-prepend tokensFrom tokenize lexemes markNumber keywordNumber isMark isKey isName spellInt spellAtom signMark spellTerm spellSigned each spellExpr comparisonMark spellConstant spellCond spellConj spellSimple spellBlock spellStmt spellRegion spellMethod spellVar spellTry spell InGrammar Viable
 printing (placing file) = placer file
 printing (running-of file trace) = runner file trace
 printing (whole file trace) = placer file ++ runner file trace

@@ -18,10 +18,10 @@ use Rattle.meaning.specs.Model.{placeIn, guardsOf, regions, guards}
 use Rattle.logic.proofs.Bools.{split, different}
 use Rattle.syntax.proofs.Lexemes.{decides-key}
 use Rattle.meaning.proofs.GrammarPlace.{cut}
-use Rattle.meaning.specs.Refusal.{upTo}
 use Rattle.meaning.proofs.KeywordPlaces.{times, times-append, vars-times, each-append}
 use Rattle.meaning.proofs.KeywordCounts.{methods-once, methods-wait, try-count}
 use Rattle.meaning.specs.Held.{behindKeep}
+use Rattle.meaning.specs.Before.{upTo}
 
 pub record Sizes (m : Monitor) : Type 0 where
   pub vars : length (all (m .vars)) ≤ 6

@@ -1,4 +1,4 @@
--- Refusals 7 to 9: the check of a tree gives the one verdict that `Judged` has grounds for. Each test is taken to the
+-- Refusals 7, 15, 8 and 9: the check of a tree gives the one verdict that `Judged` has grounds for. Each test is taken to the
 -- statement that it decides, and states to their numbers.
 use Prim.Native.Nat.{ℕ, _≤_, _<_}
 use native.Mathlib.Omega.{arith}
@@ -9,16 +9,16 @@ use mathlib.Core.List.{List}
 use mathlib.Core.Option.{Option, none, some}
 use lib.ListN.{getD}
 use lib.IntN.{ℤ}
-use Rattle.syntax.specs.Token.{k-var, k-keep, Token}
-use Rattle.syntax.specs.Tree.{Region, Monitor, all}
+use Rattle.syntax.specs.Token.{k-var, k-keep, Token, lexemes}
+use Rattle.syntax.specs.Tree.{Region, Monitor, all, spell}
 use Rattle.meaning.specs.Value.{truth}
 use Rattle.meaning.specs.Decide.Bodies.{outcome}
 use Rattle.meaning.specs.State.{count, stateAt, numberOf, starts}
 use Rattle.meaning.specs.Kept.{keptAt}
 use Rattle.meaning.specs.Answer.{answer, Verdict, accepted, refused}
-use Rattle.meaning.specs.Decide.Check.{placesOf, illRanged, keptAfter, breaks, broken}
+use Rattle.meaning.specs.Decide.Check.{placesOf, illRanged, unvalued, keptAfter, breaks, broken}
 use Rattle.meaning.specs.Decide.Check.{checkMeaning}
-use Rattle.meaning.specs.Accepted.{GoodRanges, Keeps, Meets, Sound}
+use Rattle.meaning.specs.Accepted.{GoodRanges, Keeps, Meets, NoneLacks, Sound}
 use Rattle.meaning.specs.Runs.{regionsOf, State, BlockRuns, IsRegion}
 use Rattle.meaning.specs.Model.{vars}
 use Rattle.logic.proofs.Bools.{both, and, split, clash, not-true, true-not, is-false, different}
@@ -27,6 +27,7 @@ use Rattle.meaning.proofs.BodyLaws.{runs-of-outcome, outcome-of-runs, b
 use Rattle.meaning.proofs.RangeLaws.{ill-ranged-first, ill-ranged-good, good-or-ill}
 use Rattle.meaning.specs.Refusal.{FirstBroken}
 use Rattle.meaning.proofs.Searching.{NoneBelow, passesAt, Quiet, FirstIn, quiet-or-first, none-where, some-where}
+use Rattle.meaning.proofs.Unvalued.{unvalued-first, unvalued-none}
 use Rattle.meaning.proofs.Judged.{Judged, sound, ill-ranged, start-not-kept}
 use Rattle.meaning.proofs.Judged as judged
 
@@ -119,65 +120,83 @@ module _ (m : Monitor) where
 
 -- The verdict
 
-module _ (ts : List Token) (m : Monitor) where
+module _ (ts : List Token) (m : Monitor) (spelt : lexemes ts ≡ spell m) where
   says-7 : (k : ℕ) → illRanged 1 (vars m) (placesOf k-var ts) ≡ some k → checkMeaning ts m ≡ refused (answer 7 k 0)
   unfolding checkMeaning
   says-7 k e = cc
 
   module _ (ranges : illRanged 1 (vars m) (placesOf k-var ts) ≡ none) where
-    says-8 : keptAt m (starts (vars m)) ≡ false
-        → checkMeaning ts m ≡ refused (answer 8 (getD (placesOf k-keep ts) 0 0) 0)
+    says-15 : (k : ℕ) → unvalued (vars m) false ts ≡ some k → checkMeaning ts m ≡ refused (answer 15 k 0)
     unfolding checkMeaning
-    says-8 f = cc
+    says-15 k e = cc
 
-    says-9 : keptAt m (starts (vars m)) ≡ true → (k n : ℕ)
-        → broken m ≡ some (k, n) → checkMeaning ts m ≡ refused (answer 9 k n)
-    unfolding checkMeaning
-    says-9 t k n e = cc
+    module _ (valued : unvalued (vars m) false ts ≡ none) where
+      says-8 : keptAt m (starts (vars m)) ≡ false
+          → checkMeaning ts m ≡ refused (answer 8 (getD (placesOf k-keep ts) 0 0) 0)
+      unfolding checkMeaning
+      says-8 f = cc
 
-    says-accepted : keptAt m (starts (vars m)) ≡ true
-        → broken m ≡ none → checkMeaning ts m ≡ accepted m
-    unfolding checkMeaning
-    says-accepted t e = cc
+      says-9 : keptAt m (starts (vars m)) ≡ true → (k n : ℕ)
+          → broken m ≡ some (k, n) → checkMeaning ts m ≡ refused (answer 9 k n)
+      unfolding checkMeaning
+      says-9 t k n e = cc
+
+      says-accepted : keptAt m (starts (vars m)) ≡ true
+          → broken m ≡ none → checkMeaning ts m ≡ accepted m
+      unfolding checkMeaning
+      says-accepted t e = cc
 
   -- a verdict with grounds is the check's
   says-judged : {v : Verdict} → Judged ts m v → checkMeaning ts m ≡ v
   unfolding IsRegion broken
   says-judged (sound s) =
-      says-accepted (ill-ranged-good (placesOf k-var ts) (s .ranges) (s .few)) (s .start)
+      says-accepted (ill-ranged-good (placesOf k-var ts) (s .ranges) (s .few))
+      (unvalued-none m (s .ranges) ts spelt .1 (s .valued)) (s .start)
       (none-where (vars m) (breaks (vars m) (keptAt m)) (regionsOf (all (m .methods)))
       (λ j q e. quiet-keeps m (s .ranges) q (λ as′. s .keeps j q as′ e)))
   says-judged (ill-ranged {i} t) = says-7 (getD (placesOf k-var ts) i 0) (ill-ranged-first (placesOf k-var ts) t)
-  says-judged (start-not-kept good few f) = says-8 (ill-ranged-good (placesOf k-var ts) good few) f
-  says-judged (judged.broken {k} {n} good few t b) =
-      says-9 (ill-ranged-good (placesOf k-var ts) good few) t k n
+  says-judged (judged.unvalued {k} good few f) =
+      says-15 (ill-ranged-good (placesOf k-var ts) good few) k (unvalued-first m good ts spelt k .1 f)
+  says-judged (start-not-kept good few valued f) =
+      says-8 (ill-ranged-good (placesOf k-var ts) good few) (unvalued-none m good ts spelt .1 valued) f
+  says-judged (judged.broken {k} {n} good few valued t b) =
+      says-9 (ill-ranged-good (placesOf k-var ts) good few) (unvalued-none m good ts spelt .1 valued) t k n
       (some-where (vars m) (breaks (vars m) (keptAt m)) (regionsOf (all (m .methods))) k n (broken-first m good k n b))
 
   -- the check's verdict has grounds
   abbrev Grounds : Type 0
   Grounds = (v : Verdict) × Judged ts m v
 
-  by-bodies : GoodRanges (vars m) → count (vars m) ≤ 4096 → keptAt m (starts (vars m)) ≡ true → Grounds
+  by-bodies : GoodRanges (vars m) → count (vars m) ≤ 4096 → NoneLacks m → keptAt m (starts (vars m)) ≡ true → Grounds
   unfolding IsRegion
-  by-bodies good few t =
+  by-bodies good few valued t =
       ⊎-elim
       (λ h. (
         accepted m,
         sound (record {
           ranges = good;
           few = few;
+          valued = valued;
           start = t;
           keeps = λ k r as′ e. keeps-quiet m good r (h k r e) as′;
         }),
       ))
-      (λ b. (refused (answer 9 (b .0) (b .1)), judged.broken good few t (first-broken m good (b .0) (b .1) (b .2))))
+      (λ b. (refused (answer 9 (b .0) (b .1)), judged.broken good few valued t (first-broken m good (b .0) (b .1) (b .2))))
       (quiet-or-first (vars m) (breaks (vars m) (keptAt m)) (regionsOf (all (m .methods))))
+
+  by-values : GoodRanges (vars m) → count (vars m) ≤ 4096 → Grounds
+  by-values good few = one (unvalued (vars m) false ts) refl
+    where
+      one : (o : Option ℕ) → unvalued (vars m) false ts ≡ o → Grounds
+      one (some k) e = (refused (answer 15 k 0), judged.unvalued good few (unvalued-first m good ts spelt k .0 e))
+      one none e =
+          let valued = unvalued-none m good ts spelt .0 e in
+          split (keptAt m (starts (vars m))) (by-bodies good few valued)
+          (λ f. (refused (answer 8 (getD (placesOf k-keep ts) 0 0) 0), start-not-kept good few valued f))
 
   grounds : Grounds
   grounds =
-      ⊎-elim
-      (λ g. split (keptAt m (starts (vars m))) (by-bodies (g .1) (g .2))
-      (λ f. (refused (answer 8 (getD (placesOf k-keep ts) 0 0) 0), start-not-kept (g .1) (g .2) f)))
+      ⊎-elim (λ g. by-values (g .1) (g .2))
       (λ t. (refused (answer 7 (getD (placesOf k-var ts) (t .0) 0) 0), ill-ranged (t .2)))
       (good-or-ill (vars m) (placesOf k-var ts))
 
@@ -187,8 +206,9 @@ module _ (ts : List Token) (m : Monitor) where
   sound-of : {v : Verdict} (m′ : Monitor) → Judged ts m v → v ≡ accepted m′ → (m ≡ m′) × Sound m
   sound-of m′ (sound s) e = (cc, s)
   sound-of m′ (ill-ranged t) e = different (cc)
-  sound-of m′ (start-not-kept good few f) e = different (cc)
-  sound-of m′ (judged.broken good few t b) e = different (cc)
+  sound-of m′ (judged.unvalued good few f) e = different (cc)
+  sound-of m′ (start-not-kept good few valued f) e = different (cc)
+  sound-of m′ (judged.broken good few valued t b) e = different (cc)
 
   -- a tree is accepted, as itself, exactly where it is sound
   pub check-meaning-accepted-iff : (m′ : Monitor) → (checkMeaning ts m ≡ accepted m′) ↔ ((m ≡ m′) × Sound m)

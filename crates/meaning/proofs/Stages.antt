@@ -13,8 +13,8 @@ use Rattle.syntax.specs.Decide.Reading.{got, stuck, read}
 use Rattle.meaning.specs.State.{starts}
 use Rattle.meaning.specs.Kept.{keptAt}
 use Rattle.meaning.specs.Answer.{answer, accepted, refused}
-use Rattle.meaning.specs.Decide.Check.{crowded, pastLimit, misnamed, placesOf, placeOf, leftOf, illRanged, broken}
-use Rattle.meaning.specs.Decide.Check.{checkMeaning, checkTokens, check}
+use Rattle.meaning.specs.Decide.Check.{crowded, pastLimit, misnamed, placesOf, placeOf, leftOf, illRanged, unvalued}
+use Rattle.meaning.specs.Decide.Check.{broken, checkMeaning, checkTokens, check}
 
 pub check-1 : (file : List ℕ) → 8192 < length file → check file ≡ refused (answer 1 0 0)
 unfolding check
@@ -61,17 +61,23 @@ module _ (file : List ℕ) (short : length file ≤ 8192) where
             check-7 e = cc by-meaning
 
             module _ (ranges : illRanged 1 (all (m .vars)) (placesOf k-var ts) ≡ none) where
-              pub check-8 : keptAt m (starts (all (m .vars))) ≡ false
-                  → check file ≡ refused (answer 8 (getD (placesOf k-keep ts) 0 0) 0)
+              pub check-15 : {k : ℕ} → unvalued (all (m .vars)) false ts ≡ some k
+                  → check file ≡ refused (answer 15 k 0)
               unfolding checkMeaning
-              check-8 e = cc by-meaning
+              check-15 e = cc by-meaning
 
-              module _ (start : keptAt m (starts (all (m .vars))) ≡ true) where
-                pub check-9 : {k n : ℕ} → broken m ≡ some (k, n)
-                    → check file ≡ refused (answer 9 k n)
+              module _ (valued : unvalued (all (m .vars)) false ts ≡ none) where
+                pub check-8 : keptAt m (starts (all (m .vars))) ≡ false
+                    → check file ≡ refused (answer 8 (getD (placesOf k-keep ts) 0 0) 0)
                 unfolding checkMeaning
-                check-9 e = cc by-meaning
+                check-8 e = cc by-meaning
 
-                pub check-0 : broken m ≡ none → check file ≡ accepted m
-                unfolding checkMeaning
-                check-0 e = cc by-meaning
+                module _ (start : keptAt m (starts (all (m .vars))) ≡ true) where
+                  pub check-9 : {k n : ℕ} → broken m ≡ some (k, n)
+                      → check file ≡ refused (answer 9 k n)
+                  unfolding checkMeaning
+                  check-9 e = cc by-meaning
+
+                  pub check-0 : broken m ≡ none → check file ≡ accepted m
+                  unfolding checkMeaning
+                  check-0 e = cc by-meaning

@@ -12,12 +12,14 @@ use lib.ListN.{length, getD, length-append}
 use lib.IntN.{ℤ, pos}
 use Rattle.syntax.specs.Bytes.{sameBytes}
 use Rattle.syntax.specs.Token.{Lexeme, name, key, number, mark, lbrace, rbrace, lparen, rparen, semicolon, becomes}
-use Rattle.syntax.specs.Token.{minus, bang, and-and, or-or, k-if, k-else, k-true, k-false}
+use Rattle.syntax.specs.Token.{minus, bang, and-and, or-or, k-if, k-else, k-true, k-false, k-mod}
 use Rattle.syntax.specs.Decide.Lexeme.{isMark, isKey, markNumber}
-use Rattle.syntax.specs.Tree.{Int, plain, negated, Atom, literal, variable, Sign, added, taken, Term, Expr, Comparison}
+use Rattle.syntax.specs.Tree.{Int, plain, negated, Atom, literal, variable, Sign, added, taken, Term, alone, remainder}
+use Rattle.syntax.specs.Tree.{Signed, Expr, Comparison}
 use Rattle.syntax.specs.Tree.{eq, ne, lt, le, gt, ge, Cond, only, or, Conj, just, and, Simple, negation, bracketed}
 use Rattle.syntax.specs.Tree.{constant, compare, Block, end, then, Stmt, assign, if-then, if-else, Var, Monitor, each}
-use Rattle.syntax.specs.Tree.{spellInt, spellAtom, signMark, spellTerm, spellExpr, comparisonMark, spellConstant}
+use Rattle.syntax.specs.Tree.{spellInt, spellAtom, signMark, spellTerm, spellSigned, spellExpr, comparisonMark}
+use Rattle.syntax.specs.Tree.{spellConstant}
 use Rattle.syntax.specs.Tree.{spellCond, spellConj, spellSimple, spellBlock, spellStmt}
 use Rattle.machine.specs.Decide.Table.{runs, someMove, stands, entryOf}
 use Rattle.machine.specs.Algorithm1 as table
@@ -31,7 +33,7 @@ use Rattle.meaning.specs.Bits.{eachFrom, ones}
 use Rattle.meaning.specs.Model.{sameLexeme, noGuard, numberAfter, vars, regions, guards, region, holds}
 use Rattle.meaning.specs.Model.{kept, after, model}
 use Rattle.meaning.specs.Touch.{Names, LeftSide, Touched, Pair, Distinct, no-pair, one-pair, Pairs}
-use Rattle.meaning.specs.Decide.Touch.{atomNames, termsName, exprNames, condNames, conjNames, simpleNames}
+use Rattle.meaning.specs.Decide.Touch.{atomNames, termNames, termsName, exprNames, condNames, conjNames, simpleNames}
 use Rattle.meaning.specs.Decide.Touch.{blockAssigns, stmtAssigns, anyVar, sumOf, touched, pairsOf}
 use Rattle.logic.proofs.Bools.{Decides, decides-or, decides-by, either, or-left, or-right, split-eq}
 use Rattle.logic.proofs.Bools.{split, clash, both, and as both-true, neither, is-false, not-true}
@@ -187,15 +189,20 @@ module _ (x : List ℕ) where
   of-atom (literal i) = of-int i
   of-atom (variable y) = subst (Text (name y ∷ [])) (or-false (sameBytes y x)) (text-next (name y) refl text-nil)
 
-  of-terms : (ts : List Term) → Text (each spellTerm ts) (termsName ts x)
-  unfolding each spellTerm termsName isMark sameLexeme
+  of-term : (t : Term) → Text (spellTerm t) (termNames t x)
+  unfolding spellTerm termNames isMark isKey sameLexeme
+  of-term (alone a) = of-atom a
+  of-term (remainder a b) = text-join (of-atom a) (text-next (key k-mod) refl (of-atom b))
+
+  of-terms : (ts : List Signed) → Text (each spellSigned ts) (termsName ts x)
+  unfolding each spellSigned termsName isMark sameLexeme
   of-terms [] = text-nil
   of-terms (t ∷ ts) =
-      text-join (text-next (mark (signMark (t .sign))) (sign-not (t .sign)) (of-atom (t .atom))) (of-terms ts)
+      text-join (text-next (mark (signMark (t .sign))) (sign-not (t .sign)) (of-term (t .term))) (of-terms ts)
 
   of-expr : (e : Expr) → Text (spellExpr e) (exprNames e x)
   unfolding spellExpr exprNames
-  of-expr e = text-join (of-atom (e .first)) (of-terms (e .more))
+  of-expr e = text-join (of-term (e .first)) (of-terms (e .more))
 
   of-constant : (b : Bool) → Text (spellConstant b) false
   unfolding spellConstant isMark isKey sameLexeme
@@ -484,7 +491,7 @@ module _ {vs : List Var} (x : List ℕ) where
 
     stmt-leaves : {s : Stmt} {as′ bs : List ℤ} → run.StmtRuns vs s as′ bs → stmtAssigns s x ≡ false
         → valueOf vs bs x ≡ valueOf vs as′ x
-    stmt-leaves (run.assigns a) h = assigned-other a x h
+    stmt-leaves (run.assigns v a) h = assigned-other a x h
     stmt-leaves (run.if-true t r) h = block-leaves r h
     stmt-leaves (run.if-false t) h = refl
     stmt-leaves (run.else-true {a = a} {b} t r) h =

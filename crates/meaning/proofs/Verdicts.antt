@@ -4,7 +4,7 @@ use Prim.Native.Nat.{ℕ, _≤_, _<_}
 use native.Mathlib.Omega.{arith}
 use mathlib.Core.Path.{_≡_, refl, sym, subst, ap, _∙_}
 use mathlib.Core.Bool.{true}
-use mathlib.Core.Logic.{_⊎_, inl, inr, _↔_}
+use mathlib.Core.Logic.{_⊎_, inl, inr, ⊎-elim, _↔_}
 use mathlib.Core.List.{List, [], _∷_, _++_}
 use mathlib.Core.Option.{Option, none, some}
 use lib.ListN.{length, getD}
@@ -19,12 +19,12 @@ use Rattle.syntax.specs.Tree.{Monitor, all, spell, InGrammar, Viable}
 use Rattle.syntax.specs.Decide.Reading.{Got, got, stuck, read}
 use Rattle.syntax.proofs.Grammar.{read-spells, spelled-read, stuck-viable, stuck-not-viable, stuck-at-end}
 use Rattle.syntax.proofs.Grammar.{whole-viable, in-grammar-iff}
-use Rattle.meaning.specs.State.{starts}
+use Rattle.meaning.specs.State.{starts, count}
 use Rattle.meaning.specs.Kept.{keptAt}
 use Rattle.meaning.specs.Answer.{Answer, answer, Verdict, accepted, refused}
 use Rattle.meaning.specs.Decide.Check.{crowded, pastLimit, misnamed, placesOf, placeOf, leftOf, checkMeaning}
 use Rattle.meaning.specs.Decide.Check.{checkTokens, check}
-use Rattle.meaning.specs.Accepted.{NoneOffends, FirstOffends, Crowded, PastLimit, Misnamed}
+use Rattle.meaning.specs.Accepted.{NoneOffends, FirstOffends, Crowded, PastLimit, Misnamed, GoodRanges}
 use Rattle.meaning.specs.Refusal.{HasVerdict, FirstIllRanged}
 use Rattle.meaning.proofs.Judged.{Judged, sound}
 use Rattle.meaning.proofs.Judged as judged
@@ -33,13 +33,16 @@ use Rattle.meaning.proofs.Limits.{first-unique, crowded-first, crowded-
 use Rattle.meaning.proofs.Limits.{misnamed-first, misnamed-none}
 use Rattle.meaning.specs.Refusal.{NoFile}
 use Rattle.meaning.proofs.GrammarPlace.{place-first, place-end}
-use Rattle.meaning.specs.Refusal.{KeywordAt, upTo}
+use Rattle.meaning.specs.Refusal.{KeywordAt}
 use Rattle.meaning.proofs.KeywordPlaces.{var-place, keep-place}
 use Rattle.meaning.proofs.RangeLaws.{ill-ranged-good, ill-ranged-first}
 use Rattle.meaning.proofs.Soundness.{check-meaning-iff}
+use Rattle.meaning.proofs.Unvalued.{unvalued-first, unvalued-none}
 use Rattle.meaning.specs.Accepted.{Accepted}
-use Rattle.meaning.specs.Refusal.{Past2, Past3, Past4, Past5, Past6, Past7, Refusal, broken, ends-early, ill-ranged}
-use Rattle.meaning.specs.Refusal.{no-file, no-token, past-limit, start-not-kept, too-long, too-many, wrong-name}
+use Rattle.meaning.specs.Refusal.{Past2, Past3, Past4, Past5, Past6, Past7, Past15, Refusal, broken, ends-early}
+use Rattle.meaning.specs.Refusal.{ill-ranged, no-file, no-token, past-limit, start-not-kept, too-long, too-many}
+use Rattle.meaning.specs.Refusal.{wrong-name, unvalued}
+use Rattle.meaning.specs.Before.{upTo}
 
 -- 0 is no refusal
 pub refusal-number : {file : List ℕ} {a : Answer} → Refusal file a → 1 ≤ a .number
@@ -51,6 +54,7 @@ refusal-number (ends-early p v n) = omega arith
 refusal-number (past-limit p f) = omega arith
 refusal-number (wrong-name p f) = omega arith
 refusal-number (ill-ranged p t s) = omega arith
+refusal-number (unvalued p f) = omega arith
 refusal-number (start-not-kept p f s) = omega arith
 refusal-number (broken p t b) = omega arith
 
@@ -182,9 +186,12 @@ module _ {file : List ℕ} {ts : List Token} {m : Monitor} (p : Past6 file ts m)
       → KeywordAt ts (upTo m (t .before)) k-var (getD (placesOf k-var ts) i 0)
   var-at t = rw (t .place) at (var-place ts m spelt (t .before) (t .var) (t .after) (t .parts))
 
-  -- 7 to 9, from and to the verdicts of a tree
+  -- 7, 15, 8 and 9, from and to the verdicts of a tree
   says-judged : {v : Verdict} → Judged ts m v → check file ≡ v
-  says-judged {v} j = after-6 p ∙ check-meaning-iff ts m v .1 j
+  says-judged {v} j = after-6 p ∙ check-meaning-iff ts m spelt v .1 j
+
+  past-7 : GoodRanges (all (m .vars)) → count (all (m .vars)) ≤ 4096 → Past7 file ts m
+  past-7 good few = record { past = p; ranges = good; few = few }
 
   of-judged : {v : Verdict} → Judged ts m v → HasVerdict file v
   of-judged (sound s) =
@@ -200,9 +207,10 @@ module _ {file : List ℕ} {ts : List Token} {m : Monitor} (p : Past6 file ts m)
         sound = s;
       }
   of-judged (judged.ill-ranged t) = ill-ranged p t (var-at t)
-  of-judged (judged.start-not-kept good few f) =
-      start-not-kept (record { past = p; ranges = good; few = few }) f (keep-place ts m spelt)
-  of-judged (judged.broken good few t b) = broken (record { past = p; ranges = good; few = few }) t b
+  of-judged (judged.unvalued good few f) = unvalued (past-7 good few) f
+  of-judged (judged.start-not-kept good few valued f) =
+      start-not-kept (record { past = past-7 good few; valued = valued }) f (keep-place ts m spelt)
+  of-judged (judged.broken good few valued t b) = broken (record { past = past-7 good few; valued = valued }) t b
 
 of-accepted : {file : List ℕ} {m : Monitor} (a : Accepted file m) → Past6 file (a .ts) m
 of-accepted a =
@@ -219,9 +227,13 @@ of-accepted a =
       names = a .names;
     }
 
--- an accepted file passes 1 to 7; one that is refused with 8 or 9 does by the words of its refusal
-pub accepted-past-7 : {file : List ℕ} {m : Monitor} (a : Accepted file m) → Past7 file (a .ts) m
-accepted-past-7 a = record { past = of-accepted a; ranges = a .sound .ranges; few = a .sound .few }
+-- an accepted file passes 1 to 7 and 15; one that is refused with 8 or 9 does by the words of its refusal
+pub accepted-past-15 : {file : List ℕ} {m : Monitor} (a : Accepted file m) → Past15 file (a .ts) m
+accepted-past-15 a =
+    record {
+      past = record { past = of-accepted a; ranges = a .sound .ranges; few = a .sound .few };
+      valued = a .sound .valued;
+    }
 
 says : (file : List ℕ) (v : Verdict) → HasVerdict file v → check file ≡ v
 says file (accepted m) a = says-judged (of-accepted a) (sound (a .sound))
@@ -237,37 +249,51 @@ says file (refused a) r = refusal r
     refusal (wrong-name {k = k} p f) = says-6 k p f
     refusal (ill-ranged p t s) =
         says-judged p (judged.ill-ranged t) ∙ ap {B = Verdict} (λ j. refused (answer 7 j 0)) (one-place (var-at p t) s)
+    refusal (unvalued p f) = says-judged (p .past) (judged.unvalued (p .ranges) (p .few) f)
     refusal (start-not-kept {ts} {m} p f s) =
-        says-judged (p .past) (judged.start-not-kept (p .ranges) (p .few) f)
-        ∙ ap {B = Verdict} (λ j. refused (answer 8 j 0)) (one-place (keep-place ts m (spelt (p .past))) s)
-    refusal (broken p t b) = says-judged (p .past) (judged.broken (p .ranges) (p .few) t b)
+        let q = p .past in
+        says-judged (q .past) (judged.start-not-kept (q .ranges) (q .few) (p .valued) f)
+        ∙ ap {B = Verdict} (λ j. refused (answer 8 j 0)) (one-place (keep-place ts m (spelt (q .past))) s)
+    refusal (broken p t b) =
+        let q = p .past in says-judged (q .past) (judged.broken (q .ranges) (q .few) (p .valued) t b)
 
--- A file that the checks 1 to 7 pass is refused with none of these, and has one tree
+-- A file that the checks 1 to 7 and 15 pass is refused with 8 or 9, and has one tree
 
-pub past-7-late : {file : List ℕ} {ts : List Token} {m : Monitor} → Past7 file ts m → {a : Answer}
-    → check file ≡ refused a → 8 ≤ a .number
-past-7-late {ts = ts} {m = m} p {a} e = go (check-meaning-iff ts m _ .0 refl) (sym (after-6 (p .past)) ∙ e)
+pub past-15-late : {file : List ℕ} {ts : List Token} {m : Monitor} → Past15 file ts m → {a : Answer}
+    → check file ≡ refused a → (a .number ≡ 8) ⊎ (a .number ≡ 9)
+past-15-late {ts = ts} {m = m} p {a} e =
+    let q = p .past in
+    go (check-meaning-iff ts m (spelt (q .past)) _ .0 refl) (sym (after-6 (q .past)) ∙ e)
   where
-    go : {v : Verdict} → Judged ts m v → v ≡ refused a → 8 ≤ a .number
+    go : {v : Verdict} → Judged ts m v → v ≡ refused a → (a .number ≡ 8) ⊎ (a .number ≡ 9)
     go (sound s) h = different (cc)
     go (judged.ill-ranged t) h =
-        let none-is = ill-ranged-good (placesOf k-var ts) (p .ranges) (p .few) in
+        let none-is = ill-ranged-good (placesOf k-var ts) (p .past .ranges) (p .past .few) in
         let some-is = ill-ranged-first (placesOf k-var ts) t in
         different (cc)
-    go (judged.start-not-kept good few f) h = let n : a .number ≡ 8 = cc in omega arith
-    go (judged.broken good few t b) h = let n : a .number ≡ 9 = cc in omega arith
+    go (judged.unvalued {k} good few f) h =
+        let none-is = unvalued-none m good ts (spelt (p .past .past)) .1 (p .valued) in
+        let some-is = unvalued-first m good ts (spelt (p .past .past)) k .1 f in
+        different (cc)
+    go (judged.start-not-kept good few valued f) h = inl (cc)
+    go (judged.broken good few valued t b) h = inr (cc)
 
--- nor with 8, where the kept condition holds at the start values
-pub past-8-late : {file : List ℕ} {ts : List Token} {m : Monitor} → Past7 file ts m
-    → keptAt m (starts (all (m .vars))) ≡ true → {a : Answer} → check file ≡ refused a → 9 ≤ a .number
-past-8-late {ts = ts} {m = m} p on {a} e = go (check-meaning-iff ts m _ .0 refl) (sym (after-6 (p .past)) ∙ e)
+-- not with 8, where the kept condition holds at the start values
+pub past-8-late : {file : List ℕ} {ts : List Token} {m : Monitor} → Past15 file ts m
+    → keptAt m (starts (all (m .vars))) ≡ true → {a : Answer} → check file ≡ refused a → a .number ≡ 9
+past-8-late {ts = ts} {m = m} p on {a} e =
+    let q = p .past in
+    go (check-meaning-iff ts m (spelt (q .past)) _ .0 refl) (sym (after-6 (q .past)) ∙ e)
   where
-    go : {v : Verdict} → Judged ts m v → v ≡ refused a → 9 ≤ a .number
+    late : a .number ≡ 7 ⊎ (a .number ≡ 15) → a .number ≡ 9
+    late h = ⊎-elim (λ eight. absurd (⊎-elim (λ z. omega arith) (λ z. omega arith) h)) (λ nine. nine) (past-15-late p e)
+
+    go : {v : Verdict} → Judged ts m v → v ≡ refused a → a .number ≡ 9
     go (sound s) h = different (cc)
-    go (judged.ill-ranged {i} t) h =
-        let n : a .number ≡ 7 = cc in absurd (omega (arith, past-7-late p e))
-    go (judged.start-not-kept good few f) h = clash on f
-    go (judged.broken good few t b) h = let n : a .number ≡ 9 = cc in omega arith
+    go (judged.ill-ranged {i} t) h = late (inl (cc))
+    go (judged.unvalued good few f) h = late (inr (cc))
+    go (judged.start-not-kept good few valued f) h = clash on f
+    go (judged.broken good few valued t b) h = cc
 
 pub past-7-one : {file : List ℕ} {ts us : List Token} {m n : Monitor} → tokenize file ≡ tokens ts → spell m ≡ lexemes ts
     → Past7 file us n → (us ≡ ts) × (n ≡ m)
@@ -294,7 +320,7 @@ module _ (file : List ℕ) where
       name none e q = (
         checkMeaning ts m,
         of-judged (record { past = q; names = misnamed-none ts .0 e })
-            (check-meaning-iff ts m _ .0 refl),
+            (check-meaning-iff ts m (sym (q .past .grammar)) _ .0 refl),
       )
 
       limit : (o : Option ℕ) → pastLimit 0 0 0 0 ts ≡ o → Grounds

@@ -18,6 +18,7 @@ use Rattle.meaning.specs.Value.{intOf, less, truth}
 use Rattle.meaning.specs.State.{count, starts}
 use Rattle.meaning.specs.Runs.{State, BlockRuns, IsRegion}
 use Rattle.meaning.specs.Kept.{keptAt}
+use Rattle.meaning.specs.Valued.{Lacking}
 use Rattle.syntax.specs.Spelling.{Cover}
 
 -- 3, 5 and 6 name the first token that offends, by what stands before it
@@ -96,7 +97,7 @@ pub data GoodRanges : List Var → Type 0 where
   no-vars : GoodRanges []
   one-var : {v : Var} {vs : List Var} → GoodRange v → GoodRanges vs → GoodRanges (v ∷ vs)
 
--- 9: the body keeps the kept condition and every range from these values (R 5.4)
+-- 9: the body keeps the kept condition and every range from these values, and meets no missing value (R 5.4)
 unfoldable pub Keeps : Monitor → Region → List ℤ → Type 0
 Keeps m r as′ = (bs : List ℤ) × BlockRuns (all (m .vars)) (r .body) as′ bs × (keptAt m bs ≡ true)
 
@@ -106,10 +107,15 @@ pub record Meets (m : Monitor) (r : Region) (as′ : List ℤ) : Type 0 where
   pub kept : keptAt m as′ ≡ true
   pub guard : truth (r .guard) (all (m .vars)) as′ ≡ true
 
--- 7 to 9 do not arise (R 5.4, 5.7)
+-- 15, "one more limit in demand 2": no `mod` of keep, a try or a guard lacks a value in any state (R 5.7, 6.36)
+unfoldable pub NoneLacks : Monitor → Type 0
+NoneLacks m = (before : List Lexeme) → Lacking m before → ⊥
+
+-- 7, 15, 8 and 9 do not arise (R 5.4, 5.7)
 pub record Sound (m : Monitor) : Type 0 where
   pub ranges : GoodRanges (all (m .vars))
   pub few : count (all (m .vars)) ≤ mostStates
+  pub valued : NoneLacks m
   pub start : keptAt m (starts (all (m .vars))) ≡ true
   pub keeps : (k : ℕ) (r : Region) (as′ : List ℤ) → IsRegion m k r → Meets m r as′ → Keeps m r as′
 
@@ -125,5 +131,5 @@ pub record Accepted (file : List ℕ) (m : Monitor) : Type 0 where
   pub grammar : spell m ≡ lexemes ts
   pub counts : NoneOffends PastLimit ts
   pub names : NoneOffends Misnamed ts
-  -- not 7, 8, 9
+  -- not 7, 15, 8, 9
   pub sound : Sound m

@@ -35,7 +35,8 @@ module _ (m : Monitor) where
     pub guard : truth (r .guard) (all (m .vars)) as′ ≡ true
 
   -- the set will do: "each holds at the start values, and from each state where keep, the chosen ones and a region's
-  -- guard hold, and whose body stays in range, the chosen ones hold after it" (R 5.9, 5.10)
+  -- guard hold, and whose body stays in range, the chosen ones hold after it"; a body that lacks a value does not run
+  -- (R 5.9, 5.10)
   pub record WillDo (X : TrySet) : Type 0 where
     pub at-start : AllHold X (starts (all (m .vars)))
     pub after :
@@ -70,7 +71,7 @@ lasts p false-at-start = false
 lasts p (broken q k n) = leb p q
 
 -- while a set of tries stands, the body of region k breaks a try from state n: keep, the set and the guard hold there,
--- the body stays in range, and the try is false behind it (R 5.16)
+-- the body ends without a fault, and the try is false behind it (R 5.16)
 pub record Breaks (m : Monitor) (X : TrySet) (c : Cond) (k n : ℕ) : Type 0 where
   pub region : Region
   pub numbered : IsRegion m k region

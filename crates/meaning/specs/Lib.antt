@@ -1,6 +1,9 @@
 pub mod Value
 pub mod State
 pub mod Runs
+pub mod Faults
+pub mod Before
+pub mod Valued
 pub mod Bits
 pub mod Choice
 pub mod Kept

@@ -1,4 +1,4 @@
--- What a file has and where it stands among the file's bytes, of every file that the checks 1 to 7 pass: what the call
+-- What a file has and where it stands among the file's bytes, of every file that the checks 1 to 7 and 15 pass: what the call
 -- `outline` gives, in the order of the file. And a state by its number, and back: what `state_at` and `number_of` give.
 use Prim.Native.Nat.{ℕ, _+_}
 use mathlib.Core.Path.{_≡_}
@@ -10,11 +10,10 @@ use lib.IntN.{ℤ, pos, _-ℤ_}
 use lib.Dec.{ltb}
 use Rattle.syntax.specs.Token.{Lexeme, name, key, mark, lbrace, rbrace, lparen, rparen, semicolon, Token, lexemes}
 use Rattle.syntax.specs.Token.{k-monitor, k-var, k-keep, k-method, k-waituntil, k-try}
-use Rattle.syntax.specs.Tree.{Cond, Region, Method, Var, Monitor, all, each, spellCond, spellBlock, spellTry}
-use Rattle.syntax.specs.Tree.{spellRegion, spellMethod}
+use Rattle.syntax.specs.Tree.{Cond, Region, Method, Var, Monitor, all, spellCond, spellBlock}
 use Rattle.meaning.specs.Decide.Bodies.{outcome}
 use Rattle.meaning.specs.State.{stateAt, numberOf}
-use Rattle.meaning.specs.Refusal.{upTo}
+use Rattle.meaning.specs.Before.{upTo, upToTry, upToMethod, upToRegion}
 use Rattle.meaning.specs.Model.{vars, regions, region, guardOf, holds, kept}
 
 -- Where something stands
@@ -41,19 +40,6 @@ pub record Between (ts : List Token) (pre : List Lexeme) (opener : Lexeme) (size
   pub opens : TokenAt ts pre opener opened
   pub begins : from ≡ opened + size
   pub closes : TokenAt ts (pre ++ (opener ∷ part)) closer to
-
--- what stands before the first of some tries, before the first of some methods, and before the first of some regions of
--- a method (R 16.4)
-unfoldable pub upToTry : Monitor → List Cond → List Lexeme
-upToTry m before =
-    upTo m (all (m .vars)) ++ (key k-keep ∷ (spellCond (m .keep) ++ (mark semicolon ∷ each spellTry before)))
-
-unfoldable pub upToMethod : Monitor → List Method → List Lexeme
-upToMethod m before = upToTry m (m .tries) ++ each spellMethod before
-
-unfoldable pub upToRegion : Monitor → List Method → Method → List Region → List Lexeme
-upToRegion m methods x before =
-    upToMethod m methods ++ (key k-method ∷ name (x .title) ∷ mark lbrace ∷ each spellRegion before)
 
 module _ (ts : List Token) (m : Monitor) where
   -- the monitor's name (R 16.5), and the condition behind `keep`: what stands between `keep` and its semicolon (R 16.7)

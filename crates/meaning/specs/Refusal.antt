@@ -1,4 +1,4 @@
--- What each refusal of a file names (1 to 9), in words of "for every" and "there is".
+-- What each refusal of a file names (1 to 9 and 15), in words of "for every" and "there is".
 use Prim.Native.Nat.{ℕ, _*_, _≤_, _<_}
 use mathlib.Core.Path.{_≡_}
 use mathlib.Core.Bool.{true, false}
@@ -8,14 +8,16 @@ use lib.ListN.{length}
 use lib.IntN.{ℤ}
 use Rattle.syntax.specs.Limits.{mostBytes}
 use Rattle.machine.specs.Limits.{mostStates}
-use Rattle.syntax.specs.Token.{k-var, k-keep, Token, Lexeme, Keyword, lexemes, name, key, mark, lbrace, k-monitor}
-use Rattle.syntax.specs.Tree.{Region, Var, Monitor, all, spell, InGrammar, Viable, each, spellVar}
+use Rattle.syntax.specs.Token.{k-var, k-keep, Token, Lexeme, Keyword, lexemes, key}
+use Rattle.syntax.specs.Tree.{Region, Var, Monitor, all, spell, InGrammar, Viable}
 use Rattle.meaning.specs.State.{size, count, stateAt, numberOf, starts}
 use Rattle.meaning.specs.Kept.{keptAt}
 use Rattle.meaning.specs.Answer.{answer, Answer, Verdict, accepted, refused}
 use Rattle.meaning.specs.Accepted.{Accepted, GoodRange, GoodRanges, Keeps, Meets, NoneOffends}
 use Rattle.meaning.specs.Runs.{IsRegion}
-use Rattle.meaning.specs.Accepted.{FirstOffends, Crowded, PastLimit, Misnamed}
+use Rattle.meaning.specs.Accepted.{FirstOffends, Crowded, PastLimit, Misnamed, NoneLacks}
+use Rattle.meaning.specs.Valued.{Lacking}
+use Rattle.meaning.specs.Before.{upTo}
 use Rattle.syntax.specs.Spelling.{Cover, NoTokenAt}
 
 -- 4: "after which no file of the grammar can follow" (R 6.13)
@@ -33,10 +35,6 @@ pub record KeywordAt (ts : List Token) (pre : List Lexeme) (k : Keyword) (byte :
   pub passed : lexemes front ≡ pre
   pub keyword : token .lexeme ≡ key k
   pub place : token .at ≡ byte
-
--- what stands before the first of some variables, and before `keep`
-unfoldable pub upTo : Monitor → List Var → List Lexeme
-upTo m before = key k-monitor ∷ name (m .title) ∷ mark lbrace ∷ each spellVar before
 
 -- 7: variable i is the first with a bad range, "or which takes the product of range sizes above 4,096" (R 6.26, 6.30)
 pub record FirstIllRanged (vs : List Var) (i : ℕ) : Type 0 where
@@ -60,7 +58,11 @@ pub record FirstBroken (m : Monitor) (k n : ℕ) : Type 0 where
   pub lower-state : (as′ : List ℤ) → numberOf (all (m .vars)) as′ < n → Meets m region as′ → Keeps m region as′
   pub lower-region : (j : ℕ) (r : Region) (as′ : List ℤ) → j < k → IsRegion m j r → Meets m r as′ → Keeps m r as′
 
--- "Checks run in number order over the whole input": the checks up to a number pass (R 6.2)
+-- 15: behind some tokens stands a `mod` that lacks a value in some state (R 6.36)
+unfoldable pub Unvalued : Monitor → List Token → Token → Type 0
+Unvalued m before t = Lacking m (lexemes before)
+
+-- "Checks run in number order over the whole input", 15 "after 7 and before 8": the checks up to one pass (R 6.2)
 
 -- 1 and 2 pass (R 6.4, 6.5)
 pub record Past2 (file : List ℕ) (ts : List Token) : Type 0 where
@@ -93,6 +95,11 @@ pub record Past7 (file : List ℕ) (ts : List Token) (m : Monitor) : Type 0 wher
   pub ranges : GoodRanges (all (m .vars))
   pub few : count (all (m .vars)) ≤ mostStates
 
+-- 15 too (R 6.36)
+pub record Past15 (file : List ℕ) (ts : List Token) (m : Monitor) : Type 0 where
+  pub past : Past7 file ts m
+  pub valued : NoneLacks m
+
 -- The refusals of a file, a constructor for each line of the table (R 6.1, 6.2)
 pub data Refusal (file : List ℕ) : Answer → Type 0 where
   -- "file over 8,192 bytes" (R 6.4)
@@ -118,13 +125,16 @@ pub data Refusal (file : List ℕ) : Answer → Type 0 where
   ill-ranged :
       {ts : List Token} {m : Monitor} {i k : ℕ} → Past6 file ts m → (t : FirstIllRanged (all (m .vars)) i)
       → KeywordAt ts (upTo m (t .before)) k-var k → Refusal file (answer 7 k 0)
+  -- "the byte of the first `mod` in keep, a try or a guard that has no value in some state of the ranges" (R 6.36)
+  unvalued : {ts : List Token} {m : Monitor} {k : ℕ} → Past7 file ts m → FirstOffends (Unvalued m) ts k
+      → Refusal file (answer 15 k 0)
   -- "byte of `keep`": "the kept condition is false at the start values" (R 6.31)
   start-not-kept :
-      {ts : List Token} {m : Monitor} {k : ℕ} → Past7 file ts m → keptAt m (starts (all (m .vars))) ≡ false
+      {ts : List Token} {m : Monitor} {k : ℕ} → Past15 file ts m → keptAt m (starts (all (m .vars))) ≡ false
       → KeywordAt ts (upTo m (all (m .vars))) k-keep k → Refusal file (answer 8 k 0)
   -- "lowest region, then lowest state" (R 6.33)
   broken :
-      {ts : List Token} {m : Monitor} {k n : ℕ} → Past7 file ts m → keptAt m (starts (all (m .vars))) ≡ true
+      {ts : List Token} {m : Monitor} {k n : ℕ} → Past15 file ts m → keptAt m (starts (all (m .vars))) ≡ true
       → FirstBroken m k n → Refusal file (answer 9 k n)
 
 -- the verdict of a file, in words (R 6.1)

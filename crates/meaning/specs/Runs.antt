@@ -8,7 +8,7 @@ use lib.ListN.{getElem?}
 use lib.IntN.{ℤ}
 use Rattle.syntax.specs.Tree.{Expr, Cond, Block, end, then, Stmt, assign, if-then, if-else, Region, Var, Monitor, all}
 use Rattle.syntax.specs.Tree.{Method}
-use Rattle.meaning.specs.Value.{inRange, truth, exprValue}
+use Rattle.meaning.specs.Value.{inRange, exprValue, condValue}
 
 -- States: one value in its range for each variable (R 3.13)
 pub data State : List Var → List ℤ → Type 0 where
@@ -26,7 +26,7 @@ pub data Assigns : List Var → List ℤ → List ℕ → ℤ → List ℤ → T
       {v : Var} {vs : List Var} {a b : ℤ} {as′ bs : List ℤ} {x : List ℕ} → (v .title ≡ x → ⊥) → Assigns vs as′ x b bs
       → Assigns (v ∷ vs) (a ∷ as′) x b (a ∷ bs)
 
--- a body's run, in which each assignment stays in range as it is made
+-- a body's run, in which each assignment stays in range as it is made and nothing lacks a value (R 4.25)
 mutual
   -- (R 4.11, 4.18)
   pub data BlockRuns (vs : List Var) : Block → List ℤ → List ℤ → Type 0 where
@@ -37,16 +37,18 @@ mutual
 
   -- (R 4.12, 4.13, 4.16, 4.17)
   pub data StmtRuns (vs : List Var) : Stmt → List ℤ → List ℤ → Type 0 where
-    assigns : {x : List ℕ} {e : Expr} {as′ bs : List ℤ} → Assigns vs as′ x (exprValue vs as′ e) bs
+    assigns :
+        {x : List ℕ} {e : Expr} {as′ bs : List ℤ} {a : ℤ} → exprValue vs as′ e ≡ some a → Assigns vs as′ x a bs
         → StmtRuns vs (assign x e) as′ bs
-    if-true : {c : Cond} {b : Block} {as′ bs : List ℤ} → truth c vs as′ ≡ true → BlockRuns vs b as′ bs
+    if-true : {c : Cond} {b : Block} {as′ bs : List ℤ} → condValue c vs as′ ≡ some true → BlockRuns vs b as′ bs
         → StmtRuns vs (if-then c b) as′ bs
-    if-false : {c : Cond} {b : Block} {as′ : List ℤ} → truth c vs as′ ≡ false → StmtRuns vs (if-then c b) as′ as′
+    if-false : {c : Cond} {b : Block} {as′ : List ℤ} → condValue c vs as′ ≡ some false
+        → StmtRuns vs (if-then c b) as′ as′
     else-true :
-        {c : Cond} {a b : Block} {as′ bs : List ℤ} → truth c vs as′ ≡ true → BlockRuns vs a as′ bs
+        {c : Cond} {a b : Block} {as′ bs : List ℤ} → condValue c vs as′ ≡ some true → BlockRuns vs a as′ bs
         → StmtRuns vs (if-else c a b) as′ bs
     else-false :
-        {c : Cond} {a b : Block} {as′ bs : List ℤ} → truth c vs as′ ≡ false → BlockRuns vs b as′ bs
+        {c : Cond} {a b : Block} {as′ bs : List ℤ} → condValue c vs as′ ≡ some false → BlockRuns vs b as′ bs
         → StmtRuns vs (if-else c a b) as′ bs
 
 -- the regions of all methods, in file order (R 3.2)

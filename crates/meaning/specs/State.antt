@@ -38,6 +38,11 @@ unfoldable pub starts : List Var → List ℤ
 starts [] = []
 starts (v ∷ vs) = intOf (v .start) ∷ starts vs
 
+-- the lowest values (R 3.12)
+unfoldable pub lowest : List Var → List ℤ
+lowest [] = []
+lowest (v ∷ vs) = intOf (v .low) ∷ lowest vs
+
 -- the number of the state at the start values (R 3.15, 3.19)
 abbrev pub startNumber : List Var → ℕ
 startNumber vs = numberOf vs (starts vs)

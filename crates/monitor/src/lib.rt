@@ -13,7 +13,7 @@ ghost use Rattle.run.specs.Results.{Runs, machineOf};
 ghost use Rattle.meaning.specs.Points.{pointsOf};
 ghost use Rattle.calls.specs.Results.{Places, Points, PointsSay, Agrees, startOf, Starts};
 
-// The verdict of a file: 0, or a refusal from 1 to 9 with its places.
+// The verdict of a file: 0, or a refusal from 1 to 9, or 15, with its places.
 pub fn check(file: &[u8]) -> Answer
     ensures { λ r. ⌜ Is r (meaning.check (now (file .entry))) ⌝ }
 {

@@ -71,7 +71,7 @@ abbrev pub naming : Pass (Lexeme × List (List ℕ) × List (List ℕ))
 naming =
     record {
       find = λ s ts. misnamed (s .0) (s .1) (s .2) ts;
-      test = λ s l. wrongly (s .0) (s .1) (s .2) l;
+      test = λ s l ts. wrongly (s .0) (s .1) (s .2) l;
       next = λ s l. (l, added (isKey k-var (s .0)) l ++ s .1, added (isKey k-method (s .0)) l ++ s .2);
       nothing = λ s. misnamed-nothing (s .0) (s .1) (s .2);
       token = λ s t ts. misnamed-token (s .0) (s .1) (s .2) (t .at) (t .lexeme) ts;

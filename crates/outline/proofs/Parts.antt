@@ -10,78 +10,19 @@ use Rattle.syntax.specs.Token.{Keyword, k-monitor, k-var, k-keep, k-method, k-w
 use Rattle.syntax.specs.Decide.Lexeme.{markNumber}
 use Rattle.syntax.specs.Held.Kind.{kindOf, noKind, Words}
 use Rattle.syntax.specs.Tree.{Cond, Region, Method, Var, Monitor, all, each, spell, spellCond, spellBlock}
-use Rattle.syntax.specs.Tree.{spellRegion, spellMethod, spellVar, spellTry}
+use Rattle.syntax.specs.Tree.{spellRegion, spellMethod, spellVar}
 use Rattle.meaning.specs.Runs.{regionsOf}
-use Rattle.meaning.specs.Refusal.{upTo}
-use Rattle.meaning.specs.Outline.{upToTry, upToMethod, upToRegion, Between, TitleAt, KeepAt, TryAt, VariableAt}
+use Rattle.meaning.specs.Outline.{Between, TitleAt, KeepAt, TryAt, VariableAt}
 use Rattle.meaning.specs.Outline.{MethodAt, GuardAt, BodyAt}
-use Rattle.meaning.proofs.KeywordPlaces.{times, each-append, spell-from, up-to-var, up-to-keep}
+use Rattle.meaning.proofs.KeywordPlaces.{times, spell-from, up-to-var, up-to-keep}
 use Rattle.meaning.proofs.KeywordCounts.{try-number, method-number, regions-before, region-number}
 use Rattle.layout.proofs.Closes.{openBracket, shutBracket, openBrace, shutBrace, semicolonKind}
 use Rattle.layout.proofs.Trees.{brackets-balanced, braces-balanced, semicolons-balanced}
 use Rattle.outline.specs.Found.{nthOf}
 use Rattle.outline.specs.Slices.{nameIn, conditionIn, methodIn, regionIn, bracketAt, braceAt}
 use Rattle.outline.proofs.Stands.{name-at, between-at, keyword-at, name-behind, count-at, closes-at}
-
--- A file from a part on
-
-each-split : {A : Type 0} (f : A → List Lexeme) (as′ before : List A) (a : A) (after : List A) (us : List Lexeme)
-    → as′ ≡ before ++ (a ∷ after) → each f as′ ++ us ≡ each f before ++ (f a ++ (each f after ++ us))
-unfolding each
-each-split f as′ before a after us e = rw (e, each-append f before (a ∷ after)) (simp append-assoc)
-
--- what stands behind some methods
-abbrev behind : List Method → List Lexeme
-behind ms = each spellMethod ms ++ (mark rbrace ∷ [])
-
-from-keep : (m : Monitor)
-    → spell m ≡ upTo m (all (m .vars)) ++ (key k-keep ∷ (spellCond (m .keep)
-    ++ (mark semicolon ∷ (each spellTry (m .tries) ++ behind (all (m .methods))))))
-unfolding spell upTo
-from-keep m = refl
-
-from-try : (m : Monitor) (before : List Cond) (c : Cond) (after : List Cond) → m .tries ≡ before ++ (c ∷ after)
-    → spell m ≡ upToTry m before ++ (key k-try ∷ (spellCond c
-    ++ (mark semicolon ∷ (each spellTry after ++ behind (all (m .methods))))))
-unfolding spell upToTry upTo spellTry
-from-try m before c after e =
-    rw (each-split spellTry (m .tries) before c after (behind (all (m .methods))) e) (simp append-assoc)
-
-from-method : (m : Monitor) (before : List Method) (x : Method) (after : List Method)
-    → all (m .methods) ≡ before ++ (x ∷ after) → spell m ≡ upToMethod m before ++ (spellMethod x ++ behind after)
-unfolding spell upToMethod upToTry upTo
-from-method m before x after e =
-    rw (each-split spellMethod (all (m .methods)) before x after (mark rbrace ∷ []) e) (simp append-assoc)
-
-in-method : (x : Method) (before : List Region) (q : Region) (after : List Region) (us : List Lexeme)
-    → all (x .regions) ≡ before ++ (q ∷ after)
-    → spellMethod x ++ us ≡ key k-method ∷ name (x .title) ∷ mark lbrace ∷ (each spellRegion before
-    ++ (spellRegion q ++ (each spellRegion after ++ (mark rbrace ∷ us))))
-unfolding spellMethod
-in-method x before q after us e =
-    ap {B = List Lexeme} (λ ls. key k-method ∷ name (x .title) ∷ mark lbrace ∷ ls)
-    (append-assoc (each spellRegion (all (x .regions))) (mark rbrace ∷ []) us
-    ∙ each-split spellRegion (all (x .regions)) before q after (mark rbrace ∷ us) e)
-
-from-region : (m : Monitor) (methods : List Method) (x : Method) (later : List Method) (before : List Region)
-    (q : Region) (after : List Region) → all (m .methods) ≡ methods ++ (x ∷ later)
-    → all (x .regions) ≡ before ++ (q ∷ after)
-    → spell m ≡ upToRegion m methods x before
-    ++ (spellRegion q ++ (each spellRegion after ++ (mark rbrace ∷ behind later)))
-unfolding upToRegion
-from-region m methods x later before q after e f =
-    from-method m methods x later e
-    ∙ ap (λ (ls : List Lexeme). upToMethod m methods ++ ls) (in-method x before q after (behind later) f)
-    ∙ sym (append-assoc (upToMethod m methods)
-    (key k-method ∷ name (x .title) ∷ mark lbrace ∷ each spellRegion before)
-    (spellRegion q ++ (each spellRegion after ++ (mark rbrace ∷ behind later))))
-
--- a region's parts, with something behind
-region-parts : (q : Region) (us : List Lexeme)
-    → spellRegion q ++ us ≡ key k-waituntil ∷ mark lparen ∷ (spellCond (q .guard)
-    ++ (mark rparen ∷ mark lbrace ∷ (spellBlock (q .body) ++ (mark rbrace ∷ us))))
-unfolding spellRegion
-region-parts q us = simp append-assoc
+use Rattle.meaning.specs.Before.{upTo, upToTry, upToMethod, upToRegion}
+use Rattle.meaning.proofs.FromPart.{behind, from-keep, from-try, from-method, from-region, region-parts}
 
 -- Where the parts are
 

@@ -87,7 +87,7 @@ module _ (ts : List Token) (m : Monitor) where
     pub no-method : (k : ℕ) → length (all (m .methods)) ≤ k → getD (r .method) k noMethod ≡ noMethod
     pub no-region : (k : ℕ) → length (model.regions m) ≤ k → getD (r .region) k noRegion ≡ noRegion
 
--- of a file that is refused with 1 to 7: nothing (R 16.2)
+-- of a file that is refused otherwise than with 8 or 9: nothing (R 16.2)
 pub record NoOutline (r : Outline) : Type 0 where
   pub vars : r .vars ≡ 0
   pub tries : r .tries ≡ 0

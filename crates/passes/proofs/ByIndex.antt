@@ -117,16 +117,17 @@ neither false false c d e = (refl, refl)
 neither true b c d e = absurd (true≢false e)
 neither false true c d e = absurd (true≢false e)
 
--- A definition that carries a summary along the tokens and names the first that offends
+-- A definition that carries a summary along the tokens and names the first that offends, by a test that may look at the
+-- tokens behind
 
 pub record Pass (S : Type 0) : Type 0 where
   pub find : S → List Token → Option ℕ
-  pub test : S → Lexeme → Bool
+  pub test : S → Lexeme → List Token → Bool
   pub next : S → Lexeme → S
   pub nothing : (s : S) → find s [] ≡ none
   pub token : (s : S) (t : Token) (ts : List Token)
       → find s (t ∷ ts)
-      ≡ elim (test s (t .lexeme)) as (λ b. Option ℕ) [ true ↦ some (t .at) | false ↦ find (next s (t .lexeme)) ts ]
+      ≡ elim (test s (t .lexeme) ts) as (λ b. Option ℕ) [ true ↦ some (t .at) | false ↦ find (next s (t .lexeme)) ts ]
 
 -- Where a pass over the whole file is the pass over what is left, so it is behind one more token, and the answer is
 -- found at a token that offends or at the end
@@ -135,21 +136,21 @@ module _ {S : Type 0} (p : Pass S) {file : List ℕ} {ts : List Token} {kinds va
     (s₀ s : S) (i : ℕ) (so-far : p .find s₀ ts ≡ p .find s (drop i ts)) where
   step : i < length kinds
       → p .find s₀ ts
-      ≡ elim (p .test s (tokenAt ts i .lexeme)) as (λ b. Option ℕ)
+      ≡ elim (p .test s (tokenAt ts i .lexeme) (drop (i + 1) ts)) as (λ b. Option ℕ)
       [ true ↦ some (tokenAt ts i .at) | false ↦ p .find (p .next s (tokenAt ts i .lexeme)) (drop (i + 1) ts) ]
   step l = so-far ∙ ap (p .find s) (here h i l) ∙ p .token s (tokenAt ts i) (drop (i + 1) ts)
 
-  pub offends : i < length kinds → p .test s (tokenAt ts i .lexeme) ≡ true → At (getD places i 0)
+  pub offends : i < length kinds → p .test s (tokenAt ts i .lexeme) (drop (i + 1) ts) ≡ true → At (getD places i 0)
       ≡ foundOf (p .find s₀ ts)
   unfolding foundOf
   offends l e = rw (step l, e, place-at h i)
 
-  pub goes-on : i < length kinds → p .test s (tokenAt ts i .lexeme) ≡ false
+  pub goes-on : i < length kinds → p .test s (tokenAt ts i .lexeme) (drop (i + 1) ts) ≡ false
       → p .find s₀ ts ≡ p .find (p .next s (tokenAt ts i .lexeme)) (drop (i + 1) ts)
   goes-on l e = step l ∙ rw e
 
   -- no token that was passed offends, where none does
-  pub passed : i < length kinds → p .find s₀ ts ≡ none → p .test s (tokenAt ts i .lexeme) ≡ false
+  pub passed : i < length kinds → p .find s₀ ts ≡ none → p .test s (tokenAt ts i .lexeme) (drop (i + 1) ts) ≡ false
   passed l e = is-false (λ t. no-some {a = tokenAt ts i .at} (sym e ∙ step l ∙ rw t))
 
   pub ends : length kinds ≤ i → Nothing ≡ foundOf (p .find s₀ ts)
@@ -171,7 +172,7 @@ abbrev pub crowding : Pass (ℕ × ℕ × ℕ)
 crowding =
     record {
       find = λ s ts. crowded (s .0) (s .1) (s .2) ts;
-      test = λ s l. leb mostTokens (s .0) || (opens l && leb (s .2 + mostOpen) (s .1));
+      test = λ s l ts. leb mostTokens (s .0) || (opens l && leb (s .2 + mostOpen) (s .1));
       next = λ s l. (s .0 + 1, tally (opens l) (s .1), tally (closes l) (s .2));
       nothing = λ s. crowded-nothing (s .0) (s .1) (s .2);
       token = λ s t ts. crowded-token (s .0) (s .1) (s .2) t ts;
@@ -197,7 +198,7 @@ abbrev pub limiting : Pass (ℕ × ℕ × ℕ × ℕ)
 limiting =
     record {
       find = λ s ts. pastLimit (s .0) (s .1) (s .2) (s .3) ts;
-      test = λ s l. (isKey k-var l && leb mostVars (s .0)) || (isKey k-method l && leb mostMethods (s .1))
+      test = λ s l ts. (isKey k-var l && leb mostVars (s .0)) || (isKey k-method l && leb mostMethods (s .1))
           || (isKey k-waituntil l && leb mostRegions (s .2)) || (isKey k-try l && leb mostTries (s .3));
       next = λ s l. (
         tally (isKey k-var l) (s .0),

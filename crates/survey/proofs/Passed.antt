@@ -1,26 +1,26 @@
--- What was loaded of a file tells its states: a file that the checks 1 to 7 pass, or 1 to 8, has a verdict with no such
--- number, by which the calls test it.
-use Prim.Native.Nat.{ℕ, suc, _≤_}
+-- What was loaded of a file tells its states: a file that the checks 1 to 7 and 15 pass, or 8 too, has a verdict with one
+-- of few numbers, by which the calls test it.
+use Prim.Native.Nat.{ℕ, _≤_}
 use native.Mathlib.Omega.{arith}
 use mathlib.Core.Path.{_≡_, refl, sym, subst, ap, _∙_}
 use mathlib.Core.Bool.{true, false, _||_}
 use mathlib.Core.Logic.{⊎-elim}
 use mathlib.Core.List.{List}
 use lib.ListN.{length}
-use lib.Dec.{eqb, leb}
+use lib.Dec.{eqb}
 use Rattle.syntax.specs.Token.{Lexeme, Token, lexemes}
 use Rattle.syntax.specs.Tree.{Var, Monitor, all, spell}
 use Rattle.syntax.specs.Held.Kind.{Words}
 use Rattle.syntax.specs.Decide.Scan.{tokens}
 use Rattle.syntax.proofs.Scanning.{tokenize-tokens}
-use Rattle.logic.proofs.Bools.{either, neither, clash, decides-leb, decides-eqb}
+use Rattle.logic.proofs.Bools.{clash}
 use Rattle.meaning.specs.State.{starts}
 use Rattle.meaning.specs.Kept.{keptAt}
 use Rattle.meaning.specs.Answer.{Verdict, answer, accepted, refused}
-use Rattle.meaning.specs.Refusal.{Past7}
+use Rattle.meaning.specs.Refusal.{Past15}
 use Rattle.meaning.specs.Decide.Check.{check}
 use Rattle.meaning.specs.Model.{vars}
-use Rattle.meaning.proofs.Verdicts.{past-7-late, past-8-late}
+use Rattle.meaning.proofs.Verdicts.{past-15-late, past-8-late}
 use Rattle.meaning.proofs.Sizes.{sizes-of}
 use Rattle.variables.specs.Bounded.{Bounded}
 use Rattle.layout.specs.Laid.{Laid}
@@ -34,41 +34,30 @@ use Rattle.lookup.specs.declared.State.{State}
 use Rattle.lookup.specs.declared.Numbered.{Numbered}
 use Rattle.choice.specs.Slots.{slotOf}
 use Rattle.survey.specs.declared.Fates.{Fates}
-use Rattle.survey.specs.Told.{fateSlot, NoFates, FatesTold}
+use Rattle.survey.specs.Told.{past15, past8, fateSlot, NoFates, FatesTold}
 use Rattle.survey.specs.Told.{OutlineTold, StateTold, NumberTold}
 use Rattle.answers.specs.Says.{Is, answerOf}
 use Rattle.answers.specs.declared.Answer as code
 
--- a number passes the test, or is one from 1 up to below the bound
-pub passes : (n k : ℕ) → eqb n 0 || leb (suc k) n ≡ true → 1 ≤ n → n ≤ k → ⊥
-passes n k h low high =
-    ⊎-elim (λ z. let e = decides-eqb n 0 .0 z in omega arith) (λ l. let e = decides-leb (suc k) n .0 l in omega arith)
-    (either (eqb n 0) (leb (suc k) n) h)
-
-pub stops : (n k : ℕ) → eqb n 0 || leb (suc k) n ≡ false → (1 ≤ n) × (n ≤ k)
-stops n k h =
-    let (z, l) = neither (eqb n 0) (leb (suc k) n) h in
-    let some-n : (n ≡ 0 → ⊥) = λ e. clash (decides-eqb n 0 .1 e) z in
-    let small : (suc k ≤ n → ⊥) = λ e. clash (decides-leb (suc k) n .1 e) l in
-    (omega arith, omega arith)
-
+-- the number of an answer to a file that passes the checks
 module _ {file : List ℕ} (r : code.Answer) (is : Is r (check file)) {ts : List Token} {m : Monitor}
-    (p : Past7 file ts m) where
-  past-7 : 1 ≤ r .number → r .number ≤ 7 → ⊥
-  unfolding Is answerOf
-  past-7 low high = go (check file) refl is
+    (p : Past15 file ts m) where
+  pub told-15 : past15 (r .number) ≡ true
+  unfolding Is answerOf past15
+  told-15 = go (check file) refl is
     where
-      go : (v : Verdict) → check file ≡ v → Is r v → ⊥
-      go (accepted n) e s = omega (arith, s .number)
-      go (refused a) e s = omega (arith, s .number, past-7-late p e)
+      go : (v : Verdict) → check file ≡ v → Is r v → eqb (r .number) 0 || eqb (r .number) 8 || eqb (r .number) 9 ≡ true
+      go (accepted n) e s = rw (s .number)
+      go (refused a) e s =
+          ⊎-elim (λ (h : a .number ≡ 8). rw (s .number, h)) (λ (h : a .number ≡ 9). rw (s .number, h)) (past-15-late p e)
 
-  past-8 : keptAt m (starts (vars m)) ≡ true → 1 ≤ r .number → r .number ≤ 8 → ⊥
-  unfolding Is answerOf
-  past-8 on low high = go (check file) refl is
+  pub told-8 : keptAt m (starts (vars m)) ≡ true → past8 (r .number) ≡ true
+  unfolding Is answerOf past8
+  told-8 on = go (check file) refl is
     where
-      go : (v : Verdict) → check file ≡ v → Is r v → ⊥
-      go (accepted n) e s = omega (arith, s .number)
-      go (refused a) e s = omega (arith, s .number, past-8-late p on e)
+      go : (v : Verdict) → check file ≡ v → Is r v → eqb (r .number) 0 || eqb (r .number) 9 ≡ true
+      go (accepted n) e s = rw (s .number)
+      go (refused a) e s = rw (s .number, past-8-late p on e)
 
 -- What was loaded of a file, and a result that has the verdict of it
 
@@ -77,16 +66,15 @@ module _ {file : List ℕ} {l : Loaded} {kept holds after : List ℕ} (loads : L
   same-verdict e = subst (λ (a : code.Answer). Is a (check file)) (sym e) (loads .verdict)
 
   module _ (n : ℕ) (r : State) (e : r .answer ≡ l .answer) where
-    pub state-untold : eqb (l .answer .number) 0 || leb 9 (l .answer .number) ≡ false → NoState r → StateTold file n r
+    pub state-untold : past8 (l .answer .number) ≡ false → NoState r → StateTold file n r
     state-untold low none =
-        let (a, b) = stops (l .answer .number) 8 low in
         record {
           verdict = same-verdict e;
-          told = λ ts m p on. absurd (past-8 (l .answer) (loads .verdict) p on a b);
-          untold = λ _ _. none;
+          told = λ ts m p on. clash (told-8 (l .answer) (loads .verdict) p on) low;
+          untold = λ _. none;
         }
 
-    pub state-told : eqb (l .answer .number) 0 || leb 9 (l .answer .number) ≡ true
+    pub state-told : past8 (l .answer .number) ≡ true
         → ((m : Monitor) → Looked m (l .bounds) (l .layout) kept holds after → StateIs m n r) → StateTold file n r
     unfolding GuardNumbers
     state-told high is =
@@ -95,7 +83,7 @@ module _ {file : List ℕ} {l : Loaded} {kept holds after : List ℕ} (loads : L
           told = λ ts m p on.
               let (bounded, laid) = loads .outlined ts m p in
               let rows = loads .rows ts m p on .0 in
-              let few = sizes-of ts m (p .past .past .past .grammar) (p .past .past .counts) .regions in
+              let few = sizes-of ts m (p .past .past .past .past .grammar) (p .past .past .past .counts) .regions in
               is m (record {
                 bounded = bounded;
                 region-count = laid .region-count;
@@ -106,34 +94,28 @@ module _ {file : List ℕ} {l : Loaded} {kept holds after : List ℕ} (loads : L
                 by-holds = rows .by-holds;
                 outcomes = rows .outcomes;
               });
-          untold = λ a b. absurd (passes (l .answer .number) 8 high
-              (omega (arith, ap (λ (x : code.Answer). x .number) e))
-              (omega (arith, ap (λ (x : code.Answer). x .number) e)));
+          untold = λ low. clash high (ap (λ (x : code.Answer). past8 (x .number)) (sym e) ∙ low);
         }
       where
         numbers : (m : Monitor) {ls : List Lexeme} → Laid m ls (l .layout) → GuardNumbers m (l .layout .«guard_of»)
         numbers m laid = laid .guard-numbers
 
   -- a refusal of the file, by its number
-  pub refused-as : {n k : ℕ} → check file ≡ refused (answer (suc n) k 0) → n ≤ 6
-      → (1 ≤ l .answer .number) × (l .answer .number ≤ 7)
+  pub refused-as : {n k : ℕ} → check file ≡ refused (answer n k 0) → past15 n ≡ false → past15 (l .answer .number) ≡ false
   unfolding Is answerOf
   refused-as {n} {k} h low =
-      let s : l .answer .number ≡ suc n = rw h at (loads .verdict) .number in (omega arith, omega arith)
+      let s : l .answer .number ≡ n = rw h at (loads .verdict) .number in ap past15 s ∙ low
 
   module _ (r : Outline) (e : r .answer ≡ l .answer) where
-    number-is : r .answer .number ≡ l .answer .number
-    number-is = ap (λ (x : code.Answer). x .number) e
-
-    pub outline-untold : (1 ≤ l .answer .number) × (l .answer .number ≤ 7) → NoOutline r → OutlineTold file r
-    outline-untold (a, b) none =
+    pub outline-untold : past15 (l .answer .number) ≡ false → NoOutline r → OutlineTold file r
+    outline-untold low none =
         record {
           verdict = same-verdict e;
-          told = λ ts m p. absurd (past-7 (l .answer) (loads .verdict) p a b);
-          untold = λ _ _. none;
+          told = λ ts m p. clash (told-15 (l .answer) (loads .verdict) p) low;
+          untold = λ _. none;
         }
 
-    pub outline-told : eqb (l .answer .number) 0 || leb 8 (l .answer .number) ≡ true
+    pub outline-told : past15 (l .answer .number) ≡ true
         → {ts : List Token} {kinds values places : List ℕ} → Words file ts kinds values places
         → ((f : List ℕ) (us : List Token) (m : Monitor) → Words f us kinds values places → spell m ≡ lexemes us
         → length (m .tries) ≤ 16 → length (all (m .methods)) ≤ 8 → Bounded (vars m) (l .bounds) → Laid m (lexemes us) (l .layout)
@@ -142,53 +124,49 @@ module _ {file : List ℕ} {l : Loaded} {kept holds after : List ℕ} (loads : L
         record {
           verdict = same-verdict e;
           told = λ us m p.
-              let q = p .past .past .past in
+              let q = p .past .past .past .past in
               let (bounded, laid) = loads .outlined us m p in
               let cut = tokenize-tokens file us .1 (q .past .past .cut) in
               let same : ts ≡ us = tokens-same (sym (w .cut) ∙ cut) in
               is file us m (subst (λ (x : List Token). Words file x kinds values places) same w) (q .grammar)
-              (sizes-of us m (q .grammar) (p .past .past .counts) .tries)
-              (sizes-of us m (q .grammar) (p .past .past .counts) .methods) bounded laid;
-          untold = λ a b. absurd (passes (l .answer .number) 7 high (omega (arith, number-is)) (omega (arith, number-is)));
+              (sizes-of us m (q .grammar) (p .past .past .past .counts) .tries)
+              (sizes-of us m (q .grammar) (p .past .past .past .counts) .methods) bounded laid;
+          untold = λ low. clash high (ap (λ (x : code.Answer). past15 (x .number)) (sym e) ∙ low);
         }
       where
         tokens-same : {a b : List Token} → tokens a ≡ tokens b → a ≡ b
         tokens-same h = cc
 
   module _ (values : List ℕ) (r : Numbered) (e : r .answer ≡ l .answer) where
-    pub number-untold : eqb (l .answer .number) 0 || leb 8 (l .answer .number) ≡ false → NoNumber r
+    pub number-untold : past15 (l .answer .number) ≡ false → NoNumber r
         → NumberTold file values r
     number-untold low none =
-        let (a, b) = stops (l .answer .number) 7 low in
         record {
           verdict = same-verdict e;
-          told = λ ts m p. absurd (past-7 (l .answer) (loads .verdict) p a b);
-          untold = λ _ _. none;
+          told = λ ts m p. clash (told-15 (l .answer) (loads .verdict) p) low;
+          untold = λ _. none;
         }
 
-    pub number-told : eqb (l .answer .number) 0 || leb 8 (l .answer .number) ≡ true
+    pub number-told : past15 (l .answer .number) ≡ true
         → ((vs : List Var) → Bounded vs (l .bounds) → NumberIs vs values r) → NumberTold file values r
     number-told high is =
         record {
           verdict = same-verdict e;
           told = λ ts m p. is (vars m) (loads .outlined ts m p .0);
-          untold = λ a b. absurd (passes (l .answer .number) 7 high
-              (omega (arith, ap (λ (x : code.Answer). x .number) e))
-              (omega (arith, ap (λ (x : code.Answer). x .number) e)));
+          untold = λ low. clash high (ap (λ (x : code.Answer). past15 (x .number)) (sym e) ∙ low);
         }
 
   module _ (r : Fates) (e : r .answer ≡ l .answer) where
-    pub fates-untold : eqb (l .answer .number) 0 || leb 9 (l .answer .number) ≡ false → NoFates r → FatesTold file r
+    pub fates-untold : past8 (l .answer .number) ≡ false → NoFates r → FatesTold file r
     fates-untold low none =
-        let (a, b) = stops (l .answer .number) 8 low in
         record {
           verdict = same-verdict e;
-          told = λ ts m p on. absurd (past-8 (l .answer) (loads .verdict) p on a b);
-          untold = λ _ _. none;
+          told = λ ts m p on. clash (told-8 (l .answer) (loads .verdict) p on) low;
+          untold = λ _. none;
         }
 
     -- the fields are those of the choice
-    pub fates-told : eqb (l .answer .number) 0 || leb 9 (l .answer .number) ≡ true → r .known ≡ true
+    pub fates-told : past8 (l .answer .number) ≡ true → r .known ≡ true
         → r .tries ≡ l .tries → r .chosen ≡ l .choice .chosen
         → ((i : ℕ) → fateSlot r i ≡ slotOf (l .choice) i) → FatesTold file r
     fates-told high known tries chosen slots =
@@ -202,7 +180,5 @@ module _ {file : List ℕ} {l : Loaded} {kept holds after : List ℕ} (loads : L
                 chosen = chosen ∙ c .choice .bits;
                 each-fate = λ i low. slots i ∙ c .choice .slots i low;
               };
-          untold = λ a b. absurd (passes (l .answer .number) 8 high
-              (omega (arith, ap (λ (x : code.Answer). x .number) e))
-              (omega (arith, ap (λ (x : code.Answer). x .number) e)));
+          untold = λ low. clash high (ap (λ (x : code.Answer). past8 (x .number)) (sym e) ∙ low);
         }

@@ -7,12 +7,10 @@ use lookup::State;
 use outline::Outline;
 use tokens::Scanned;
 ghost use mathlib.Core.Path.{_≡_};
-ghost use mathlib.Core.Bool.{_||_};
-ghost use lib.Dec.{eqb, leb};
 ghost use mathlib.Core.List.{List};
 ghost use Prim.Native.Nat.{ℕ};
 ghost use Rattle.loader.specs.Loading.{Loads};
-ghost use Rattle.survey.specs.Told.{OutlineTold, StateTold, NumberTold, FatesTold};
+ghost use Rattle.survey.specs.Told.{past15, past8, OutlineTold, StateTold, NumberTold, FatesTold};
 
 // The verdict of a file, and what becomes of its tries: whether it is told, how many there are, the chosen ones as bits,
 // and of each that a body breaks the pass, from 1, and the region and the state that break it.
@@ -27,17 +25,18 @@ pub struct Fates {
     pub states: [u16; syntax::TRIES],
 }
 
-// Do the answers up to 8 pass, by the number of a file's verdict; those up to 7?
+// Are states and fates told beside a number, by which all but 9 passes; are an outline and numbers, by which all but 8
+// and 9 passes?
 fn past_8(number: u8) -> bool
-    ensures { λ r. ⌜ r ≡ eqb number 0 || leb 9 number ⌝ }
+    ensures { λ r. ⌜ r ≡ past8 number ⌝ }
 {
-    (number == 0) | (9 <= number)
+    (number == 0) | (number == 9)
 }
 
-fn past_7(number: u8) -> bool
-    ensures { λ r. ⌜ r ≡ eqb number 0 || leb 8 number ⌝ }
+fn past_15(number: u8) -> bool
+    ensures { λ r. ⌜ r ≡ past15 number ⌝ }
 {
-    (number == 0) | (8 <= number)
+    (number == 0) | (number == 8) | (number == 9)
 }
 
 // The outline of what was loaded of a file, whose tokens are cut anew.
@@ -46,7 +45,7 @@ fn outline_loaded(file: &[u8], loaded: Loaded) -> Outline
         → OutlineTold (now (file .entry)) r) ⌝ }
 {
     let verdict = loaded.answer;
-    if !past_7(verdict.number) {
+    if !past_15(verdict.number) {
         return outline::no_outline(verdict);
     }
     let bounds = loaded.bounds;
@@ -68,7 +67,7 @@ fn outline_loaded(file: &[u8], loaded: Loaded) -> Outline
     }
 }
 
-// What a file has and where it stands among its bytes, of a file that the checks 1 to 7 pass.
+// What a file has and where it stands among its bytes, of a file that the checks 1 to 7 and 15 pass.
 pub fn outline(file: &[u8]) -> Outline
     ensures { λ r. ⌜ OutlineTold (now (file .entry)) r ⌝ }
 {
@@ -96,7 +95,7 @@ pub fn state_at(file: &[u8], number: usize) -> State
     lookup::state_of(bounds, layout, verdict, &kept, &holds, &after, number)
 }
 
-// The number of the state with some values, each with 128 added, of a file that the checks 1 to 7 pass.
+// The number of the state with some values, each with 128 added, of a file that the checks 1 to 7 and 15 pass.
 pub fn number_of(file: &[u8], values: [u16; syntax::VARIABLES]) -> Numbered
     ensures { λ r. ⌜ NumberTold (now (file .entry)) values r ⌝ }
 {
@@ -105,7 +104,7 @@ pub fn number_of(file: &[u8], values: [u16; syntax::VARIABLES]) -> Numbered
     let mut after = [0u16; machine::AFTER];
     let loaded = loader::load(file, &mut kept, &mut holds, &mut after);
     let verdict = loaded.answer;
-    if !past_7(verdict.number) {
+    if !past_15(verdict.number) {
         return lookup::no_number(verdict);
     }
     let bounds = loaded.bounds;

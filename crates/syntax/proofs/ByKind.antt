@@ -52,6 +52,7 @@ keyword-few token.k-else = lit< tt
 keyword-few token.k-true = lit< tt
 keyword-few token.k-false = lit< tt
 keyword-few token.k-try = lit< tt
+keyword-few token.k-mod = lit< tt
 
 pub kind-below : (l : Lexeme) → kindOf l < kindsEnd
 unfolding kindOf
@@ -117,6 +118,13 @@ is-name (name x) e = (x, refl)
 is-name (key k) e = absurd (omega arith)
 is-name (number n) e = absurd (omega arith)
 is-name (mark m) e = absurd (omega arith)
+
+pub is-number : (l : Lexeme) → kindOf l ≡ numberKind → (n : ℕ) × (l ≡ number n)
+unfolding kindOf
+is-number (name x) e = absurd (omega arith)
+is-number (key k) e = absurd (omega arith)
+is-number (number n) e = (n, refl)
+is-number (mark m) e = absurd (omega arith)
 
 pub is-mark : (m : Mark) (l : Lexeme) → kindOf l ≡ kindOf (mark m) → l ≡ mark m
 is-mark m l e = decides-mark m l .0 (kind-mark m l ∙ eq-eqb (kindOf l) (kindOf (mark m)) e)

@@ -5,7 +5,7 @@ use Prim.Native.Nat.{ℕ, zero, suc, _+_, _*_, _-_, _≤_}
 use native.Mathlib.Nat.{zero-add, suc-add}
 use native.Mathlib.Omega.{arith}
 use mathlib.Core.Path.{_≡_, refl, sym, subst, ap, _∙_}
-use mathlib.Core.Bool.{Bool, true, false, false≢true}
+use mathlib.Core.Bool.{Bool, true, false, _||_, false≢true}
 use mathlib.Core.Logic.{inl, inr, _↔_}
 use mathlib.Core.Option.{Option, none, some}
 use mathlib.Core.List.{List, [], _∷_, _++_, append-nil, append-assoc, append-cancel-right}
@@ -14,24 +14,28 @@ use borrow.Author.Tests.{eqb-true, eq-eqb}
 use Rattle.syntax.specs.Token.{Lexeme, name, key, number, mark, Mark, Keyword, lbrace, rbrace, lparen, rparen}
 use Rattle.syntax.specs.Token.{semicolon, equals, dots, becomes, same, differs, below, at-most, above, at-least}
 use Rattle.syntax.specs.Token.{plus, minus, bang, and-and, or-or, k-monitor, k-var, k-in, k-keep, k-method}
-use Rattle.syntax.specs.Token.{k-waituntil, k-if, k-else, k-true, k-false, k-try}
+use Rattle.syntax.specs.Token.{k-waituntil, k-if, k-else, k-true, k-false, k-try, k-mod}
 use Rattle.syntax.specs.Bytes.{bytes}
 use Rattle.syntax.specs.Spelling.{AllSpellable}
 use Rattle.syntax.specs.Decide.Lexeme.{isMark, isKey, isName, markNumber}
 use Rattle.syntax.specs.Decide.Lexeme.{keywordNumber}
-use Rattle.syntax.specs.Tree.{Int, plain, negated, Atom, literal, variable, Sign, added, taken, Term, Expr}
+use Rattle.syntax.specs.Tree.{Int, plain, negated, Atom, literal, variable, Sign, added, taken, Term, alone}
+use Rattle.syntax.specs.Tree.{remainder, Signed, Expr}
 use Rattle.syntax.specs.Tree.{Comparison, eq, ne, lt, le, gt, ge, Cond, only, or, Conj, just, and, Simple}
 use Rattle.syntax.specs.Tree.{negation, bracketed, constant, compare, Block, end, then, Stmt, assign, if-then}
-use Rattle.syntax.specs.Tree.{if-else, Monitor, spellInt, spellAtom, signMark, spellTerm, each, spellExpr}
+use Rattle.syntax.specs.Tree.{if-else, Monitor, spellInt, spellAtom, signMark, spellTerm, spellSigned, each}
+use Rattle.syntax.specs.Tree.{spellExpr}
 use Rattle.syntax.specs.Tree.{comparisonMark, spellConstant, spellCond, spellConj, spellSimple, spellBlock}
 use Rattle.syntax.specs.Tree.{spellStmt, spellRegion, spellMethod, spellVar, spellTry, spell, InGrammar, Viable}
 use Rattle.syntax.specs.Decide.Reading.{Got, got, stuck, Reader, onwards, _>>=_, give, begins, readName}
-use Rattle.syntax.specs.Decide.Reading.{readNumber, readInt, readAtom, readSign, readTerm, isSign, readExpr}
+use Rattle.syntax.specs.Decide.Reading.{readNumber, readInt, readAtom, readSign, readTerm, readSigned, isSign}
+use Rattle.syntax.specs.Decide.Reading.{readExpr}
 use Rattle.syntax.specs.Decide.Reading.{readComparison, readCond, readConj, readSimple, readBlock, readStmt}
 use Rattle.syntax.specs.Decide.Reading.{readRegion, readMethod, readVar, readTry, atEnd, readMonitor, read}
 use Rattle.syntax.proofs.Phrase.{Follow, of, Phrase, Accepts, front, said, vacuous, spelled, gives, chains}
 use Rattle.syntax.proofs.Phrase.{chooses, ones, skips, picks, picks₁, meets, thens, turns, manys, somes, every}
-use Rattle.syntax.proofs.Phrase.{pairs, cases, exact, clear}
+use Rattle.syntax.proofs.Phrase.{pairs, cases, exact, clear, followed, follows, manys-before}
+use Rattle.logic.proofs.Bools.{neither}
 use Rattle.syntax.proofs.Spellable.{key-spellable, mark-spellable, name-spellable, number-spellable}
 use Rattle.syntax.proofs.Spellable.{both-spellable, front-spellable}
 
@@ -68,7 +72,8 @@ mark-at m = elim m [
 ]
 
 abbrev allKeys : List Keyword
-allKeys = k-monitor ∷ k-var ∷ k-in ∷ k-keep ∷ k-method ∷ k-waituntil ∷ k-if ∷ k-else ∷ k-true ∷ k-false ∷ k-try ∷ []
+allKeys = k-monitor ∷ k-var ∷ k-in ∷ k-keep ∷ k-method ∷ k-waituntil ∷ k-if ∷ k-else ∷ k-true ∷ k-false ∷ k-try
+    ∷ k-mod ∷ []
 
 key-at : (k : Keyword) → getD allKeys (keywordNumber k) k-monitor ≡ k
 unfolding keywordNumber
@@ -84,6 +89,7 @@ key-at k = elim k [
   | k-true ↦ refl
   | k-false ↦ refl
   | k-try ↦ refl
+  | k-mod ↦ refl
 ]
 
 the-mark : (m : Mark) → Accepts (isMark m) (mark m)
@@ -167,29 +173,58 @@ signs = spelled
     (cases exact exact)
     (λ a. elim a [ added ↦ (inl tt, refl) | taken ↦ (inr tt, refl) ])
 
-terms : {F : Follow} {n : ℕ} → Phrase (of spellTerm) F n readTerm readTerm
+-- behind an atom a `mod` goes on with the term, so none may follow it
+abbrev no-mod : Follow
+no-mod us = begins (isKey k-mod) us ≡ false
+
+terms : {n : ℕ} → Phrase (of spellTerm) no-mod n readTerm readTerm
 unfolding readTerm spellTerm
 terms = spelled
-    (thens signs (λ s. turns (λ (a : Atom). record { sign = s; atom = a }) atoms))
-    exact (λ t. ((t .sign, t .atom), refl))
+    (thens atoms (λ a. picks (the-key k-mod) (turns (remainder a) atoms) (gives (alone a)) (every λ _ us g. g)))
+    (pairs λ a. cases exact (every λ _. append-nil (spellAtom a)))
+    (λ t. elim t [ alone a ↦ ((a, inr tt), refl) | remainder a b ↦ ((a, inl b), refl) ])
 
-abbrev no-sign : Follow
-no-sign us = begins isSign us ≡ false
+signed : {n : ℕ} → Phrase (of spellSigned) no-mod n readSigned readSigned
+unfolding readSigned spellSigned
+signed = spelled
+    (thens signs (λ s. turns (λ (t : Term). record { sign = s; term = t }) terms))
+    exact (λ t. ((t .sign, t .term), refl))
 
-term-front : (t : Term) (us : List Lexeme) → begins isSign (spellTerm t ++ us) ≡ true
-unfolding begins spellTerm isSign isMark signMark markNumber
-term-front t us = go (t .sign)
+signed-front : (t : Signed) (us : List Lexeme) → begins isSign (spellSigned t ++ us) ≡ true
+unfolding begins spellSigned isSign isMark signMark markNumber
+signed-front t us = go (t .sign)
   where
     go : (s : Sign) → isSign (mark (signMark s)) ≡ true
     go added = refl
     go taken = refl
 
-exprs : (k n : ℕ) → n ≤ k → Phrase (of spellExpr) no-sign n (readExpr k) (readExpr (suc k))
+-- what goes on with an expression: a sign, or `mod`
+goesOn : Lexeme → Bool
+goesOn l = isSign l || isKey k-mod l
+
+abbrev no-more : Follow
+no-more us = begins goesOn us ≡ false
+
+neither-follows : (us : List Lexeme) → no-more us → (begins isSign us ≡ false) × no-mod us
+unfolding begins goesOn
+neither-follows [] h = (refl, refl)
+neither-follows (l ∷ us) h = neither (isSign l) (isKey k-mod l) h
+
+sign-no-mod : (us : List Lexeme) → begins isSign us ≡ true → no-mod us
+unfolding begins isSign isMark isKey
+sign-no-mod [] e = refl
+sign-no-mod (name x ∷ us) e = refl
+sign-no-mod (key k ∷ us) e = absurd (false≢true e)
+sign-no-mod (number n ∷ us) e = refl
+sign-no-mod (mark m ∷ us) e = refl
+
+exprs : (k n : ℕ) → n ≤ k → Phrase (of spellExpr) no-more n (readExpr k) (readExpr (suc k))
 unfolding readExpr spellExpr
-exprs k n h = spelled
-    (thens atoms (λ a. turns (λ (ts : List Term). record { first = a; more = ts })
-    (manys spellTerm isSign term-front k n h terms)))
-    exact (λ e. ((e .first, e .more), refl))
+exprs k n h = followed neither-follows (spelled
+    (meets terms (λ t. turns (λ (ts : List Signed). record { first = t; more = ts })
+    (manys-before spellSigned isSign signed-front sign-no-mod k n h signed))
+    (λ _ ts us g. follows spellSigned isSign signed-front sign-no-mod ts us (g .1)))
+    exact (λ e. ((e .first, e .more), refl)))
 
 comparisons : {F : Follow} {n : ℕ} → Phrase (of (λ o. mark (comparisonMark o) ∷ [])) F n readComparison readComparison
 unfolding readComparison comparisonMark begins isMark markNumber
@@ -208,28 +243,32 @@ comparisons = spelled
       | ge ↦ (inr (inr (inr (inr (inr tt)))), refl)
     ])
 
-comparison-no-sign : (o : Comparison) → isSign (mark (comparisonMark o)) ≡ false
-unfolding isSign isMark comparisonMark markNumber
-comparison-no-sign o = elim o [ eq ↦ refl | ne ↦ refl | lt ↦ refl | le ↦ refl | gt ↦ refl | ge ↦ refl ]
+comparison-no-more : (o : Comparison) → goesOn (mark (comparisonMark o)) ≡ false
+unfolding goesOn isSign isMark isKey comparisonMark markNumber
+comparison-no-more o = elim o [ eq ↦ refl | ne ↦ refl | lt ↦ refl | le ↦ refl | gt ↦ refl | ge ↦ refl ]
 
 -- an expression begins with a name, a number or a minus
 expr-front : (t : Lexeme → Bool) → ((x : List ℕ) → t (name x) ≡ false) → ((n : ℕ) → t (number n) ≡ false)
     → t (mark minus) ≡ false
     → (e : Expr) (v us : List Lexeme) → begins t (spellExpr e ++ v ++ us) ≡ false
-unfolding spellExpr begins spellAtom
-expr-front t nam num neg e v us = simp append-assoc (go (e .first) (each spellTerm (e .more) ++ (v ++ us)))
+unfolding spellExpr begins spellAtom spellTerm
+expr-front t nam num neg e v us = simp append-assoc (term (e .first) (each spellSigned (e .more) ++ (v ++ us)))
   where
     go : (a : Atom) (us : List Lexeme) → begins t (spellAtom a ++ us) ≡ false
     go (literal i) us = int-front t false num neg i us
     go (variable x) us = nam x
 
+    term : (a : Term) (us : List Lexeme) → begins t (spellTerm a ++ us) ≡ false
+    term (alone a) us = go a us
+    term (remainder a b) us = simp append-assoc (go a (key k-mod ∷ (spellAtom b ++ us)))
+
 -- Conditions, and what may follow them
 
 abbrev after-conj : Follow
-after-conj us = no-sign us × (begins (isMark and-and) us ≡ false)
+after-conj us = no-more us × (begins (isMark and-and) us ≡ false)
 
 abbrev after-cond : Follow
-after-cond us = no-sign us × (begins (isMark and-and) us ≡ false) × (begins (isMark or-or) us ≡ false)
+after-cond us = no-more us × (begins (isMark and-and) us ≡ false) × (begins (isMark or-or) us ≡ false)
 
 -- some tree of each
 abbrev a-simple : Simple
@@ -245,7 +284,7 @@ true-spellable : AllSpellable (key k-true ∷ [])
 true-spellable = (key-spellable k-true, tt)
 
 mutual
-  unfolding readCond readConj readSimple spellCond spellConj spellSimple spellConstant begins isMark isKey markNumber keywordNumber isSign
+  unfolding readCond readConj readSimple spellCond spellConj spellSimple spellConstant begins isMark isKey markNumber keywordNumber goesOn isSign
 
   conds : (k n : ℕ) → 3 * n + 1 ≤ k → Phrase (of spellCond) after-cond n (readCond k) (readCond (suc k))
   conds zero n h = absurd (omega arith)
@@ -267,7 +306,7 @@ mutual
       (pairs λ s. cases exact (every λ _. append-nil (spellSimple s)))
       (λ x. elim x [ just s ↦ ((s, inr tt), refl) | and s c ↦ ((s, inl c), refl) ])
 
-  simples : (k n : ℕ) → 3 * n ≤ k + 1 → Phrase (of spellSimple) no-sign n (readSimple k) (readSimple (suc k))
+  simples : (k n : ℕ) → 3 * n ≤ k + 1 → Phrase (of spellSimple) no-more n (readSimple k) (readSimple (suc k))
   simples zero n h = vacuous (omega arith) a-simple true-spellable
   simples (suc k) zero h = vacuous refl a-simple true-spellable
   simples (suc k) (suc n) h = spelled
@@ -279,7 +318,7 @@ mutual
       (picks (the-key k-false) (gives (constant false))
       (meets (exprs k (suc n) (omega arith))
       (λ e. thens comparisons (λ o. turns (compare e o) (exprs k (suc n) (omega arith))))
-      (λ _ x _ _. comparison-no-sign (x .0)))
+      (λ _ x _ _. comparison-no-more (x .0)))
       (every λ x us _. expr-front (isKey k-false) (λ _. refl) (λ _. refl) refl (x .0) _ us))
       (cases clear (every λ x us _. expr-front (isKey k-true) (λ _. refl) (λ _. refl) refl (x .0) _ us)))
       (cases clear (cases clear (every λ x us _. expr-front (isMark lparen) (λ _. refl) (λ _. refl) refl (x .0) _ us))))
@@ -342,7 +381,7 @@ if-spellable = (
 )
 
 mutual
-  unfolding readBlock readStmt spellBlock spellStmt begins isMark isKey markNumber keywordNumber isSign
+  unfolding readBlock readStmt spellBlock spellStmt begins isMark isKey markNumber keywordNumber goesOn isSign
 
   blocks : (k n : ℕ) → 3 * n + 1 ≤ k → Phrase (of spellBlock) at-brace n (readBlock k) (readBlock (suc k))
   blocks zero n h = absurd (omega arith)
@@ -379,7 +418,7 @@ mutual
 -- Regions, methods, variables and the file
 
 regions : (k n : ℕ) → 3 * n + 1 ≤ k → {F : Follow} → Phrase (of spellRegion) F n (readRegion k) (readRegion (suc k))
-unfolding readRegion spellRegion begins isMark markNumber isSign
+unfolding readRegion spellRegion begins isMark isKey markNumber goesOn isSign
 regions k n h = spelled
     (skips (the-key k-waituntil)
     (skips (the-mark lparen) (meets (conds k n h) (λ c. skips (the-mark rparen) (skips (the-mark lbrace)
@@ -396,7 +435,7 @@ methods k n h = spelled
     exact (λ m. ((m .title, (m .regions, tt)), refl))
 
 tries : (k n : ℕ) → 3 * n + 1 ≤ k → {F : Follow} → Phrase (of spellTry) F n (readTry k) (readTry (suc k))
-unfolding readTry spellTry begins isMark markNumber isSign
+unfolding readTry spellTry begins isMark isKey markNumber goesOn isSign
 tries k n h = spelled
     (skips (the-key k-try) (meets (conds k n h) (λ c. skips (the-mark semicolon) (gives c))
     (λ _ _ _ _. (refl, refl, refl))))
@@ -443,7 +482,7 @@ ends = record {
     still (some a) (l ∷ ls) (x ∷ xs) f e = cc
 
 monitors : (k n : ℕ) → 3 * n + 1 ≤ k → Phrase (of spell) at-end n (readMonitor k) (readMonitor (suc k))
-unfolding readMonitor spell spellVar spellTry spellMethod begins isKey isMark keywordNumber markNumber isSign each
+unfolding readMonitor spell spellVar spellTry spellMethod begins isKey isMark keywordNumber markNumber goesOn isSign each
 monitors k n h = spelled
     (skips (the-key k-monitor) (thens names λ x. skips (the-mark lbrace)
     (meets (somes spellVar (isKey k-var) (λ _ _. refl) k n (omega arith) vars) (λ vs. skips (the-key k-keep)

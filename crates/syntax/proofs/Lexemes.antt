@@ -11,7 +11,7 @@ use Rattle.syntax.specs.Bytes.{sameBytes}
 use Rattle.syntax.specs.Token.{Lexeme, name, key, number, mark, Mark, lbrace, rbrace, lparen, rparen, semicolon}
 use Rattle.syntax.specs.Token.{equals, dots, becomes, same, differs, below, at-most, above, at-least, plus, minus}
 use Rattle.syntax.specs.Token.{bang, and-and, or-or, Keyword, k-monitor, k-var, k-in, k-keep, k-method}
-use Rattle.syntax.specs.Token.{k-waituntil, k-if, k-else, k-true, k-false, k-try}
+use Rattle.syntax.specs.Token.{k-waituntil, k-if, k-else, k-true, k-false, k-try, k-mod}
 use Rattle.syntax.specs.Decide.Lexeme.{markNumber, keywordNumber, isMark}
 use Rattle.syntax.specs.Decide.Lexeme.{isKey}
 use Rattle.logic.proofs.Bools.{Decides, decides-and, decides-by}
@@ -29,8 +29,8 @@ decides-same (a ∷ x) (b ∷ y) = decides-by
 
 keywordAt : ℕ → Keyword
 keywordAt n =
-    getD (k-monitor ∷ k-var ∷ k-in ∷ k-keep ∷ k-method ∷ k-waituntil ∷ k-if ∷ k-else ∷ k-true ∷ k-false ∷ k-try ∷ []) n
-    k-monitor
+    getD (k-monitor ∷ k-var ∷ k-in ∷ k-keep ∷ k-method ∷ k-waituntil ∷ k-if ∷ k-else ∷ k-true ∷ k-false ∷ k-try ∷ k-mod
+    ∷ []) n k-monitor
 
 keyword-again : (k : Keyword) → keywordAt (keywordNumber k) ≡ k
 unfolding keywordAt keywordNumber
@@ -45,6 +45,7 @@ keyword-again k-else = refl
 keyword-again k-true = refl
 keyword-again k-false = refl
 keyword-again k-try = refl
+keyword-again k-mod = refl
 
 markAt : ℕ → Mark
 markAt n =

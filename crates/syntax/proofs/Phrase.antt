@@ -127,6 +127,19 @@ within le p = record {
   agree = λ ls h. p .agree ls (omega arith);
 }
 
+-- less may follow
+pub followed : {A : Type 0} {W : Words A} {F G : Follow} {n : ℕ} {r r′ : Reader A}
+    → ((us : List Lexeme) → G us → F us) → Phrase W F n r r′ → Phrase W G n r r′
+followed less p = record {
+  witness = p .witness;
+  spells = p .spells;
+  sound = p .sound;
+  complete = λ i us g h. p .complete i us (less us g) h;
+  prefix = p .prefix;
+  local = p .local;
+  agree = p .agree;
+}
+
 -- the same trees and words, indexed otherwise
 Same : {A : Type 0} → Words A → Words A → Type 0
 Same W U = (i : W .index) → (j : U .index) × (W .value i ≡ U .value j) × (W .word i ≡ U .word j)
@@ -506,18 +519,29 @@ module _ {A : Type 0} (s : A → List Lexeme) (p : Lexeme → Bool) (starts : (a
       go [] e = absurd (false≢true e)
       go (l ∷ w) e = omega arith
 
+  -- another of them may follow one, and what follows the last may too
+  module _ {F : Follow} (another : (us : List Lexeme) → begins p us ≡ true → F us) where
+    pub follows : (as′ : List A) (us : List Lexeme) → F us → F (each s as′ ++ us)
+    unfolding each
+    follows [] us f = f
+    follows (a ∷ as′) us f = another _ (rw append-assoc (starts a (each s as′ ++ us)))
+
+    pub manys-before : {r r′ : Reader A} (k n : ℕ) → n ≤ k → Phrase (of s) F n r r′
+        → Phrase (of (each s)) (λ us. (begins p us ≡ false) × F us) n (readMany p r k) (readMany p r′ (suc k))
+    unfolding readMany each
+    manys-before zero n h q = vacuous (omega arith) [] tt
+    manys-before (suc k) zero h q = vacuous refl [] tt
+    manys-before (suc k) (suc n) h q = spelled
+        (chooses p
+        (chains {m = n} q (λ a. turns (λ (x : List A). a ∷ x) (manys-before k n (omega arith) (within (omega arith) q)))
+        (λ a. omega (arith, not-empty a)) (λ _ as′ us g. follows as′ us (g .1)))
+        (gives []) (every λ x us f. rw append-assoc (starts (x .0) (each s (x .1) ++ us))) (every λ x us f. f .0))
+        (cases exact exact)
+        (λ x. elim x [ [] ↦ (inr tt, refl) | a ∷ as′ ↦ (inl (a, as′), refl) ])
+
   pub manys : {r r′ : Reader A} (k n : ℕ) → n ≤ k → Phrase (of s) anything n r r′
       → Phrase (of (each s)) (λ us. begins p us ≡ false) n (readMany p r k) (readMany p r′ (suc k))
-  unfolding readMany each
-  manys zero n h q = vacuous (omega arith) [] tt
-  manys (suc k) zero h q = vacuous refl [] tt
-  manys (suc k) (suc n) h q = spelled
-      (chooses p
-      (chains {m = n} q (λ a. turns (λ (x : List A). a ∷ x) (manys k n (omega arith) (within (omega arith) q)))
-      (λ a. omega (arith, not-empty a)) (λ _ _ _ _. tt))
-      (gives []) (every λ x us f. rw append-assoc (starts (x .0) (each s (x .1) ++ us))) (every λ x us f. f))
-      (cases exact exact)
-      (λ x. elim x [ [] ↦ (inr tt, refl) | a ∷ as′ ↦ (inl (a, as′), refl) ])
+  manys k n h q = followed (λ us f. (f, tt)) (manys-before {F = anything} (λ _ _. tt) k n h q)
 
   pub somes : {r r′ : Reader A} (k n : ℕ) → n ≤ k → Phrase (of s) anything n r r′
       → Phrase (of (λ (x : Some A). each s (all x))) (λ us. begins p us ≡ false) n (readSome p r k)

@@ -12,7 +12,8 @@ use Rattle.syntax.specs.Decide.Leading.{leading, startsWith}
 use Rattle.syntax.specs.Token.{Lexeme, name, key, number, mark, Mark, Keyword, lbrace, rbrace, lparen, rparen}
 use Rattle.syntax.specs.Token.{semicolon, equals, dots, becomes, same, differs, below, at-most, above, at-least}
 use Rattle.syntax.specs.Token.{plus, minus, bang, and-and, or-or, k-monitor, k-var, k-in, k-keep, k-method}
-use Rattle.syntax.specs.Token.{k-waituntil, k-if, k-else, k-true, k-false, k-try, keywords, marks, Token, lexemes}
+use Rattle.syntax.specs.Token.{k-waituntil, k-if, k-else, k-true, k-false, k-try, k-mod, keywords, marks, Token}
+use Rattle.syntax.specs.Token.{lexemes}
 use Rattle.syntax.specs.Decide.Scan.{found, scan, wordOf, atMost, markOf}
 use Rattle.syntax.specs.Spelling.{Every, TokenShape, a-word, a-number, a-mark, Spells, reserved, named, valued}
 use Rattle.syntax.specs.Spelling.{marked, Spellable, AllSpellable, Longest, Cover, done, skip, token}
@@ -38,6 +39,7 @@ key-spellable k = elim k [
   | k-true ↦ scanned (bytes "true") _ 4 refl
   | k-false ↦ scanned (bytes "false") _ 5 refl
   | k-try ↦ scanned (bytes "try") _ 3 refl
+  | k-mod ↦ scanned (bytes "mod") _ 3 refl
 ]
 
 pub mark-spellable : (m : Mark) → Spellable (mark m)

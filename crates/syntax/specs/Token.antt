@@ -10,7 +10,7 @@ pub data Mark : Type 0 where
 
 -- the reserved words (R 1.8)
 pub data Keyword : Type 0 where
-  k-monitor k-var k-in k-keep k-method k-waituntil k-if k-else k-true k-false k-try : Keyword
+  k-monitor k-var k-in k-keep k-method k-waituntil k-if k-else k-true k-false k-try k-mod : Keyword
 
 -- a token without its place: a name is its bytes, a number its value (R 1.6)
 pub data Lexeme : Type 0 where
@@ -29,7 +29,7 @@ unfoldable pub keywords : List (String × Keyword)
 keywords =
     ("monitor", k-monitor) ∷ ("var", k-var) ∷ ("in", k-in) ∷ ("keep", k-keep) ∷ ("method", k-method)
     ∷ ("waituntil", k-waituntil) ∷ ("if", k-if) ∷ ("else", k-else) ∷ ("true", k-true) ∷ ("false", k-false)
-    ∷ ("try", k-try) ∷ []
+    ∷ ("try", k-try) ∷ ("mod", k-mod) ∷ []
 
 -- the marks, those of two bytes first: "The longest token is taken" (R 1.12, 1.14)
 unfoldable pub marks : List (String × Mark)

@@ -6,7 +6,7 @@ use mathlib.Core.Path.{_≡_}
 use Rattle.syntax.specs.Token.{Lexeme, name, key, number, mark, Mark, lbrace, rbrace, lparen, rparen, semicolon}
 use Rattle.syntax.specs.Token.{equals, dots, becomes, same, differs, below, at-most, above, at-least, plus, minus}
 use Rattle.syntax.specs.Token.{bang, and-and, or-or, k-monitor, k-var, k-in, k-keep, k-method, k-waituntil, k-if}
-use Rattle.syntax.specs.Token.{k-else, k-true, k-false, k-try}
+use Rattle.syntax.specs.Token.{k-else, k-true, k-false, k-try, k-mod}
 use Rattle.syntax.specs.Spelling.{AllSpellable}
 
 -- "a number with or without - before it" (R 2.12)
@@ -22,15 +22,20 @@ pub data Atom : Type 0 where
 pub data Sign : Type 0 where
   added taken : Sign
 
--- an atom and what joins it (R 2.13)
-pub record Term : Type 0 where
+-- an atom, or "two integers or variables" with `mod` between (R 2.18, 2.19, 2.20)
+pub data Term : Type 0 where
+  alone : Atom → Term
+  remainder : Atom → Atom → Term
+
+-- a term and what joins it (R 2.13)
+pub record Signed : Type 0 where
   pub sign : Sign
-  pub atom : Atom
+  pub term : Term
 
 -- "joined by + and -, taken from the left" (R 2.11, 2.13)
 pub record Expr : Type 0 where
-  pub first : Atom
-  pub more : List Term
+  pub first : Term
+  pub more : List Signed
 
 -- comparison (R 2)
 pub data Comparison : Type 0 where
@@ -116,9 +121,14 @@ unfoldable pub signMark : Sign → Mark
 signMark added = plus
 signMark taken = minus
 
--- (R 2.13)
+-- (R 2.18)
 unfoldable pub spellTerm : Term → List Lexeme
-spellTerm t = mark (signMark (t .sign)) ∷ spellAtom (t .atom)
+spellTerm (alone a) = spellAtom a
+spellTerm (remainder a b) = spellAtom a ++ (key k-mod ∷ spellAtom b)
+
+-- (R 2.13)
+unfoldable pub spellSigned : Signed → List Lexeme
+spellSigned s = mark (signMark (s .sign)) ∷ spellTerm (s .term)
 
 -- repeated (R 2.1)
 unfoldable pub each : {A : Type 0} → (A → List Lexeme) → List A → List Lexeme
@@ -127,7 +137,7 @@ each f (a ∷ as′) = f a ++ each f as′
 
 -- (R 2.11, 2.13)
 unfoldable pub spellExpr : Expr → List Lexeme
-spellExpr e = spellAtom (e .first) ++ each spellTerm (e .more)
+spellExpr e = spellTerm (e .first) ++ each spellSigned (e .more)
 
 -- comparison (R 2)
 unfoldable pub comparisonMark : Comparison → Mark

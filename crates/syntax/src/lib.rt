@@ -68,8 +68,10 @@ pub const KEY_FALSE: u8 = 41;
 
 pub const KEY_TRY: u8 = 42;
 
+pub const KEY_MOD: u8 = 43;
+
 // How many keywords there are.
-pub const KEYWORDS: u8 = 11;
+pub const KEYWORDS: u8 = 12;
 
 // What stands for a kind where a file has no token.
 pub const NO_KIND: u8 = 255;

@@ -73,7 +73,13 @@ fn keyword_of(part: &[u8]) -> u8
     if inner < 5 {
         return 5 + inner;
     }
-    if is_word(part, b"try") { 10 } else { 11 }
+    if is_word(part, b"try") {
+        10
+    } else if is_word(part, b"mod") {
+        11
+    } else {
+        12
+    }
 }
 
 // How a word of the file is held.

@@ -25,12 +25,12 @@ struct Post {
 fn crowd(draws: &mut Draws, size: Size, sketch: &mut Sketch) {
     let mut posts = Vec::new();
     for variable in &mut sketch.variables {
-        variable.lowest = draws.pick(&[0, 0, 0, 0, -1, 3]);
+        variable.lowest = draws.pick(&[0, 0, 0, 0, -1, 1, 3]);
         variable.highest = variable.lowest + draws.pick(&[1, 1, 1, 2, 3]);
         variable.start = draws.pick(&[variable.lowest, variable.lowest, variable.highest]);
         posts.push(Post {
             variable: variable.clone(),
-            take: draws.pick(&[">", "==", "!="]),
+            take: draws.pick(&[">", "==", "!=", "mod 2 =="]),
             put: draws.pick(&["<", "==", "!="]),
         });
     }
@@ -70,7 +70,11 @@ impl Post {
 
     fn takes(&self, draws: &mut Draws) -> Region {
         let Variable { lowest, highest, .. } = self.variable;
-        let asked = if self.take == "==" { highest } else { lowest };
+        let asked = match self.take {
+            "==" => highest,
+            "mod 2 ==" => (lowest + 1).rem_euclid(2),
+            _ => lowest,
+        };
         self.region(draws, self.take, asked, lowest, "-")
     }
 

@@ -9,10 +9,12 @@ pub mod monitors;
 pub mod tries;
 pub mod pairs;
 pub mod crowds;
+pub mod remainders;
 pub mod made;
 pub mod counted;
 pub mod numbered;
 pub mod queued;
+pub mod divided;
 pub mod exact;
 pub mod damage;
 pub mod refused;
@@ -92,7 +94,7 @@ impl Case {
 /// What a case is made for.
 #[derive(Clone, Copy)]
 enum Aim {
-    /// The file is refused with this number, 1 to 9.
+    /// The file is refused with this number, 1 to 9 or 15.
     FileRefused(u8),
     /// A good file with a few tokens or bytes damaged, whatever becomes of it.
     Damaged,
@@ -113,23 +115,24 @@ enum Aim {
 }
 
 /// How many cases of every hundred have each aim.
-const AIMS: [(Aim, usize); 18] = [
+const AIMS: [(Aim, usize); 19] = [
     (Aim::FileRefused(1), 4),
     (Aim::FileRefused(2), 4),
     (Aim::FileRefused(3), 4),
-    (Aim::FileRefused(4), 5),
+    (Aim::FileRefused(4), 4),
     (Aim::FileRefused(5), 4),
     (Aim::FileRefused(6), 4),
-    (Aim::FileRefused(7), 5),
+    (Aim::FileRefused(7), 4),
+    (Aim::FileRefused(15), 5),
     (Aim::FileRefused(8), 4),
     (Aim::FileRefused(9), 5),
-    (Aim::Damaged, 5),
+    (Aim::Damaged, 4),
     (Aim::AnyBytes, 2),
-    (Aim::Walked, 28),
+    (Aim::Walked, 27),
     (Aim::Exact, 6),
     (Aim::Parted, 5),
     (Aim::BadLine, 4),
-    (Aim::FrameRefused(13), 5),
+    (Aim::FrameRefused(13), 4),
     (Aim::FrameRefused(14), 5),
     (Aim::LongTrace, 1),
 ];

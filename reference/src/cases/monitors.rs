@@ -5,6 +5,7 @@ use std::slice::from_ref;
 use super::crowds::crowded;
 use super::draws::Draws;
 use super::pairs::{any_touching, set_apart, wide, wide_counts};
+use super::remainders::{add_remainders, any_remainder, remainder_comparison};
 use super::tries::add_tries;
 use super::words::{integer, laid_out_to_fit, respelled_words, words, Words};
 use super::Size;
@@ -291,8 +292,14 @@ fn any_sketch(draws: &mut Draws, size: Size, counts: &Counts, variables: Vec<Var
     let mut sketch = Sketch { variables, keep, tries: Vec::new(), methods };
     match draws.below(100) {
         0..=49 => add_tries(draws, size, &mut sketch),
-        50..=63 => set_apart(draws, &mut sketch),
+        50..=63 => {
+            set_apart(draws, &mut sketch);
+            return sketch;
+        }
         _ => (),
+    }
+    if draws.chance(40) {
+        add_remainders(draws, &mut sketch);
     }
     sketch
 }
@@ -319,7 +326,8 @@ fn any_variables(draws: &mut Draws, size: Size, count: usize) -> Vec<Variable> {
             1 => 128 - range,
             2 => draws.between(-128, 128 - range),
             3 => -(range / 2),
-            _ => 0,
+            4 => 1.min(128 - range),
+            _ => 0.min(128 - range),
         };
         let highest = lowest + range - 1;
         let start = if draws.chance(50) { lowest } else { draws.between(lowest, highest) };
@@ -358,7 +366,8 @@ pub fn matched_region(draws: &mut Draws, variables: &[Variable]) -> Region {
 fn any_guard(draws: &mut Draws, variables: &[Variable]) -> Words {
     match draws.below(10) {
         0 => words("true"),
-        1..=6 => comparison_with_constant(draws, variables),
+        1..=5 => comparison_with_constant(draws, variables),
+        6 => remainder_comparison(draws, variables),
         _ => any_condition(draws, variables, 2),
     }
 }
@@ -366,7 +375,8 @@ fn any_guard(draws: &mut Draws, variables: &[Variable]) -> Words {
 pub fn any_condition(draws: &mut Draws, variables: &[Variable], depth: usize) -> Words {
     let shape = if depth == 0 { 0 } else { draws.below(12) };
     match shape {
-        0..=4 => comparison_with_constant(draws, variables),
+        0..=3 => comparison_with_constant(draws, variables),
+        4 => remainder_comparison(draws, variables),
         5 => {
             let mut condition = any_expression(draws, variables);
             condition.push(any_comparison(draws));
@@ -412,20 +422,22 @@ pub fn any_value(draws: &mut Draws, variable: &Variable) -> i64 {
 }
 
 fn any_expression(draws: &mut Draws, variables: &[Variable]) -> Words {
-    let mut expression = any_operand(draws, variables);
+    let mut expression = any_term(draws, variables);
     for _ in 0..draws.below(3) {
         expression.push(draws.pick(&["+", "-"]).into());
-        expression.extend(any_operand(draws, variables));
+        expression.extend(any_term(draws, variables));
     }
     expression
 }
 
-fn any_operand(draws: &mut Draws, variables: &[Variable]) -> Words {
-    if draws.chance(60) {
-        vec![draws.pick(variables).name]
-    } else {
-        let value = draws.between(-3, 3);
-        integer(draws, value)
+fn any_term(draws: &mut Draws, variables: &[Variable]) -> Words {
+    match draws.below(10) {
+        0..=4 => vec![draws.pick(variables).name],
+        5 | 6 => any_remainder(draws, variables),
+        _ => {
+            let value = draws.between(-3, 3);
+            integer(draws, value)
+        }
     }
 }
 

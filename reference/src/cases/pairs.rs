@@ -10,6 +10,7 @@ use super::monitors::{
     accepted, any_comparison, any_value, comparison_with_constant, matched_region, Accepted,
     Counts, Region, Sketch, Variable,
 };
+use super::remainders::add_remainders;
 use super::tries::add_tries;
 use super::words::{integer, respelled_words, words, Words};
 use super::Size;
@@ -38,7 +39,7 @@ fn widen(draws: &mut Draws, size: Size, sketch: &mut Sketch) {
     for variable in &mut sketch.variables {
         let range = draws.pick(&[2, 2, 2, 3, 4]).min(states_left);
         states_left /= range;
-        variable.lowest = draws.pick(&[0, 0, 0, -1, 5]);
+        variable.lowest = draws.pick(&[0, 0, 0, 1, -1, 5]);
         variable.highest = variable.lowest + range as i64 - 1;
         variable.start = draws.pick(&[variable.lowest, variable.lowest, variable.highest]);
     }
@@ -62,6 +63,9 @@ fn widen(draws: &mut Draws, size: Size, sketch: &mut Sketch) {
     sketch.tries.clear();
     if draws.chance(40) {
         add_tries(draws, size, sketch);
+    }
+    if draws.chance(25) {
+        add_remainders(draws, sketch);
     }
 }
 
@@ -111,6 +115,10 @@ fn any_naming(draws: &mut Draws, variables: &[Variable], named: &Variable) -> Wo
     match draws.below(10) {
         0..=2 => any_nameless(draws),
         3 => vec![named.name.clone(), any_comparison(draws), other.name],
+        4 if other.lowest >= 1 => {
+            let remainder = words(&format!("{} mod {}", named.name, other.name));
+            [remainder, vec![any_comparison(draws)], words("0")].concat()
+        }
         4 => {
             let sum = words(&format!("{} + {}", named.name, other.name));
             let value = draws.between(-1, 3);

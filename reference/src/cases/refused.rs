@@ -1,8 +1,9 @@
-//! Files that get one of the refusals 1 to 9.
+//! Files that get one of the refusals 1 to 9 and 15.
 
 use super::damage::{any_bytes, damage_tokens};
 use super::draws::Draws;
 use super::monitors::{any_accepted, any_condition, any_value, Method, Region, Sketch, Variable};
+use super::remainders::{add_lacking, lacking_statement};
 use super::tries::any_try;
 use super::words::{any_token, blanks, integer, laid_out_to_fit, words, Words};
 use super::Size;
@@ -12,8 +13,11 @@ use crate::limits::{
 };
 use crate::ranges::{HIGHEST, LOWEST};
 
+/// The refusals in the order of the checks.
+const ORDER: [u8; 10] = [1, 2, 3, 4, 5, 6, 7, 15, 8, 9];
+
 /// A file that gets this refusal: an accepted one with an offence, and now and
-/// then an offence of a higher number beside it. Drawn anew until the refusal and
+/// then an offence of a later check beside it. Drawn anew until the refusal and
 /// the size are right.
 pub fn refused(draws: &mut Draws, size: Size, number: u8) -> Vec<u8> {
     loop {
@@ -27,18 +31,18 @@ pub fn refused(draws: &mut Draws, size: Size, number: u8) -> Vec<u8> {
 
 fn offending(draws: &mut Draws, size: Size, number: u8) -> Vec<u8> {
     let mut numbers = vec![number];
-    if number < 9 && draws.chance(25) {
-        numbers.push(draws.count(number as usize + 1, 9) as u8);
+    let later = &ORDER[ORDER.iter().position(|other| *other == number).unwrap() + 1..];
+    // The last check's first: sketch, then tokens, then bytes.
+    if !later.is_empty() && draws.chance(25) {
+        numbers.insert(0, draws.pick(later));
     }
-    // The highest first: sketch, then tokens, then bytes.
-    numbers.sort();
-    numbers.reverse();
     let mut sketch = any_accepted(draws, size).sketch;
     for number in &numbers {
         match number {
             5 => too_many(draws, &mut sketch, size),
             6 => bad_name(draws, &mut sketch),
             7 => bad_range(draws, &mut sketch),
+            15 => add_lacking(draws, &mut sketch),
             8 => start_not_kept(draws, &mut sketch),
             9 => leaving_body(draws, &mut sketch),
             _ => (),
@@ -163,6 +167,22 @@ fn ungrammatical(draws: &mut Draws, tokens: &mut Words) {
         ("waituntil", "try true ; waituntil"),
         ("{", "{ try true ;"),
         ("}", "} try true ;"),
+        ("keep", "keep mod"),
+        ("keep", "keep x mod 2 mod 2 == 0 &&"),
+        ("keep", "keep ( x ) mod 2 == 0 &&"),
+        (":=", ":= mod"),
+        (":=", ":= 7 mod 3 mod"),
+        (":=", ":= 7 mod ("),
+        (";", "mod ;"),
+        (";", "mod 3 mod 2 ;"),
+        ("mod", "mod mod"),
+        ("mod", "mod +"),
+        ("mod", "mod - -"),
+        ("mod", "mod 2 mod"),
+        ("in", "mod 2 in"),
+        ("var", "var mod"),
+        ("method", "method mod"),
+        ("monitor", "monitor mod"),
     ];
     let (token, phrase) = draws.pick(&phrases);
     let places: Vec<usize> = (0..tokens.len()).filter(|place| tokens[*place] == token).collect();
@@ -282,11 +302,17 @@ fn start_not_kept(draws: &mut Draws, sketch: &mut Sketch) {
     };
 }
 
-/// For 9: a body that leaves a range, if only for a moment, or ends unkept.
+/// For 9: a body that leaves a range, if only for a moment, meets a missing value, or ends
+/// unkept.
 fn leaving_body(draws: &mut Draws, sketch: &mut Sketch) {
     let ranges = sketch.variables.iter().map(|variable| variable.highest - variable.lowest + 1);
     if ranges.product::<i64>() > 256 && draws.chance(60) {
         return leaving_from_one_state(draws, sketch);
+    }
+    if draws.chance(30) {
+        let statement = lacking_statement(draws, &sketch.variables);
+        sketch.any_region(draws).body.splice(0..0, statement);
+        return;
     }
     let variable = draws.pick(&sketch.variables);
     let name = &variable.name;

@@ -2,13 +2,13 @@
 
 use std::fmt::Write;
 
-/// How often each number 0 to 14 was answered: by `placer`, by `runner` for the
+/// How often each number 0 to 15 was answered: by `placer`, by `runner` for the
 /// plain machine, and for the table's. A file's refusal counts for all three.
 #[derive(Clone, Default)]
 pub struct Answers {
-    pub placer: [usize; 15],
-    pub plain: [usize; 15],
-    pub table: [usize; 15],
+    pub placer: [usize; 16],
+    pub plain: [usize; 16],
+    pub table: [usize; 16],
 }
 
 impl Answers {
@@ -32,7 +32,7 @@ impl Answers {
 
     pub fn text(&self) -> String {
         let mut text = format!("{:>6} {:>9} {:>9} {:>9}\n", "answer", "placer", "plain", "table");
-        for number in (0..15).filter(|number| ![10, 11].contains(number)) {
+        for number in (0..16).filter(|number| ![10, 11].contains(number)) {
             let [placer, plain, table] = [self.placer, self.plain, self.table].map(|c| c[number]);
             writeln!(text, "{number:>6} {placer:>9} {plain:>9} {table:>9}").unwrap();
         }

@@ -35,6 +35,8 @@ enum Kind {
     Claims,
     /// Tries added, moved, doubled, cut, swapped.
     Tries,
+    /// `mod` put in, doubled, cut; other divisors and left sides; ranges from 0 and from 1.
+    Remainders,
     /// Other guards and left sides; bodies emptied, or put into an `if` or an `else`.
     Touches,
     /// Long runs of brackets, `!`, `||`, statements and the like.
@@ -51,7 +53,7 @@ enum Kind {
     Any,
 }
 
-const SHARES: [(Kind, usize); 18] = [
+const SHARES: [(Kind, usize); 19] = [
     (Kind::Whole, 28),
     (Kind::Other, 3),
     (Kind::Bytes, 5),
@@ -63,11 +65,12 @@ const SHARES: [(Kind, usize); 18] = [
     (Kind::Names, 4),
     (Kind::Claims, 8),
     (Kind::Tries, 7),
+    (Kind::Remainders, 20),
     (Kind::Touches, 6),
     (Kind::Runs, 11),
     (Kind::Spelling, 5),
     (Kind::Ranges, 4),
-    (Kind::Declarations, 4),
+    (Kind::Declarations, 6),
     (Kind::Length, 4),
     (Kind::Any, 3),
 ];
@@ -113,6 +116,7 @@ fn damaged(draws: &mut Draws, source: &mut Source, mut file: Vec<u8>) -> Vec<u8>
         Kind::Names => names,
         Kind::Claims => claims,
         Kind::Tries => tries,
+        Kind::Remainders => remainders,
         Kind::Touches => touches,
         Kind::Runs => runs,
         Kind::Spelling => spelling,
@@ -230,8 +234,12 @@ fn variables_of(file: &Words) -> Words {
 
 fn other_meaning(draws: &mut Draws, file: &mut Words) {
     let variables = variables_of(file);
-    let sorts: [&[&str]; 4] =
-        [&["==", "!=", "<", "<=", ">", ">="], &["+", "-"], &["&&", "||"], &["true", "false"]];
+    let sorts: [&[&str]; 4] = [
+        &["==", "!=", "<", "<=", ">", ">="],
+        &["+", "-", "mod"],
+        &["&&", "||"],
+        &["true", "false"],
+    ];
     for _ in 0..draws.pick(&[1, 1, 2, 4]) {
         let place = draws.below(file.len());
         let token = file[place].clone();
@@ -274,7 +282,8 @@ fn names(draws: &mut Draws, file: &mut Words) {
     }
 }
 
-const KEPT: [&str; 7] = [
+const KEPT: [&str; 8] = [
+    "NAME mod 2 == 0",
     "false",
     "NAME > 0",
     "NAME < 1",
@@ -312,7 +321,8 @@ fn claims(draws: &mut Draws, file: &mut Words) {
     }
 }
 
-const TRIED: [&str; 8] = [
+const TRIED: [&str; 9] = [
+    "NAME mod 2 == 0",
     "true",
     "false",
     "NAME == NAME",
@@ -444,7 +454,79 @@ fn try_place(draws: &mut Draws, file: &Words) -> usize {
     }
 }
 
-const GUARDS: [&str; 8] = [
+/// What may stand behind `mod`, and should not.
+const DIVISORS: [&str; 12] =
+    ["0", "1", "2", "2", "3", "000", "- 1", "- 0", "999", "NAME", "NAME", "( NAME )"];
+
+/// Conditions to be put before others.
+const DIVIDED: [&str; 10] = [
+    "NAME mod 2 == 0 ||",
+    "NAME mod 3 != 1 &&",
+    "- 7 mod 3 == 2 &&",
+    "1 - 7 mod 3 == 0 && ! NAME mod 999 < 0 &&",
+    "NAME mod OTHER == 0 ||",
+    "1 mod 1 == 0 && NAME mod OTHER >= 0 &&",
+    "OTHER > 0 && NAME mod OTHER == 0 ||",
+    "false && NAME mod 0 == 0 ||",
+    "true || NAME mod - 2 < OTHER mod 0 ||",
+    "! ( NAME mod 2 + 3 mod - 0 > 1 ) ||",
+];
+
+const DIVISIONS: [&str; 8] = [
+    "NAME := NAME mod OTHER ;",
+    "NAME := NAME mod 2 ;",
+    "NAME := - 1 mod 2 ;",
+    "if ( OTHER > 0 ) { NAME := NAME mod OTHER ; }",
+    "if ( OTHER > 0 && NAME mod OTHER == 0 ) { }",
+    "if ( true || 1 mod 0 == 0 ) { }",
+    "if ( false ) { NAME := 1 mod 0 ; }",
+    "if ( NAME mod 2 == 1 ) { NAME := NAME - 1 ; } else { NAME := NAME + 1 ; }",
+];
+
+fn remainders(draws: &mut Draws, file: &mut Words) {
+    let names = [variables_of(file), words("x")].concat();
+    for _ in 0..draws.pick(&[1, 1, 2, 4]) {
+        let [name, other] = [0, 1].map(|_| draws.pick(&names));
+        let with_names = |text: &str| words(&text.replace("NAME", &name).replace("OTHER", &other));
+        let divided = [words("mod"), with_names(draws.pick(&DIVISORS))].concat();
+        let kind = draws.below(11);
+        let keep = file.iter().position(|token| token == "keep").unwrap_or(0);
+        let is_operand = |token: &String| token.parse::<u32>().is_ok() || names.contains(token);
+        let places: Vec<usize> = match kind {
+            0 | 1 => (keep + 1..file.len()).filter(|at| is_operand(&file[*at - 1])).collect(),
+            2 => (keep..file.len()).filter(|at| ["+", "-"].contains(&&file[*at][..])).collect(),
+            3 | 4 => (keep..file.len()).filter(|at| file[*at] == "mod").collect(),
+            5..=7 => condition_places(file),
+            8 | 9 => body_places(file),
+            _ => declared(file).iter().map(|variable| variable.place).collect(),
+        };
+        if places.is_empty() {
+            continue;
+        }
+        let place = draws.pick(&places);
+        match kind {
+            0 | 1 => drop(file.splice(place..place, divided)),
+            2 => file[place] = "mod".into(),
+            3 => drop(file.splice(place..(place + 2).min(file.len()), divided)),
+            4 => {
+                let doubled = words(draws.pick(&["+", "mod mod", "mod -", "mod 2 mod", "mod ("]));
+                file.splice(place..place + 1, doubled);
+            }
+            5..=7 => drop(file.splice(place..place, with_names(draws.pick(&DIVIDED)))),
+            8 | 9 => drop(file.splice(place..place, with_names(draws.pick(&DIVISIONS)))),
+            _ => {
+                let mut variables = declared(file).into_iter();
+                let mut variable = variables.find(|variable| variable.place == place).unwrap();
+                variable.lowest = draws.pick(&[-1, 0, 1, 1, 2]);
+                variable.start = variable.start.max(variable.lowest);
+                variable.highest = variable.highest.max(variable.start);
+                redeclare(draws, file, variable);
+            }
+        }
+    }
+}
+
+const GUARDS: [&str; 10] = [
     "true",
     "1 < 2",
     "false || 0 == 0",
@@ -453,6 +535,8 @@ const GUARDS: [&str; 8] = [
     "NAME < 1",
     "NAME < 1 && OTHER < 1",
     "NAME + OTHER > 0",
+    "NAME mod 2 == 0",
+    "NAME mod 1 == OTHER mod 1",
 ];
 
 /// What is put around a body or a block of an `if`.
@@ -521,14 +605,20 @@ const CONDITION_RUNS: [Run; 6] = [
 ];
 
 /// Sums that leave sixteen bits.
-const SUM_CONDITION_RUNS: [Run; 3] = [
+const SUM_CONDITION_RUNS: [Run; 5] = [
+    ["NAME mod 3 +", "0 >= 0", "", "&&"],
+    ["- 1 mod 999 +", "NAME > 127", "", "&&"],
     ["999 +", "NAME > 127", "", "&&"],
     ["- 999", "< NAME", "", "&&"],
     ["999 +", "0 < 0", "", "||"],
 ];
 
 /// The same, and they come back.
-const SUM_RUNS: [Run; 2] = [["999 +", "0", "- 999", "+"], ["- 999", "- 0", "+ 999", "+"]];
+const SUM_RUNS: [Run; 3] = [
+    ["999 +", "0", "- 999", "+"],
+    ["- 999", "- 0", "+ 999", "+"],
+    ["- 999 mod 5 +", "0", "- 1", "+"],
+];
 
 const BODY_RUNS: [Run; 4] = [
     ["NAME := NAME ;", "", "", ""],

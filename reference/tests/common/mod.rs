@@ -2,6 +2,7 @@
 #![allow(dead_code)]
 
 pub mod queues;
+pub mod remainders;
 
 use reference::{check, run, Answer, Machine, Record};
 

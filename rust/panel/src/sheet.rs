@@ -2,7 +2,7 @@
 use damsonyet::Outline;
 use std::ops::Range;
 
-/// A file that the checks 1 to 7 pass, and its outline.
+/// A file that the checks 1 to 7 and 15 pass, and its outline.
 pub struct Sheet<'a> {
     pub file: &'a [u8],
     pub outline: Outline,

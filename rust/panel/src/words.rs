@@ -250,7 +250,8 @@ fn no_token(file: &[u8], at: usize) -> Refused {
         b':' => "Write ':=' to assign.",
         b'.' => "Write '..' between the bounds of a range; there are whole numbers only.",
         b'_' => "A name begins with a letter.",
-        b'*' | b'/' | b'%' => "Sums have '+' and '-' only.",
+        b'%' => "Write 'mod' for the remainder: x mod 4.",
+        b'*' | b'/' => "Sums have '+' and '-' only, and 'mod' for a remainder.",
         b',' => "Nothing is separated by commas: a variable and an assignment end with ';'.",
         b'[' | b']' => "There are no arrays: write a variable for each number.",
         0xEF if file[at..].starts_with(&[0xEF, 0xBB, 0xBF]) => "This is a byte order mark: save the file as plain ASCII, without one.",
@@ -279,7 +280,30 @@ fn crowded(file: &[u8], at: usize) -> Refused {
     )
 }
 
-const RESERVED: [&[u8]; 11] = [b"monitor", b"var", b"in", b"keep", b"try", b"method", b"waituntil", b"if", b"else", b"true", b"false"];
+const RESERVED: [&[u8]; 12] =
+    [b"monitor", b"var", b"in", b"keep", b"try", b"method", b"waituntil", b"if", b"else", b"true", b"false", b"mod"];
+
+/// The tokens of a file that the scanner passes, from a byte on, each with where it begins.
+fn tokens(file: &[u8], from: usize) -> impl Iterator<Item = (usize, &[u8])> {
+    let mut at = from;
+    std::iter::from_fn(move || {
+        at += file.get(at..)?.iter().take_while(|&&byte| is_blank(byte)).count();
+        let digits = file[at..].iter().take_while(|byte| byte.is_ascii_digit()).count();
+        let token = if digits > 0 { &file[at..at + digits] } else { standing(file, at) };
+        at += token.len();
+        (!token.is_empty()).then_some((at - token.len(), token))
+    })
+}
+
+/// Whether `mod` stands behind the bracket that closes the one at a byte.
+fn mod_behind_brackets(file: &[u8], at: usize) -> bool {
+    let mut open = 0;
+    let mut rest = tokens(file, at).map(|(_, token)| token).skip_while(|token| {
+        open += isize::from(*token == b"(") - isize::from(*token == b")");
+        open > 0
+    });
+    rest.next() == Some(b")") && rest.next() == Some(b"mod")
+}
 
 /// What a part of the file begins with, behind the last semicolon or brace before a byte.
 fn part_begins(file: &[u8], at: usize) -> &[u8] {
@@ -298,6 +322,9 @@ fn grammar_remedy(file: &[u8], at: usize) -> String {
     let is_name = named(token);
     // A name at which a statement may begin.
     let begins_statement = named(before) && matches!(second, b"{" | b"}" | b";");
+    // What stands before is the divisor of a remainder.
+    let is_divisor = second == b"mod" || second == b"-" && third == b"mod";
+    let own_variable = "'mod' stands between two integers or variables, without brackets: give what is in brackets a variable of its own.";
     let head = &file[..at.min(file.len())];
     if head.iter().all(|&byte| is_blank(byte)) {
         return "A file begins with 'monitor', its name and '{'.".into();
@@ -315,6 +342,12 @@ fn grammar_remedy(file: &[u8], at: usize) -> String {
         (b")", _) if is_name => "Behind the brackets comes a block: write { .. }.",
         (_, b"==") if begins_statement => "':=' assigns: write name := value;",
         (_, b"+" | b"-") if begins_statement => "':=' assigns: write name := name + 1;",
+        (_, b"mod") if begins_statement => "':=' assigns: write name := name mod 4;",
+        (_, b"mod") if is_divisor => "No second 'mod' stands right behind a remainder: give the first one a variable of its own.",
+        (b"mod", b"(") | (b")", b"mod") => own_variable,
+        (_, b"(") if mod_behind_brackets(file, at) => own_variable,
+        (_, b")") if tokens(file, at).nth(1).is_some_and(|(_, token)| token == b"mod") => own_variable,
+        (b"-", _) if is_name && second == b"mod" => "Behind 'mod' a '-' needs a number; by a divisor below 1 there is no remainder.",
         (b"try", _) => "Behind 'try' comes a condition and then ';': write try x < 2;",
         (_, b"try" | b"method") if part_begins(file, at) == b"try" => "A 'try' ends with ';', which is missing before.",
         (_, b"try") if part_begins(file, at) == b"keep" && before != b"keep" => "'keep' ends with ';', which is missing before.",
@@ -323,6 +356,8 @@ fn grammar_remedy(file: &[u8], at: usize) -> String {
         (_, b"=") => "A single '=' stands only in a 'var': ':=' assigns, '==' compares.",
         (_, b":=") => "':=' assigns, in a body and behind one name; to compare write '=='.",
         (b"=", _) => "'==' compares and ':=' assigns; a single '=' stands only in a 'var', before an integer.",
+        (b"mod", _) => "Behind 'mod' comes its divisor, an integer or a variable. The word is reserved and no name.",
+        (_, b"mod") => "'mod' stands between two integers or variables. The word is reserved and no name.",
         (b"-" | b"+" | b":=", b"(") => "Brackets go around conditions, not around sums.",
         (b"-", _) if is_name => "'-' before a name is nothing: write 0 - name.",
         (b"}", b";") => "A block has no ';' behind it: take it out.",
@@ -443,6 +478,60 @@ fn range(file: &[u8], at: usize) -> Refused {
     )
 }
 
+/// What stands behind a `mod`, as far as the text tells.
+struct Divisor<'a> {
+    /// An integer, or a variable's name in quotation marks.
+    text: String,
+    /// The lowest value it can have: of an integer its own, of a variable the lowest of its range.
+    lowest: i32,
+    /// A variable's declaration.
+    declared: Option<&'a [u8]>,
+}
+
+/// The divisor behind the `mod` at a byte, of a file that the checks 1 to 7 pass.
+fn divisor(file: &[u8], at: usize) -> Option<Divisor<'_>> {
+    let integer = |behind: &mut dyn Iterator<Item = (usize, &[u8])>| -> Option<i32> {
+        let (_, first) = behind.next()?;
+        let (sign, digits) = if first == b"-" { (-1, behind.next()?.1) } else { (1, first) };
+        std::str::from_utf8(digits).ok()?.parse::<i32>().ok().map(|number| sign * number)
+    };
+    if let Some(number) = integer(&mut tokens(file, at).skip(1)) {
+        return Some(Divisor { text: number.to_string(), lowest: number, declared: None });
+    }
+    let (_, name) = tokens(file, at).nth(1)?;
+    let all: Vec<(usize, &[u8])> = tokens(file, 0).collect();
+    let (from, _) = all.windows(2).find(|two| two[0].1 == b"var" && two[1].1 == name)?[0];
+    let lowest = integer(&mut tokens(file, from).skip_while(|(_, token)| *token != b"in").skip(1))?;
+    let to = file[from..].iter().position(|&byte| byte == b';')? + from + 1;
+    Some(Divisor { text: format!("'{}'", shown(name)), lowest, declared: Some(&file[from..to]) })
+}
+
+fn remainder(file: &[u8], at: usize) -> Refused {
+    let whose = match part_begins(file, at) {
+        b"keep" => "'keep'",
+        b"try" => "this 'try', be it chosen or not,",
+        _ => "this guard",
+    };
+    let asked = format!("{whose} must have a value in every state of the ranges, kept or not.");
+    let (reason, remedy) = match divisor(file, at) {
+        Some(Divisor { text, lowest, declared: Some(declared) }) => {
+            let can_be = if lowest < 0 { format!("below 1, down to {lowest}") } else { lowest.to_string() };
+            (
+                format!("The divisor {text} can be {can_be} ('{}'). A remainder by it then has no value, and {asked}", collapsed(declared)),
+                format!(
+                    "Give {text} a range from 1 on, or divide by a number. A test beside the remainder does not help: '&&' and '||' always \
+                     evaluate both sides."
+                ),
+            )
+        }
+        Some(Divisor { text, .. }) => {
+            (format!("The divisor {text} is below 1. A remainder by it never has a value, and {asked}"), "Divide by 1 or more.".into())
+        }
+        None => (format!("Its divisor can be below 1, and {asked}"), "Divide by 1 or more.".into()),
+    };
+    Refused::new("15: a remainder that has no value in some state", reason, remedy, Some(at))
+}
+
 fn not_kept(file: &[u8], at: usize) -> Refused {
     let start = damsonyet::outline(file).ok().map(|(outline, _)| {
         let sheet = Sheet::new(file, outline);
@@ -465,7 +554,7 @@ fn first_of(sheet: &Sheet, span: &std::ops::Range<usize>) -> usize {
 }
 
 fn breaks(file: &[u8], r: usize, number: usize) -> Refused {
-    let headline = "9: a body that leaves a range or breaks the kept condition";
+    let headline = "9: a body that leaves a range, lacks a remainder or breaks the kept condition";
     let Ok((outline, _)) = damsonyet::outline(file) else { return Refused::new(headline, "", "", None) };
     let sheet = Sheet::new(file, outline);
     let at = sheet.outline.regions.get(r).map(|region| first_of(&sheet, &region.body));
@@ -473,7 +562,7 @@ fn breaks(file: &[u8], r: usize, number: usize) -> Refused {
     let state = |number: usize| damsonyet::state_at(file, number).ok().flatten();
     let Some(from) = state(number) else { return Refused::new(headline, format!("The body of {whose}, from state {number}."), "", at) };
     let start = format!("From state {number} ({}) the body of {whose}, which begins here,", sheet.state_text(&from.values));
-    // The chosen tries hold after every body that stays in range: where the kept condition is broken, it is keep that is.
+    // The chosen tries hold after every body without a fault: where the kept condition is broken, it is keep that is.
     let (tried, chosen) = match damsonyet::fates(file) {
         Ok(fates) => (!fates.is_empty(), fates.contains(&Fate::Chosen)),
         Err(_) => (false, false),
@@ -495,16 +584,59 @@ fn breaks(file: &[u8], r: usize, number: usize) -> Refused {
                 at,
             )
         }
-        _ => Refused::new(
-            "9: a body that assigns outside a range",
-            format!("{start} assigns outside a range. Every assignment counts, also midway."),
-            format!("Widen the range, or test first and assign once. {unreached}"),
-            at,
-        ),
+        _ => {
+            let divisors = low_divisors(&sheet, r);
+            let closer = if sums_with_mod(&sheet, r) {
+                "'mod' binds closer than '+' and '-': for the remainder of a sum give the sum a variable of its own. "
+            } else {
+                ""
+            };
+            if divisors.is_empty() {
+                return Refused::new(
+                    "9: a body that assigns outside a range",
+                    format!("{start} assigns outside a range. Every assignment counts, also midway."),
+                    format!("Widen the range, or test first and assign once. {closer}{unreached}"),
+                    at,
+                );
+            }
+            Refused::new(
+                "9: a body that assigns outside a range or takes a remainder by less than 1",
+                format!(
+                    "{start} assigns outside a range, or takes a remainder by {}, which has no value where the divisor is below 1. Every \
+                     assignment and every remainder on the way counts, on both sides of '&&' and '||'.",
+                    divisors.join(" or ")
+                ),
+                format!(
+                    "Widen the range, or test first and assign once; test a divisor in an 'if' around the remainder. {closer}{unreached}"
+                ),
+                at,
+            )
+        }
     }
 }
 
-/// A file's refusal, 1 to 9, in words.
+/// The tokens of a region's body, each with where it begins.
+fn body_tokens<'a>(sheet: &Sheet<'a>, r: usize) -> Vec<(usize, &'a [u8])> {
+    let span = sheet.outline.regions.get(r).map_or(0..0, |region| region.body.clone());
+    tokens(sheet.file, span.start).take_while(|(at, _)| *at < span.end).collect()
+}
+
+/// Whether a remainder is joined to something before it, as in x + 1 mod 8.
+fn sums_with_mod(sheet: &Sheet, r: usize) -> bool {
+    let is_atom = |token: &[u8]| token.first().is_some_and(|&byte| is_word(byte));
+    body_tokens(sheet, r).windows(4).any(|four| matches!(four[1].1, b"+" | b"-") && is_atom(four[0].1) && four[3].1 == b"mod")
+}
+
+/// The divisors in a region's body that can be below 1, each once, as the text has them.
+fn low_divisors(sheet: &Sheet, r: usize) -> Vec<String> {
+    let found = body_tokens(sheet, r).into_iter().filter(|(_, token)| *token == b"mod").filter_map(|(at, _)| divisor(sheet.file, at));
+    let mut low: Vec<String> = found.filter(|divisor| divisor.lowest < 1).map(|divisor| divisor.text).collect();
+    low.sort();
+    low.dedup();
+    low
+}
+
+/// A file's refusal, 1 to 9 or 15, in words.
 pub fn refusal(file: &[u8], refusal: &Refusal) -> Refused {
     let at = refusal.first;
     match refusal.number {
@@ -522,6 +654,7 @@ pub fn refusal(file: &[u8], refusal: &Refusal) -> Refused {
         7 => range(file, at),
         8 => not_kept(file, at),
         9 => breaks(file, at, refusal.second),
+        15 => remainder(file, at),
         number => Refused::new(format!("{number}: {refusal}"), "", "", None),
     }
 }

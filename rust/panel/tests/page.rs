@@ -165,7 +165,7 @@ fn refused_files_show_the_place() {
         for text in [&refused.headline, &refused.remedy] {
             assert!(html.contains(&escaped(text)), "{name}: {text}");
         }
-        assert_eq!(html.contains("id=\"refused\""), (2..=8).contains(&refusal.number), "{name}");
+        assert_eq!(html.contains("id=\"refused\""), matches!(refusal.number, 2..=8 | 15), "{name}");
         assert_eq!(html.contains("class=\"body broken\""), refusal.number == 9, "{name}");
         assert!(!html.contains("id=\"table\"") && !html.contains("id=\"run\""), "{name}: a refused file has no table and no run");
     }

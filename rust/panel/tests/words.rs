@@ -40,6 +40,7 @@ fn slips_in_files() {
             ("0..1", "0.1", 2, ".", "'..'"),
             ("full", "_full", 2, "_", "begins with a letter"),
             ("full := 1", "full := 1 * 1", 2, "*", "'+' and '-' only"),
+            ("full := 1", "full := 7 % 2", 2, "%", "'mod' for the remainder"),
             ("put", "p\u{fc}t", 2, "", "not ASCII"),
             ("monitor", "\u{feff}monitor", 2, "", "byte order mark"),
             ("put", "p\0t", 2, "\0", "control character"),
@@ -86,6 +87,21 @@ fn slips_in_files() {
             ("keep true;", "keep true; Try full < 2;", 4, "Try", "small letters"),
             ("var full", "var try", 4, "try = 0", "reserved"),
             ("method put", "method try", 4, "try {", "reserved"),
+            ("var full", "var mod", 4, "mod = 0", "reserved"),
+            ("method put", "method mod", 4, "mod {", "reserved"),
+            ("full := 1;", "mod := 1;", 4, "mod := 1", "The word is reserved"),
+            ("full := 1;", "full := mod;", 4, "mod;", "The word is reserved"),
+            ("full := 1;", "full := 1 mod;", 4, ";", "Behind 'mod' comes its divisor"),
+            ("full := 1;", "full := mod 2;", 4, "mod 2", "between two integers or variables"),
+            ("full := 1;", "full mod 2;", 4, "mod 2", "write name := name mod 4;"),
+            ("full := 1;", "full := 7 MOD 2;", 4, "MOD", "small letters"),
+            ("full := 1;", "full := 7 mod 4 mod 2;", 4, "mod 2", "No second 'mod'"),
+            ("full == 0", "full mod -4 mod 2 == 0", 4, "mod 2", "No second 'mod'"),
+            ("full := 1;", "full := 1 mod -full;", 4, "full;", "a '-' needs a number"),
+            ("full := 1;", "full := 1 mod (2);", 4, "(2)", "a variable of its own"),
+            ("full := 1;", "full := (full - 1) mod 2;", 4, "(full - 1)", "a variable of its own"),
+            ("full == 0", "(full - 1) mod 2 == 0", 4, ") mod", "a variable of its own"),
+            ("full == 0", "(full == 0) mod 2 == 0", 4, "mod 2", "a variable of its own"),
             ("keep true;", "keep true; try ful < 2;", 6, "ful <", "no variable 'ful'"),
             ("keep true;", "keep true; var x = 0 in 0..1;", 4, "var x", "variables come first"),
             ("monitor box", "box", 4, "box", "begins with 'monitor'"),
@@ -96,12 +112,32 @@ fn slips_in_files() {
             ("keep", "var full = 0 in 0..1; keep", 6, "full = 0 in 0..1; keep", "'full' is declared before"),
             ("full == 0", "Full == 0", 6, "Full", "no variable 'Full'"),
             ("0..1", "1..0", 7, "var full", "'var full = 0 in 1..0;'"),
+            (
+                "keep true",
+                "keep 7 mod 0 == 0",
+                15,
+                "mod 0",
+                "The divisor 0 is below 1. A remainder by it never has a value, and 'keep' must",
+            ),
+            ("keep true", "keep 7 mod - 002 == 0", 15, "mod - 002", "The divisor -2 is below 1"),
+            ("keep true", "keep true || 7 mod full == 0", 15, "mod full", "The divisor 'full' can be 0 ('var full = 0 in 0..1;')"),
+            ("keep true", "keep full > 0 && 7 mod full == 0", 15, "mod full", "always evaluate both sides"),
+            ("keep true;", "keep true; try 7 mod full == 0;", 15, "mod full", "this 'try', be it chosen or not, must have a value"),
+            ("full == 1", "1mod full==1", 15, "mod full==1", "this guard must have a value in every state"),
             ("keep true", "keep full == 1", 8, "keep", "At full = 0"),
-            ("full := 1", "full := 2", 9, "full := 2", "the body of put (region 00), which begins here, assigns outside a range"),
+            ("full := 1", "full := 2", 9, "full := 2", "the body of put (region 00), which begins here, assigns outside a range."),
+            ("full := 1", "full := full + 2 mod 3", 9, "full := full", "'mod' binds closer than '+' and '-'"),
+            ("full := 1", "full := 5 mod 3", 9, "full := 5", "begins here, assigns outside a range. Every assignment counts"),
+            ("full := 1", "full := 5 mod full", 9, "full := 5", "outside a range, or takes a remainder by 'full', which has no value"),
+            ("full := 1;", "if (true || 5 mod full > 5 mod 0) { }", 9, "if (true", "takes a remainder by 'full' or 0, which has no value"),
             ("keep true", "keep full == 0", 9, "full := 1", "ends at state 1 (full = 1), where the kept condition is false"),
         ] {
             slip(&changed(from, to), number, at, said);
         }
+        // A range that begins below 0, and numbers that touch words.
+        let low = changed("full = 0 in 0..1", "full=0in-2..1;var one=1in 1..1");
+        let low = String::from_utf8(low).expect("ASCII").replace("full == 1", "1mod one==0&&1mod full==0");
+        slip(low.as_bytes(), 15, "mod full", "The divisor 'full' can be below 1, down to -2 ('var full=0in-2..1;')");
         slip(b"", 4, "", "empty");
         slip(b" \n\t", 4, "", "blanks only");
         slip(&[b' '; 8193], 1, "", "more than 8,192 bytes");
@@ -200,7 +236,7 @@ fn no_refusal_without_a_reason() {
             (seed >> 33) as usize % n
         };
         let mut refused = 0;
-        for example in ["box", "breaker", "barrier", "bounded-buffer", "readers-writers", "round-robin"] {
+        for example in ["box", "breaker", "breaker-round", "barrier", "bounded-buffer", "readers-writers", "round-robin"] {
             let file = std::fs::read(common::root().join("examples").join(example).join("monitor.txt")).expect("the file");
             let sheet = Sheet::new(&file, damsonyet::outline(&file).expect("an outline").0);
             let regions = sheet.outline.regions.len();

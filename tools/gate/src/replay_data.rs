@@ -1,6 +1,6 @@
 //! Makes what the program `replay` is run on: the bench examples of document 01, the second
-//! program's cases for tries, for touched pairs, for states' numbers and for the order of waiters,
-//! made by hand, its drawn cases, and hostile input.
+//! program's cases for tries, for touched pairs, for states' numbers, for the order of waiters and
+//! for remainders, made by hand, its drawn cases, and hostile input.
 //!
 //! TO/data/cases.bin has for each case the lengths of a monitor file and a trace, four bytes each,
 //! the lowest first, then both; TO/stdout what the second program prints for each as placer, then
@@ -17,7 +17,7 @@
 //! The checksum begins with 1, and each byte b makes it (sum * 31 + b) % 65521.
 //!
 //! About tries, first one line: of an accepted file 00, the chosen ones (four digits) and how many
-//! tries there are (four digits); of a refused one its refusal. Then, of a file that the checks 1 to
+//! tries there are (four digits); of a refused one its refusal. Then, of a file that all checks up to
 //! 8 pass, one line for each try: ten noughts if it is chosen; FF and eight noughts if it is false
 //! at the start; else the pass in which it is broken (two digits), the region and the state (four
 //! digits each).
@@ -63,7 +63,7 @@ pub fn replay_data(root: &Path, arguments: &[&str]) -> io::Result<bool> {
     let to = given.get(3).map_or(root.join("crates/replay"), PathBuf::from);
     clean_up_first();
     let second = Second::built(root)?;
-    let made = Made::by(&second, or(0, "31"), or(1, "300"), or(2, "430"))?;
+    let made = Made::by(&second, or(0, "31"), or(1, "300"), or(2, "267"))?;
     for (name, bytes) in [("data/cases.bin", &made.data), ("stdout", &made.told)] {
         let path = to.join(name);
         if !is_check {
@@ -91,8 +91,8 @@ impl Made {
     /// there are to be 0, and from the first hostile inputs.
     fn by(second: &Second, seed: &str, count: &str, hostile: &str) -> io::Result<Made> {
         let scratch = Scratch::new()?;
-        let [bench, tries, pairs, numbers, queues, drawn, damaged] =
-            ["bench", "tries", "pairs", "numbers", "queues", "cases", "hostile"]
+        let [bench, tries, pairs, numbers, queues, remainders, drawn, damaged] =
+            ["bench", "tries", "pairs", "numbers", "queues", "remainders", "cases", "hostile"]
                 .map(|name| scratch.at.join(name));
         if count != "0" {
             write_bench(second, &bench)?;
@@ -100,11 +100,12 @@ impl Made {
             told(second, "pairs-cases", &pairs)?;
             told(second, "numbers-cases", &numbers)?;
             told(second, "queue-cases", &queues)?;
+            told(second, "remainders-cases", &remainders)?;
         }
         second.write("cases", seed, count, &drawn)?;
         second.write("hostile-cases", seed, hostile, &damaged)?;
         let mut cases = Vec::new();
-        for directory in [&bench, &tries, &pairs, &numbers, &queues, &drawn] {
+        for directory in [&bench, &tries, &pairs, &numbers, &queues, &remainders, &drawn] {
             cases.extend(children(directory)?);
         }
         cases.extend(few_long(&damaged)?);

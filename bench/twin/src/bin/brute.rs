@@ -46,7 +46,7 @@ fn runner(file: &[u8], trace: &[u8]) -> Vec<u8> {
     out
 }
 
-/// Refusals 1 to 9; the chosen tries are joined to keep.
+/// A file's refusals; the chosen tries are joined to keep.
 fn check(file: &[u8]) -> Result<Monitor, Refusal> {
     let mut monitor = parse_checked(file)?;
     let chosen = chosen(&monitor);

@@ -24,6 +24,7 @@ fn main() -> io::Result<()> {
     write(directory, "tries", &tries_file(), MOST_FRAMES)?;
     write(directory, "wide", &wide_file([4; 6]), MOST_FRAMES)?;
     write(directory, "wide-odd", &wide_file([5, 4, 5, 3, 3, 4]), MOST_FRAMES)?;
+    write(directory, "mod", &mod_file(), MOST_FRAMES)?;
     write(directory, "longest", LONGEST, MOST_FRAMES)?;
     write_drawn(directory, "queue", QUEUE, MOST_FRAMES, queueing)?;
     for eighths in 0..=8 {
@@ -140,6 +141,46 @@ fn wide_file(sizes: [usize; 6]) -> String {
     file += "  }\n  method service {\n";
     for (word, highest) in &variables {
         file += &format!("    waituntil ({word} == 0) {{ {word} := {highest}; }}\n");
+    }
+    file + "  }\n}\n"
+}
+
+/// Sequence numbers that come round from 1 on, five of them, and sixteen regions with a guard each:
+/// every guard, every body and the kept condition take remainders, by numbers and by `window`.
+/// Five methods step a number round, so that someone can always move; in three more a thread goes
+/// from region to region and waits.
+fn mod_file() -> String {
+    const NUMBERS: [(&str, usize); 5] =
+        [("sent", 8), ("acked", 8), ("lane", 4), ("window", 4), ("beat", 4)];
+    let step = |(word, size): (&str, usize)| format!("{word} := {word} mod {size} + 1;");
+    let mut file = String::from("monitor mod_ {\n");
+    for (word, size) in NUMBERS {
+        file += &format!("  var {word} = 1 in 1..{size};\n");
+    }
+    let within = NUMBERS.map(|(word, size)| format!("{word} mod {size} < {size}"));
+    file += &format!("  keep {} && lane mod window < 4;\n", within.join(" && "));
+    for (word, size) in NUMBERS {
+        let body = step((word, size));
+        file += &format!(
+            "  method step_{word} {{ waituntil ({word} mod {size} >= 0) {{ {body} }} }}\n"
+        );
+    }
+    file += "  method even {\n";
+    for (word, size) in NUMBERS {
+        let body =
+            format!("if ({word} mod 3 == 0) {{ {word} := 1; }} else {{ {} }}", step((word, size)));
+        file += &format!("    waituntil ({word} mod 2 == 0) {{ {body} }}\n");
+    }
+    file += "  }\n  method window {\n";
+    file += "    waituntil (sent mod window == acked mod window) { acked := acked mod 8 + 1; }\n";
+    file += "    waituntil (sent - acked mod 8 != lane mod 3) { beat := 7 mod window + 1; }\n";
+    file += "    waituntil (acked mod window == 0 || beat mod 4 == 1) {\n";
+    file += "      if (sent mod lane == 0 && beat mod window != 1) { lane := lane mod 4 + 1; }\n    }\n";
+    file += "  }\n  method reset {\n";
+    for (word, size) in &NUMBERS[..3] {
+        file += &format!(
+            "    waituntil ({word} mod {size} == 1) {{ {word} := {size} - window mod 2; }}\n"
+        );
     }
     file + "  }\n}\n"
 }

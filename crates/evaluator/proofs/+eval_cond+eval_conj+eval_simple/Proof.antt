@@ -30,6 +30,7 @@ use Rattle.evaluator.proofs.eval_compare.Reads as eval-compare-reads
 use Rattle.evaluator.proofs.kind_at.Reads as kind-at-reads
 use Rattle.evaluator.proofs.other.Reads as other-reads
 use Rattle.evaluator.proofs.union.Reads as union-reads
+use Rattle.sets.proofs.union.Reads as sets-union-reads
 use Rattle.evaluator.proofs.+eval_cond+eval_conj+eval_simple.{statement}
 use Rattle.evaluator.proofs.+eval_cond+eval_conj+eval_simple.Tie.{close}
 
@@ -77,6 +78,8 @@ eval-cond-calls t = (
   eval-cond.Post,
   union-reads.Asked,
   union-reads.Learnt,
+  sets-union-reads.Asked,
+  sets-union-reads.Learnt,
 )
 
 abbrev eval-conj-calls : ℕ → eval-conj-lts.Claims
@@ -91,6 +94,8 @@ eval-conj-calls t = (
   eval-conj.Post,
   both-reads.Asked,
   both-reads.Learnt,
+  sets-union-reads.Asked,
+  sets-union-reads.Learnt,
 )
 
 abbrev eval-simple-calls : ℕ → eval-simple-lts.Claims
@@ -122,15 +127,17 @@ eval-cond-eval-cond-requires t c κs =
 eval-cond-returns : (t : ℕ) → eval-cond-lts.Need-returns (eval-cond-calls t) (eval-cond-at t) eval-cond.Post
 unfolding kindOf markNumber keywordNumber
 eval-cond-returns t c =
-    let more = c .before .before .before in
+    let more = c .before .before .before .before in
     let kind = more .before .before .before in
     cond-more (kind .before .eval-conj .ensures) (sym (kind .kind-at .ensures) ∙ more .before .before .if1 .taken)
-    (more .before .after .ensures) (more .eval-cond .ensures) (c .union .ensures)
+    (more .before .after .ensures) (more .eval-cond .ensures) (c .before .union .ensures)
+    (c .union2 .ensures)
 
 eval-cond-returns-2 : (t : ℕ) → eval-cond-lts.Need-returns-2 (eval-cond-calls t) (eval-cond-at t) eval-cond.Post
 unfolding kindOf markNumber keywordNumber
 eval-cond-returns-2 t c =
-    cond-one (c .before .before .eval-conj .ensures) (λ e. c .if1 .left (c .before .kind-at .ensures ∙ e))
+    let kind = c .before .before in
+    cond-one (kind .before .eval-conj .ensures) (λ e. c .before .if1 .left (kind .kind-at .ensures ∙ e))
 
 eval-conj-eval-conj-requires : (t : ℕ) → eval-conj-lts.Need-eval-conj-requires (eval-conj-calls t) (eval-conj-at t)
     eval-conj.Post
@@ -145,15 +152,17 @@ eval-conj-eval-conj-requires t c κs =
 eval-conj-returns : (t : ℕ) → eval-conj-lts.Need-returns (eval-conj-calls t) (eval-conj-at t) eval-conj.Post
 unfolding kindOf markNumber keywordNumber
 eval-conj-returns t c =
-    let more = c .before .before .before in
+    let more = c .before .before .before .before in
     let kind = more .before .before .before in
     conj-more (kind .before .eval-simple .ensures) (sym (kind .kind-at .ensures) ∙ more .before .before .if1 .taken)
-    (more .before .after .ensures) (more .eval-conj .ensures) (c .both .ensures)
+    (more .before .after .ensures) (more .eval-conj .ensures) (c .before .both .ensures)
+    (c .union .ensures)
 
 eval-conj-returns-2 : (t : ℕ) → eval-conj-lts.Need-returns-2 (eval-conj-calls t) (eval-conj-at t) eval-conj.Post
 unfolding kindOf markNumber keywordNumber
 eval-conj-returns-2 t c =
-    conj-one (c .before .before .eval-simple .ensures) (λ e. c .if1 .left (c .before .kind-at .ensures ∙ e))
+    let kind = c .before .before in
+    conj-one (kind .before .eval-simple .ensures) (λ e. c .before .if1 .left (kind .kind-at .ensures ∙ e))
 
 eval-simple-eval-simple-requires : (t : ℕ) → eval-simple-lts.Need-eval-simple-requires (eval-simple-calls t)
     (eval-simple-at t) eval-simple.Post
@@ -225,6 +234,7 @@ pub +eval-cond+eval-conj+eval-simple-spec : {M : Type 1} → statement M
     (λ c κs. search needs)
     (eval-cond-eval-cond-requires t)
     (λ c κs. tt)
+    (λ c κs. tt)
     (eval-cond-returns t)
     (eval-cond-returns-2 t))
     (λ t. eval-conj-lts.spec (eval-conj-calls t) (eval-conj-at t) eval-conj.Post
@@ -232,6 +242,7 @@ pub +eval-cond+eval-conj+eval-simple-spec : {M : Type 1} → statement M
     (λ c κs. tt)
     (λ c κs. search needs)
     (eval-conj-eval-conj-requires t)
+    (λ c κs. tt)
     (λ c κs. tt)
     (eval-conj-returns t)
     (eval-conj-returns-2 t))

@@ -11,7 +11,7 @@ use Rattle.syntax.specs.Decide.Lexeme.{markNumber, keywordNumber}
 use Rattle.syntax.specs.Held.Kind.{kindOf, nameKind, noKind}
 use Rattle.evaluator.proofs.Places.{apart, kind-here}
 use Rattle.evaluator.proofs.Readings.{near-more}
-use Rattle.evaluator.proofs.Runs.{block-end, block-more, stmt-assign, stmt-if, branch-one, branch-two}
+use Rattle.evaluator.proofs.Runs.{block-end, block-more, none-lack, stmt-assign, stmt-if, branch-one, branch-two}
 use borrow.Fn.Kinds.{In}
 use borrow.Fn.PlainCycle.{Measures, is, falls, and}
 use Rattle.evaluator.proofs.run_block.Reads as run-block
@@ -24,10 +24,12 @@ use Rattle.evaluator.proofs.run_stmt.Reads as run-stmt
 use Rattle.evaluator.proofs.run_stmt.Kinds as run-stmt-kinds
 use Rattle.evaluator.proofs.+run_block+run_branch+run_stmt.Lts-run_stmt as run-stmt-lts
 use Rattle.evaluator.proofs.after.Reads as after-reads
+use Rattle.evaluator.proofs.assign_mod.Reads as assign-mod-reads
 use Rattle.evaluator.proofs.both.Reads as both-reads
 use Rattle.evaluator.proofs.close_of.Reads as close-of-reads
 use Rattle.evaluator.proofs.eval_cond.Reads as eval-cond-reads
-use Rattle.evaluator.proofs.eval_expr.Reads as eval-expr-reads
+use Rattle.evaluator.proofs.eval_plain.Reads as eval-plain-reads
+use Rattle.evaluator.proofs.faulted.Reads as faulted-reads
 use Rattle.evaluator.proofs.kind_at.Reads as kind-at-reads
 use Rattle.evaluator.proofs.store.Reads as store-reads
 use Rattle.evaluator.proofs.unless.Reads as unless-reads
@@ -107,8 +109,12 @@ run-stmt-calls t = (
   eval-cond-reads.Learnt,
   run-branch-below t,
   run-branch.Post,
-  eval-expr-reads.Asked,
-  eval-expr-reads.Learnt,
+  faulted-reads.Asked,
+  faulted-reads.Learnt,
+  eval-plain-reads.Asked,
+  eval-plain-reads.Learnt,
+  assign-mod-reads.Asked,
+  assign-mod-reads.Learnt,
   value-at-reads.Asked,
   value-at-reads.Learnt,
   store-reads.Asked,
@@ -237,35 +243,58 @@ run-stmt-run-branch-requires t c κs =
 run-stmt-returns : (t : ℕ) → run-stmt-lts.Need-returns (run-stmt-calls t) (run-stmt-at t) run-stmt.Post
 unfolding kindOf markNumber keywordNumber
 run-stmt-returns t c =
-    let brace = c .before .before .before in
+    let branch = c .before .before in
+    let brace = branch .before .before .before in
     let test = brace .before in
     let kind = test .before .before .before in
     let third = kind .before in
     let start = third .before .before .before .before in
     stmt-if (sym (kind .kind-at .ensures) ∙ test .before .before .if1 .taken) (start .pre .1 .1 .1)
     (third .before .after .ensures)
-    (third .after2 .ensures) (test .eval-cond .ensures) (brace .after3 .ensures) (c .run-branch .ensures)
+    (third .after2 .ensures) (test .eval-cond .ensures) (brace .after3 .ensures) (branch .run-branch .ensures)
+    (c .faulted .ensures)
 
-run-stmt-store-requires : (t : ℕ) → run-stmt-lts.Need-store-requires (run-stmt-calls t) (run-stmt-at t) run-stmt.Post
-run-stmt-store-requires t c κs =
-    let sum = c .before .before .before .before in
-    let start = sum .before .before .before .before .before .before .before .before in (
-      start .pre .1 .1 .0,
-      near-more (sum .eval-expr .ensures .near) (omega (arith, sum .eval-expr .ensures, start .pre)),
+run-stmt-assign-mod-requires : (t : ℕ) → run-stmt-lts.Need-assign-mod-requires (run-stmt-calls t) (run-stmt-at t)
+    run-stmt.Post
+unfolding kindOf markNumber keywordNumber
+run-stmt-assign-mod-requires t c κs =
+    let sum = c .before .before .before in
+    let kind = sum .before .before .before in
+    let start = kind .before .before .before .before .before in (
+      start .pre .1 .0,
+      (
+        start .pre .1 .1 .0,
+        (start .pre .1 .1 .1, λ e. sum .before .before .if1 .left (kind .kind-at .ensures ∙ e)),
+      ),
     )
 
-run-stmt-returns-2 : (t : ℕ) → run-stmt-lts.Need-returns-2 (run-stmt-calls t) (run-stmt-at t) run-stmt.Post
+run-stmt-after-requires-4 : (t : ℕ) → run-stmt-lts.Need-after-requires-4 (run-stmt-calls t) (run-stmt-at t)
+    run-stmt.Post
 unfolding kindOf markNumber keywordNumber
-run-stmt-returns-2 t c =
+run-stmt-after-requires-4 t c κs = c .before .before .eval-plain .ensures .alone (c .if2 .left) .to
+
+run-stmt-store-requires : (t : ℕ) → run-stmt-lts.Need-store-requires (run-stmt-calls t) (run-stmt-at t) run-stmt.Post
+unfolding kindOf markNumber keywordNumber
+run-stmt-store-requires t c κs =
+    let other = c .before .before .before .before in
+    let sum = other .before .before in
+    let start = sum .before .before .before .before .before .before .before .before in
+    let expr = sum .eval-plain .ensures .alone (other .if2 .left) in
+    (start .pre .1 .1 .0, near-more (expr .near) (omega (arith, expr, start .pre)))
+
+run-stmt-returns-3 : (t : ℕ) → run-stmt-lts.Need-returns-3 (run-stmt-calls t) (run-stmt-at t) run-stmt.Post
+unfolding kindOf markNumber keywordNumber
+run-stmt-returns-3 t c =
     let value = c .before .before .before in
-    let sum = value .before .before in
+    let other = value .before .before in
+    let sum = other .before .before in
     let kind = sum .before .before .before in
     let third = kind .before in
     let start = third .before .before .before .before in
     stmt-assign (λ e. sum .before .before .if1 .left (kind .kind-at .ensures ∙ e)) (start .pre .1 .1 .1)
     (third .before .after .ensures)
-    (third .after2 .ensures) (sum .eval-expr .ensures) (value .before .after4 .ensures) (value .value-at .ensures)
-    (c .store .ensures)
+    (third .after2 .ensures) (sum .eval-plain .ensures .alone (other .if2 .left)) (value .before .after4 .ensures)
+    (value .value-at .ensures) (c .store .ensures) (λ j l. none-lack (start .args .on) (c .store .result) j)
 
 pub +run-block+run-branch+run-stmt-spec : {M : Type 1} → statement M
 +run-block+run-branch+run-stmt-spec =
@@ -301,10 +330,13 @@ pub +run-block+run-branch+run-stmt-spec : {M : Type 1} → statement M
     (λ c κs. search needs)
     (λ c κs. search needs)
     (run-stmt-run-branch-requires t)
+    (λ c κs. tt)
     (run-stmt-returns t)
     (λ c κs. search needs)
-    (λ c κs. search needs)
+    (run-stmt-assign-mod-requires t)
+    (λ c. c .assign-mod .ensures)
+    (run-stmt-after-requires-4 t)
     (λ c κs. tt)
     (λ c. search needs)
     (run-stmt-store-requires t)
-    (run-stmt-returns-2 t)
+    (run-stmt-returns-3 t)

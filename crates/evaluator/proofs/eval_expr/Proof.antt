@@ -1,4 +1,4 @@
--- `evaluator::eval_expr` meets its contract. The invariant: what is read from the operand on is the whole expression.
+-- `evaluator::eval_expr` meets its contract. The invariant: what is read from the term on is the whole expression.
 -- The measure is the count of tokens left: a sign is one, so it falls.
 use Prim.Native.Nat.{_-_}
 use native.Mathlib.Omega.{arith}
@@ -16,10 +16,11 @@ use Rattle.evaluator.proofs.eval_expr.Statement.{statement}
 use Rattle.evaluator.proofs.eval_expr.Tie as tie
 
 abbrev Inv-loop : tie.InvT-loop
-Inv-loop kinds values vars at lanes₀ taken₀ place₀ lanes taken place = Open kinds values vars at lanes taken place
+Inv-loop kinds values vars at lanes₀ lacks₀ taken₀ place₀ lanes lacks taken place =
+    Open kinds values vars at lanes lacks taken place
 
 abbrev μ-loop : tie.MeasureT-loop
-μ-loop kinds values vars at lanes₀ taken₀ place₀ lanes taken place = length kinds - place
+μ-loop kinds values vars at lanes₀ lacks₀ taken₀ place₀ lanes lacks taken place = length kinds - place
 
 eval-term-requires : tie.Need-eval-term-requires Inv-loop μ-loop
 eval-term-requires c κs =
@@ -34,7 +35,7 @@ returns c =
     (λ e. c .before .if1 .left (kind .kind-at .ensures ∙ e))
     (λ e. c .if2 .left (kind .kind-at .ensures ∙ e))
 
--- the sign behind an operand
+-- the sign behind a term
 sign : (c : tie.Joined1 Inv-loop μ-loop)
     → getD (c .before .before .before .before .before .before .args .kinds .now)
     (c .before .before .eval-term .result .next) noKind ≡ kindOf (mark (signMark (signOf (c .if1 .taken))))

@@ -24,16 +24,22 @@ loop-again c =
 
 returns : tie.Need-returns Inv-loop μ-loop
 unfolding operand
-returns c = λ j l.
+returns c =
     let slot = c .before .before .if1 .taken in
-    let held = all-filled (c .before .loop .inv) (c .loop-test .left) j l in
-    (rw (lt-ltb _ _ slot) (held .0 ∙ sym (lane-at _ j _ slot)), λ small. held .1)
+    let held = all-filled (c .before .loop .inv) (c .loop-test .left) in
+    record {
+      is = λ j l. rw (lt-ltb _ _ slot) (held j l .0 ∙ sym (lane-at _ j _ slot));
+      small = λ h. record { each = λ j l. held j l .1 };
+    }
 
 returns-2 : tie.Need-returns-2 Inv-loop μ-loop
 unfolding operand
-returns-2 c = λ j l.
-    let same = getD-replicate 16 j (c .before .args .plus) 0 l in
-    (rw (le-ltb _ _ (c .if1 .left)) same, λ small. omega arith)
+returns-2 c =
+    let plus = c .before .args .plus in
+    record {
+      is = λ j l. rw (le-ltb _ _ (c .if1 .left)) (getD-replicate 16 j plus 0 l);
+      small = λ h. record { each = λ j l. rw (getD-replicate 16 j plus 0 l) h };
+    }
 
 pub operands-spec : {M : Type 1} → statement M
 operands-spec =

@@ -32,7 +32,7 @@ returns c =
       wide .wide .ensures .0,
       high .ensures .0,
     ))
-    (λ j l. rw (c .put .ensures .1 j l, merged .merged .ensures j l, old .operands .ensures j l .0, lt-ltb _ _ slot))
+    (λ j l. rw (c .put .ensures .1 j l, merged .merged .ensures j l, old .operands .ensures .is j l, lt-ltb _ _ slot))
 
 returns-2 : tie.Need-returns-2
 returns-2 c = past-slots (c .before .if1 .left) (c .before .before .pre .0) (c .other2 .ensures)

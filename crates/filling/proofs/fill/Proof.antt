@@ -48,7 +48,7 @@ left : (n : ℕ) (kept₀ holds₀ after₀ kept holds after : List ℕ) → (n 
     → AsLong kept₀ holds₀ after₀ kept holds after → Leaves n kept₀ holds₀ after₀ kept holds after
 left n kept₀ holds₀ after₀ kept holds after ends long =
     record {
-      untouched = λ a b. absurd (⊎-elim (λ (nine : n ≡ 9). omega arith) (λ (zero : n ≡ 0). omega arith) ends);
+      untouched = λ no-0 no-9. absurd (⊎-elim no-9 no-0 ends);
       as-long = long;
     }
 

@@ -3,7 +3,7 @@ use mathlib.Core.Path.{refl}
 use mathlib.Core.List.{[]}
 use Rattle.grammar.proofs.Readers.{then, done, yes, no, fuelled, spent}
 use Rattle.grammar.proofs.KindTests.{by-sign, took-sign}
-use Rattle.syntax.specs.Decide.Reading.{readMany, readTerm, isSign}
+use Rattle.syntax.specs.Decide.Reading.{readMany, readSigned, isSign}
 use Rattle.syntax.specs.Decide.Lexeme.{markNumber}
 use Rattle.syntax.specs.Held.Kind.{kindOf}
 use native.Mathlib.Omega.{arith}
@@ -14,7 +14,7 @@ use Rattle.grammar.proofs.read_terms.Reads as read-terms
 use Rattle.grammar.proofs.read_terms.Kinds as read-terms-kinds
 use Rattle.grammar.proofs.+read_terms.Lts-read_terms as read-terms-lts
 use Rattle.grammar.proofs.expect_among.Reads as expect-among-reads
-use Rattle.grammar.proofs.read_atom.Reads as read-atom-reads
+use Rattle.grammar.proofs.read_term.Reads as read-term-reads
 use Rattle.grammar.proofs.sees_among.Reads as sees-among-reads
 use Rattle.grammar.proofs.stop.Reads as stop-reads
 use Rattle.grammar.proofs.+read_terms.{statement}
@@ -39,8 +39,8 @@ read-terms-calls t = (
   sees-among-reads.Learnt,
   expect-among-reads.Asked,
   expect-among-reads.Learnt,
-  read-atom-reads.Asked,
-  read-atom-reads.Learnt,
+  read-term-reads.Asked,
+  read-term-reads.Learnt,
   read-terms-below t,
   read-terms.Post,
 )
@@ -48,20 +48,20 @@ read-terms-calls t = (
 read-terms-returns : (t : ℕ) → read-terms-lts.Need-returns (read-terms-calls t) (read-terms-at t) read-terms.Post
 unfolding readMany
 read-terms-returns t c =
-    spent (readMany isSign readTerm) [] (λ ls. refl) (c .before .if1 .taken) (c .stop .ensures)
+    spent (readMany isSign readSigned) [] (λ ls. refl) (c .before .if1 .taken) (c .stop .ensures)
 
 read-terms-returns-2 : (t : ℕ) → read-terms-lts.Need-returns-2 (read-terms-calls t) (read-terms-at t) read-terms.Post
-unfolding readMany readTerm kindOf markNumber
+unfolding readMany readSigned kindOf markNumber
 read-terms-returns-2 t c =
-    fuelled (readMany isSign readTerm) (c .before .before .before .before .before .if1 .left)
+    fuelled (readMany isSign readSigned) (c .before .before .before .before .before .if1 .left)
     (yes _ by-sign (c .before .before .before .before .sees-among .ensures) (c .before .before .before .if2 .taken)
-    (then (then (took-sign (c .before .before .expect-among .ensures)) λ _. then (c .before .read-atom .ensures) λ _.
+    (then (then (took-sign (c .before .before .expect-among .ensures)) λ _. then (c .before .read-term .ensures) λ _.
     done _) λ _. then (c .read-terms .ensures) λ _. done _))
 
 read-terms-returns-3 : (t : ℕ) → read-terms-lts.Need-returns-3 (read-terms-calls t) (read-terms-at t) read-terms.Post
-unfolding readMany readTerm kindOf markNumber
+unfolding readMany readSigned kindOf markNumber
 read-terms-returns-3 t c =
-    fuelled (readMany isSign readTerm) (c .before .before .if1 .left)
+    fuelled (readMany isSign readSigned) (c .before .before .if1 .left)
     (no _ by-sign (c .before .sees-among .ensures) (c .if2 .left) (done _))
 
 pub +read-terms-spec : {M : Type 1} → statement M

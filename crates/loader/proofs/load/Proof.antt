@@ -21,7 +21,8 @@ counted c = scanned-counted (c .before .before .scan .ensures) (N c) (c .n .give
 returns : tie.Need-returns
 returns c = (
   λ l₁ l₂ l₃.
-      loads-said _ (c .not-loaded .result) _ _ _ 0 (omega arith) (c .not-loaded .ensures) (c .before .say .ensures)
+      loads-said _ (c .not-loaded .result) _ _ _ 1 ((λ z. omega arith), (λ z. omega arith), λ z. omega arith)
+      (c .not-loaded .ensures) (c .before .say .ensures)
       (scanned-long (c .before .before .before .before .scan .ensures) (c .before .before .enum-told .given .1)),
   left-all _ _ _ _,
 )
@@ -29,7 +30,8 @@ returns c = (
 returns-2 : tie.Need-returns-2
 returns-2 c = (
   λ l₁ l₂ l₃.
-      loads-said _ (c .not-loaded2 .result) _ _ _ 1 (omega arith) (c .not-loaded2 .ensures) (c .before .say2 .ensures)
+      loads-said _ (c .not-loaded2 .result) _ _ _ 2 ((λ z. omega arith), (λ z. omega arith), λ z. omega arith)
+      (c .not-loaded2 .ensures) (c .before .say2 .ensures)
       (scanned-bad (c .before .before .before .before .before .scan .ensures) _
       (c .before .before .before .k .given .1)),
   left-all _ _ _ _,

@@ -1,4 +1,4 @@
--- The refusals 1 to 9 of a file, in number order, computed. `proofs/Verdicts` shows that a file's verdict is the one
+-- The refusals 1 to 9 and 15 of a file, in their order, computed. `proofs/Verdicts` shows that a file's verdict is the one
 -- that `Accepted` and `Refusal` say.
 use Prim.Native.Nat.{ℕ, _+_, _*_, _-_}
 use mathlib.Core.Bool.{Bool, true, false, _&&_, _||_, not}
@@ -11,15 +11,15 @@ use Rattle.syntax.specs.Limits.{mostBytes, mostTokens, mostOpen, mostVars, most
 use Rattle.machine.specs.Limits.{mostRegions, mostStates}
 use Rattle.syntax.specs.Bytes.{sameBytes}
 use Rattle.syntax.specs.Token.{Lexeme, name, key, number, mark, Keyword, k-monitor, k-var, k-keep, k-method}
-use Rattle.syntax.specs.Token.{k-waituntil, k-try, Token, lexemes}
-use Rattle.syntax.specs.Decide.Lexeme.{isKey}
+use Rattle.syntax.specs.Token.{k-waituntil, k-try, k-mod, semicolon, lbrace, Token, lexemes}
+use Rattle.syntax.specs.Decide.Lexeme.{isKey, isMark}
 use Rattle.syntax.specs.Decide.Scan.{tokens, none-at, tokenize}
-use Rattle.syntax.specs.Tree.{Region, Var, Monitor, all}
-use Rattle.syntax.specs.Decide.Reading.{got, stuck, read}
-use Rattle.meaning.specs.Value.{intOf, less, inRange, truth}
+use Rattle.syntax.specs.Tree.{Atom, Region, Var, Monitor, all}
+use Rattle.syntax.specs.Decide.Reading.{Got, got, stuck, readAtom, read}
+use Rattle.meaning.specs.Value.{intOf, less, inRange, atomValue, truth}
 use Rattle.meaning.specs.Decide.Bodies.{outcome}
 use Rattle.meaning.specs.Decide.First.{firstWhere}
-use Rattle.meaning.specs.State.{size, starts}
+use Rattle.meaning.specs.State.{size, starts, lowest}
 use Rattle.meaning.specs.Kept.{keptAt}
 use Rattle.meaning.specs.Answer.{Verdict, accepted, answer, refused}
 use Rattle.meaning.specs.Accepted.{closes, opens}
@@ -101,8 +101,26 @@ illRanged product (v ∷ vs) ps =
     elim (goodRange v && leb (product * size v) mostStates)
     [ true ↦ illRanged (product * size v) vs (drop 1 ps) | false ↦ some (getD ps 0 0) ]
 
+-- 15: the condition of keep, a try or a guard stands behind `keep`, `try` or `waituntil`, before the next `;` or `{`. Whether
+-- the next lexeme stands in one, from whether this one does
+unfoldable pub asks : Bool → Lexeme → Bool
+asks on l =
+    isKey k-keep l || isKey k-try l || isKey k-waituntil l || (on && not (isMark semicolon l || isMark lbrace l))
+
+-- the least value that a divisor takes, of what is read of it, is below 1 (R 6.37)
+unfoldable pub lowDivisor : List Var → Got Atom → Bool
+lowDivisor vs (got b ls) = less (atomValue vs (lowest vs) b) (pos 1)
+lowDivisor vs (stuck ls) = false
+
+-- the first `mod` of such conditions that may lack a value
+unfoldable pub unvalued : List Var → Bool → List Token → Option ℕ
+unvalued vs on [] = none
+unvalued vs on (t ∷ ts) =
+    elim (on && isKey k-mod (t .lexeme) && lowDivisor vs (readAtom (lexemes ts)))
+    [ true ↦ some (t .at) | false ↦ unvalued vs (asks on (t .lexeme)) ts ]
+
 -- 9: from these values, "meeting kept condition and guard", "the body assigns outside a range at any moment or ends
--- with the kept condition false"; of a body's outcome, for any test of values
+-- with the kept condition false", or lacks a value; of a body's outcome, for any test of values
 unfoldable pub keptAfter : (List ℤ → Bool) → Option (List ℤ) → Bool
 keptAfter kept none = false
 keptAfter kept (some as′) = kept as′
@@ -114,19 +132,22 @@ breaks vs kept r as′ = kept as′ && truth (r .guard) vs as′ && not (keptAft
 unfoldable pub broken : Monitor → Option (ℕ × ℕ)
 broken m = firstWhere (all (m .vars)) (breaks (all (m .vars)) (keptAt m)) 0 (regionsOf (all (m .methods)))
 
--- 7 to 9, of a tree and its tokens
+-- 7, 15, 8 and 9, of a tree and its tokens
 unfoldable pub checkMeaning : List Token → Monitor → Verdict
 checkMeaning ts m =
     let vs = all (m .vars) in
     elim (illRanged 1 vs (placesOf k-var ts)) [
       | some k ↦ refused (answer 7 k 0)
-      | none ↦ elim (keptAt m (starts vs)) [
-        | false ↦ refused (answer 8 (getD (placesOf k-keep ts) 0 0) 0)
-        | true ↦ elim (broken m) [ some rn ↦ refused (answer 9 (rn .0) (rn .1)) | none ↦ accepted m ]
+      | none ↦ elim (unvalued vs false ts) [
+        | some k ↦ refused (answer 15 k 0)
+        | none ↦ elim (keptAt m (starts vs)) [
+          | false ↦ refused (answer 8 (getD (placesOf k-keep ts) 0 0) 0)
+          | true ↦ elim (broken m) [ some rn ↦ refused (answer 9 (rn .0) (rn .1)) | none ↦ accepted m ]
+        ]
       ]
     ]
 
--- 3 to 9, of the tokens of a file of some length
+-- 3 to 9 and 15, of the tokens of a file of some length
 unfoldable pub checkTokens : ℕ → List Token → Verdict
 checkTokens end ts =
     elim (crowded 0 0 0 ts) [

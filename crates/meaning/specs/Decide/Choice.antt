@@ -21,7 +21,7 @@ use Rattle.meaning.specs.Decide.First.{firstWhere}
 unfoldable pub noTry : Cond
 noTry = only (just (constant true))
 
--- a body ends, in range, with a condition false; one that faults binds nothing (R 5.10)
+-- a body ends, without a fault, with a condition false; one that faults binds nothing (R 5.10)
 unfoldable pub endsFalse : List Var → Cond → Option (List ℤ) → Bool
 endsFalse vs c none = false
 endsFalse vs c (some bs) = not (truth c vs bs)

@@ -5,8 +5,8 @@ use mathlib.Core.Bool.{Bool, false, _&&_, _||_}
 use mathlib.Core.List.{List, [], _∷_}
 use lib.ListN.{length, getD}
 use Rattle.syntax.specs.Bytes.{sameBytes}
-use Rattle.syntax.specs.Tree.{Atom, literal, variable, Term, Expr, Cond, only, or, Conj, just, and, Simple, negation}
-use Rattle.syntax.specs.Tree.{bracketed, constant, compare, Block, end, then, Stmt, assign, if-then, if-else, Monitor}
+use Rattle.syntax.specs.Tree.{Atom, literal, variable, Term, alone, remainder, Signed, Expr, Cond, only, or, Conj}
+use Rattle.syntax.specs.Tree.{just, and, Simple, negation, bracketed, constant, compare, Block, end, then, Stmt, assign, if-then, if-else, Monitor}
 use Rattle.syntax.specs.Tree.{Var}
 use Rattle.meaning.specs.Bits.{eachFrom, ones}
 use Rattle.meaning.specs.Model.{vars, regions, guards, region, noGuard}
@@ -17,12 +17,16 @@ unfoldable pub atomNames : Atom → List ℕ → Bool
 atomNames (literal i) x = false
 atomNames (variable y) x = sameBytes y x
 
-unfoldable pub termsName : List Term → List ℕ → Bool
+unfoldable pub termNames : Term → List ℕ → Bool
+termNames (alone a) x = atomNames a x
+termNames (remainder a b) x = atomNames a x || atomNames b x
+
+unfoldable pub termsName : List Signed → List ℕ → Bool
 termsName [] x = false
-termsName (t ∷ ts) x = atomNames (t .atom) x || termsName ts x
+termsName (t ∷ ts) x = termNames (t .term) x || termsName ts x
 
 unfoldable pub exprNames : Expr → List ℕ → Bool
-exprNames e x = atomNames (e .first) x || termsName (e .more) x
+exprNames e x = termNames (e .first) x || termsName (e .more) x
 
 unfoldable mutual
   pub condNames : Cond → List ℕ → Bool

@@ -13,7 +13,7 @@ returns c =
     let t = c .before .before in
     let l = t .before .before .before .before .before in
     number-untold (l .load .ensures .0 (long 4096 0) (long 4096 0) (long 65536 0)) _ _ (c .no-number .ensures .0)
-    (sym (t .past-7 .ensures) ∙ not-true (c .before .if1 .taken)) (c .no-number .ensures .1)
+    (sym (t .past-15 .ensures) ∙ not-true (c .before .if1 .taken)) (c .no-number .ensures .1)
 
 returns-2 : tie.Need-returns-2
 returns-2 c =
@@ -21,7 +21,7 @@ returns-2 c =
     let t = g .before in
     let l = t .before .before .before .before .before in
     number-told (l .load .ensures .0 (long 4096 0) (long 4096 0) (long 65536 0)) _ _ (c .number-in .ensures .0)
-    (sym (t .past-7 .ensures) ∙ not-false _ (g .if1 .left)) (c .number-in .ensures .1)
+    (sym (t .past-15 .ensures) ∙ not-false _ (g .if1 .left)) (c .number-in .ensures .1)
 
 pub number-of-spec : {M : Type 1} → statement M
 number-of-spec =

@@ -1,12 +1,13 @@
--- `survey::outline_loaded` meets its contract: a file that passes 1 to 7 has tokens, and the arrays hold them.
+-- `survey::outline_loaded` meets its contract: a file that passes 1 to 7 and 15 has tokens, and the arrays hold them.
 use Prim.Native.Nat.{ℕ}
 use native.Mathlib.Omega.{arith}
-use mathlib.Core.Path.{sym, _∙_}
+use mathlib.Core.Path.{refl, sym, _∙_}
 use borrow.Author.Needs.{needs}
 use borrow.Author.Tests.{not-false}
 use Rattle.logic.proofs.Bools.{not-true}
 use Rattle.loader.proofs.Scanned.{Counted, scanned-long, scanned-bad, scanned-tokens, scanned-counted}
-use Rattle.survey.proofs.Passed.{stops, outline-untold, refused-as, outline-told}
+use Rattle.survey.specs.Told.{past15}
+use Rattle.survey.proofs.Passed.{outline-untold, refused-as, outline-told}
 use Rattle.survey.proofs.outline_loaded.Statement.{statement}
 use Rattle.survey.proofs.outline_loaded.Tie as tie
 
@@ -23,27 +24,29 @@ returns : tie.Need-returns
 returns c kept holds after loads =
     let t = c .before .before in
     outline-untold loads _ (c .no-outline .ensures .0)
-    (stops _ 7 (sym (t .past-7 .ensures) ∙ not-true (c .before .if1 .taken))) (c .no-outline .ensures .1)
+    (sym (t .past-15 .ensures) ∙ not-true (c .before .if1 .taken)) (c .no-outline .ensures .1)
 
 returns-2 : tie.Need-returns-2
+unfolding past15
 returns-2 c kept holds after loads =
     let s = c .before .before .before in
     outline-untold loads _ (c .no-outline2 .ensures .0)
     (refused-as loads (scanned-long (s .scan .ensures) (c .before .enum-told .given .1))
-    (omega arith)) (c .no-outline2 .ensures .1)
+    refl) (c .no-outline2 .ensures .1)
 
 returns-3 : tie.Need-returns-3
+unfolding past15
 returns-3 c kept holds after loads =
     let s = c .before .before .before in
     outline-untold loads _ (c .no-outline3 .ensures .0)
-    (refused-as loads (scanned-bad (s .scan .ensures) _ (c .before .enum-told2 .given .1)) (omega arith)) (c .no-outline3 .ensures .1)
+    (refused-as loads (scanned-bad (s .scan .ensures) _ (c .before .enum-told2 .given .1)) refl) (c .no-outline3 .ensures .1)
 
 returns-4 : tie.Need-returns-4
 returns-4 c kept holds after loads =
     let n = c .before .before .before .before .before in
     let g = n .before .before .before .before .before .before .before .before in
     let t = scanned-tokens (n .before .before .scan .ensures) (N n) (n .n .given .1) in
-    outline-told loads _ (c .outline-of .ensures .0) (sym (g .before .past-7 .ensures) ∙ not-false _ (g .if1 .left))
+    outline-told loads _ (c .outline-of .ensures .0) (sym (g .before .past-15 .ensures) ∙ not-false _ (g .if1 .left))
     (t .3) (c .outline-of .ensures .1)
 
 pub outline-loaded-spec : {M : Type 1} → statement M

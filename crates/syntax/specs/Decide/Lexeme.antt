@@ -3,9 +3,9 @@ use Prim.Native.Nat.{ℕ}
 use mathlib.Core.Bool.{Bool, true, false}
 use lib.Dec.{eqb}
 use Rattle.syntax.specs.Token.{Keyword, Lexeme, Mark, above, and-and, at-least, at-most, bang, becomes, below}
-use Rattle.syntax.specs.Token.{differs, dots, equals, k-else, k-false, k-if, k-in, k-keep, k-method, k-monitor}
-use Rattle.syntax.specs.Token.{k-true, k-try, k-var, k-waituntil, key, lbrace, lparen, mark, minus, name, number, or-or}
-use Rattle.syntax.specs.Token.{plus, rbrace, rparen, same, semicolon}
+use Rattle.syntax.specs.Token.{differs, dots, equals, k-else, k-false, k-if, k-in, k-keep, k-method, k-mod}
+use Rattle.syntax.specs.Token.{k-monitor, k-true, k-try, k-var, k-waituntil, key, lbrace, lparen, mark, minus, name, number}
+use Rattle.syntax.specs.Token.{or-or, plus, rbrace, rparen, same, semicolon}
 
 -- marks and keywords by number, to compare them
 unfoldable pub markNumber : Mark → ℕ
@@ -41,6 +41,7 @@ keywordNumber k-else = 7
 keywordNumber k-true = 8
 keywordNumber k-false = 9
 keywordNumber k-try = 10
+keywordNumber k-mod = 11
 
 unfoldable pub isMark : Mark → Lexeme → Bool
 isMark m (name x) = false

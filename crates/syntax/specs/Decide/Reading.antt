@@ -7,9 +7,10 @@ use lib.ListN.{length}
 use Rattle.syntax.specs.Token.{Lexeme, name, key, number, mark, lbrace, rbrace, lparen, rparen, semicolon, equals}
 use Rattle.syntax.specs.Token.{dots, becomes, same, differs, below, at-most, above, at-least, plus, minus, bang}
 use Rattle.syntax.specs.Token.{and-and, or-or, k-monitor, k-var, k-in, k-keep, k-method, k-waituntil, k-if}
-use Rattle.syntax.specs.Token.{k-else, k-true, k-false, k-try}
+use Rattle.syntax.specs.Token.{k-else, k-true, k-false, k-try, k-mod}
 use Rattle.syntax.specs.Decide.Lexeme.{isMark, isKey, isName}
-use Rattle.syntax.specs.Tree.{Int, plain, negated, Atom, literal, variable, Sign, added, taken, Term, Expr}
+use Rattle.syntax.specs.Tree.{Int, plain, negated, Atom, literal, variable, Sign, added, taken, Term, alone}
+use Rattle.syntax.specs.Tree.{remainder, Signed, Expr}
 use Rattle.syntax.specs.Tree.{Comparison, eq, ne, lt, le, gt, ge, Cond, only, or, Conj, just, and, Simple}
 use Rattle.syntax.specs.Tree.{negation, bracketed, constant, compare, Block, end, then, Stmt, assign, if-then}
 use Rattle.syntax.specs.Tree.{if-else, Region, Some, Method, Var, Monitor}
@@ -87,13 +88,18 @@ readSign =
     choose (isMark plus) (expect (isMark plus) >>= λ _. give added) (expect (isMark minus) >>= λ _. give taken)
 
 unfoldable pub readTerm : Reader Term
-readTerm = readSign >>= λ s. readAtom >>= λ a. give (record { sign = s; atom = a })
+readTerm =
+    readAtom >>= λ a.
+    choose (isKey k-mod) (expect (isKey k-mod) >>= λ _. readAtom >>= λ b. give (remainder a b)) (give (alone a))
+
+unfoldable pub readSigned : Reader Signed
+readSigned = readSign >>= λ s. readTerm >>= λ t. give (record { sign = s; term = t })
 
 unfoldable pub isSign : Lexeme → Bool
 isSign l = isMark plus l || isMark minus l
 
 unfoldable pub readExpr : ℕ → Reader Expr
-readExpr k = readAtom >>= λ a. readMany isSign readTerm k >>= λ ts. give (record { first = a; more = ts })
+readExpr k = readTerm >>= λ t. readMany isSign readSigned k >>= λ ts. give (record { first = t; more = ts })
 
 unfoldable pub readComparison : Reader Comparison
 readComparison =

@@ -26,7 +26,7 @@ firstKeyword = 32
 
 -- how many keywords there are
 abbrev pub keywordCount : ℕ
-keywordCount = 11
+keywordCount = 12
 
 -- past all kinds
 abbrev pub kindsEnd : ℕ

@@ -133,7 +133,7 @@ fn refused_html(refused: &Refused) -> String {
 
 fn file(input: &Input, sheet: Option<&Sheet>, tried: &[Tried], refused: Option<&(Refusal, Refused)>) -> String {
     let mut out = String::new();
-    let at = refused.filter(|(refusal, _)| (2..=8).contains(&refusal.number)).and_then(|(_, refused)| refused.at);
+    let at = refused.filter(|(refusal, _)| matches!(refusal.number, 2..=8 | 15)).and_then(|(_, refused)| refused.at);
     let broken = refused.filter(|(refusal, _)| refusal.number == 9).map(|(refusal, _)| refusal.first);
     if let Some((_, refused)) = refused {
         out.push_str(&refused_html(refused));

@@ -1,0 +1,95 @@
+-- The second program's small cases for remainders without a value in keep, a try or a guard, and that the definitions print the
+-- same. Made by tools/theorems.
+use Prim.Native.Nat.{ℕ}
+use mathlib.Core.Path.{_≡_, refl}
+use mathlib.Core.List.{List, [], _∷_, map}
+use Rattle.syntax.specs.Bytes.{bytes}
+use Rattle.meaning.proofs.Printing.{Case, whole, printing}
+
+unfoldable asked : List Case
+asked =
+    whole (bytes "monitor m { var x = 0 in 0..3; keep x mod 0 == 0; method m0 { waituntil (true) { } } }") ([])
+    ∷ whole (bytes "monitor m { var x = 0 in 0..3; keep x mod 000 == 0; method m0 { waituntil (true) { } } }") ([])
+    ∷ whole (bytes "monitor m { var x = 0 in 0..3; keep x mod -0 == 0; method m0 { waituntil (true) { } } }") ([])
+    ∷ whole (bytes "monitor m { var x = 0 in 0..3; keep x mod -2 == 0; method m0 { waituntil (true) { } } }") ([])
+    ∷ whole (bytes "monitor m { var x = 0 in 0..3; keep 0 < x mod -999; method m0 { waituntil (true) { } } }") ([])
+    ∷ whole (bytes "monitor m { var x = 0 in 0..3; keep 7 mod 0 == 7; method m0 { waituntil (true) { } } }") ([])
+    ∷ whole (bytes "monitor m { var x = 0 in 0..3; keep false && x mod 0 == 0; method m0 { waituntil (true) { } } }") ([])
+    ∷ whole (bytes "monitor m { var x = 0 in 0..3; keep true || x mod 0 == 0; method m0 { waituntil (true) { } } }") ([])
+    ∷ whole (bytes "monitor m { var x = 0 in 0..3; keep !(x mod 0 == 0); method m0 { waituntil (true) { } } }") ([])
+    ∷ whole (bytes "monitor m { var x = 0 in 0..3; keep x mod 2 == x mod 0; method m0 { waituntil (true) { } } }") ([])
+    ∷ whole (bytes "monitor m { var x = 0 in 0..3; keep x mod 1 + x mod -1 == 0; method m0 { waituntil (true) { } } }") ([])
+    ∷ whole (bytes "monitor m { var x = 0 in 0..3; keep x mod 0 == x mod 0; method m0 { waituntil (true) { } } }") ([])
+    ∷ whole (bytes "monitor m { var x = 0 in 0..1; var y = 1 in 0..1; keep x mod 1 == 0 && 1 mod y == 0 && 1 mod 0 == 0; method m0 { waituntil (true) { } } }") ([])
+    ∷ whole (bytes "monitor m { var x = 3 in 0..3; keep 7 mod x < 7; method m0 { waituntil (true) { } } }") ([])
+    ∷ whole (bytes "monitor m { var x = -1 in -2..-1; keep 7 mod x < 7; method m0 { waituntil (true) { } } }") ([])
+    ∷ whole (bytes "monitor m { var x = 1 in -1..1; keep 7 mod x < 7; method m0 { waituntil (true) { } } }") ([])
+    ∷ whole (bytes "monitor m { var x = 0 in 0..0; keep 7 mod x < 7; method m0 { waituntil (true) { } } }") ([])
+    ∷ whole (bytes "monitor m { var x = 1 in 0..3; keep x mod x == 0; method m0 { waituntil (true) { } } }") ([])
+    ∷ whole (bytes "monitor m { var x = 0 in 0..1; var y = 1 in 0..1; keep y > 0 && x mod y == 0; method m0 { waituntil (true) { } } }") ([])
+    ∷ whole (bytes "monitor m { var x = 0 in 0..3; keep true; method m0 { waituntil (x mod 0 == 0) { } } }") (bytes "000001\n")
+    ∷ whole (bytes "monitor m { var x = 0 in 0..1; var y = 1 in 0..1; keep true; method m0 { waituntil (x mod y == 0) { } } }") ([])
+    ∷ whole (bytes "monitor m { var x = 0 in 0..1; var y = 1 in 0..1; keep true; method m0 { waituntil (y > 0 && x mod y == 0) { } } }") ([])
+    ∷ whole (bytes "monitor m { var x = 0 in 0..1; var y = 1 in 0..1; keep y > 0; method m0 { waituntil (x mod y == 0) { } } }") ([])
+    ∷ whole (bytes "monitor m { var x = 0 in 0..1; var y = 1 in 0..1; keep y > 0; method m0 { waituntil (x mod 1 == 0) { } } method m1 { waituntil (x mod y == 0) { } } method m2 { waituntil (x mod y == 0) { } } }") ([])
+    ∷ whole (bytes "monitor m { var x = 0 in 0..1; var y = 1 in 0..1; keep true; try y > 0; method m0 { waituntil (x mod y == 0) { } } }") ([])
+    ∷ whole (bytes "monitor m { var x = 0 in 0..3; keep true; try x mod 0 == 0; method m0 { waituntil (true) { } } }") ([])
+    ∷ whole (bytes "monitor m { var x = 0 in 0..3; keep true; try true; try false && 1 mod 0 == 0; method m0 { waituntil (true) { } } }") ([])
+    ∷ whole (bytes "monitor m { var x = 0 in 0..1; var y = 1 in 0..1; keep true; try x == 1 && x mod y == 0; try true; method m0 { waituntil (true) { } } }") ([])
+    ∷ whole (bytes "monitor m { var x = 0 in 0..1; var y = 1 in 0..1; keep y == 1; try 1 mod y == 0; method m0 { waituntil (true) { } } }") ([])
+    ∷ whole (bytes "monitor m { var x = 0 in 0..3; keep x mod 2 == 0; try x mod 3 == 0; try x mod 0 == 0; method m0 { waituntil (x mod 0 == 0) { } } }") ([])
+    ∷ whole (bytes "monitor m { var x = 0 in 0..3; keep x mod 0 == 0; try x mod -1 == 0; method m0 { waituntil (x mod 0 == 0) { } } }") ([])
+    ∷ whole (bytes "monitor m { var x = 0 in 0..3; keep x mod 5 == 0; try x mod 3 == 0; method m0 { waituntil (x mod 2 == 0) { } } method m1 { waituntil (9 mod x == 0) { } } }") ([])
+    ∷ whole (bytes "monitor m { var x = 0 in 0..3; keep true; method m0 { waituntil (true) { x := 1 mod 0; } } method m1 { waituntil (x mod 0 == 0) { } } }") ([])
+    ∷ whole (bytes "monitor m { var x = 0 in 0..3; keep true; method m0 { waituntil (x == 0) { if (1 mod 0 == 0) { } } } method m1 { waituntil (x mod 0 == 0) { } } }") ([])
+    ∷ whole (bytes "monitor m { var x = 0 in 0..3; keep true; method m0 { waituntil (x mod 0 == 0) { x := 9; } } }") ([])
+    ∷ whole (bytes "monitor m { var x = 0 in 0..3; keep x == 1; method m0 { waituntil (x mod 0 == 0) { } } }") ([])
+    ∷ whole (bytes "monitor m { var x = 0 in 0..3; keep x == 1; try x mod 0 == 0; method m0 { waituntil (true) { } } }") ([])
+    ∷ whole (bytes "monitor m { var x = 0 in 0..1; var y = 1 in 0..1; keep y mod 2 == 0 && 1 mod y == 0; method m0 { waituntil (true) { } } }") ([])
+    ∷ []
+
+unfoldable told : List (List ℕ)
+told =
+    (bytes "0F00260000\n0F00260000\n")
+    ∷ (bytes "0F00260000\n0F00260000\n")
+    ∷ (bytes "0F00260000\n0F00260000\n")
+    ∷ (bytes "0F00260000\n0F00260000\n")
+    ∷ (bytes "0F002A0000\n0F002A0000\n")
+    ∷ (bytes "0F00260000\n0F00260000\n")
+    ∷ (bytes "0F002F0000\n0F002F0000\n")
+    ∷ (bytes "0F002E0000\n0F002E0000\n")
+    ∷ (bytes "0F00280000\n0F00280000\n")
+    ∷ (bytes "0F00310000\n0F00310000\n")
+    ∷ (bytes "0F00300000\n0F00300000\n")
+    ∷ (bytes "0F00260000\n0F00260000\n")
+    ∷ (bytes "0F00490000\n0F00490000\n")
+    ∷ (bytes "0F00260000\n0F00260000\n")
+    ∷ (bytes "0F00290000\n0F00290000\n")
+    ∷ (bytes "0F00270000\n0F00270000\n")
+    ∷ (bytes "0F00260000\n0F00260000\n")
+    ∷ (bytes "0F00260000\n0F00260000\n")
+    ∷ (bytes "0F00420000\n0F00420000\n")
+    ∷ (bytes "0F00430000\n0F00430000\n")
+    ∷ (bytes "0F00560000\n0F00560000\n")
+    ∷ (bytes "0F005F0000\n0F005F0000\n")
+    ∷ (bytes "0F00570000\n0F00570000\n")
+    ∷ (bytes "0F00820000\n0F00820000\n")
+    ∷ (bytes "0F00610000\n0F00610000\n")
+    ∷ (bytes "0F00300000\n0F00300000\n")
+    ∷ (bytes "0F00430000\n0F00430000\n")
+    ∷ (bytes "0F004D0000\n0F004D0000\n")
+    ∷ (bytes "0F00450000\n0F00450000\n")
+    ∷ (bytes "0F004A0000\n0F004A0000\n")
+    ∷ (bytes "0F00260000\n0F00260000\n")
+    ∷ (bytes "0F00880000\n0F00880000\n")
+    ∷ (bytes "0F00740000\n0F00740000\n")
+    ∷ (bytes "0F007E0000\n0F007E0000\n")
+    ∷ (bytes "0F00430000\n0F00430000\n")
+    ∷ (bytes "0F00450000\n0F00450000\n")
+    ∷ (bytes "0F00320000\n0F00320000\n")
+    ∷ (bytes "0F00490000\n0F00490000\n")
+    ∷ []
+
+same : map printing asked ≡ told
+unfolding asked told printing
+same = refl
