@@ -714,7 +714,7 @@ fn hostile_inputs() {
     with_stack(|| {
         let begun = Instant::now();
         let mut counts = Counts::default();
-        for input in hostile(44, 700) {
+        for input in hostile(44, 800) {
             compare(&input, &mut counts);
         }
         println!("{counts:?} in {:?}", begun.elapsed());

@@ -46,6 +46,7 @@ use Rattle.meaning.specs.Decide.Choice.{inSet, chosenTries}
 use Rattle.meaning.proofs.Choosing.{chosen-largest, one-largest, fates, chosen-members, chosen-small, kept-iff}
 use Rattle.meaning.proofs.Choosing.{no-tries, none-chosen}
 use Rattle.meaning.proofs.Remainders.{modulo-iff, one-remainder, modulo-none}
+use Rattle.meaning.proofs.Lacking.{lacks-iff}
 use Rattle.meaning.proofs.Unvalued.{keep-valued, try-valued, guard-valued, missing-iff}
 use Rattle.meaning.proofs.Faults.{not-keeps-iff}
 use Rattle.meaning.proofs.Sizes.{sizes}
@@ -402,6 +403,7 @@ demand-2 = record {
   accepts = accepted-iff;
   refuses = refused-iff;
   remainders = record { value = modulo-iff; only = one-remainder; missing = modulo-none };
+  both-sides = λ c vs as′. lacks-iff vs as′ c;
   have-values = λ m h. record {
     keep = λ as′ s. keep-valued m h s;
     tries = λ i c e as′ s. try-valued m h s i c e;

@@ -30,6 +30,7 @@ use Rattle.meaning.specs.Model.{vars, model, noGuard, regions, guards, region, 
 use Rattle.meaning.specs.Decide.Table.{tableOf}
 use Rattle.meaning.specs.Calls.{noticesOf, Machine, plain-machine, table-machine, Startable}
 use Rattle.meaning.specs.Decide.Calls.{runList}
+use Rattle.meaning.specs.Valued.{Missing}
 use Rattle.meaning.specs.Accepted.{Accepted, GoodRanges, NoneLacks, Meets, Keeps}
 use Rattle.meaning.specs.Faults.{BlockFaults}
 use Rattle.meaning.specs.Runs.{BlockRuns, State, IsRegion}
@@ -235,6 +236,9 @@ pub record Demand2 : Type 0 where
   pub refuses : (file : List ℕ) (a : Answer) → (check file ≡ refused a) ↔ Refusal file a
   -- (R 12.20)
   pub remainders : Remainders
+  -- "Both sides of `&&` and `||` are always evaluated": a condition has no value exactly where a remainder in it has none
+  -- (R 4.23, 4.24)
+  pub both-sides : (c : Cond) (vs : List Var) (as′ : List ℤ) → (condValue c vs as′ ≡ none) ↔ Missing c vs as′
   pub have-values : (m : Monitor) → NoneLacks m → HaveValues m
   -- "in some state of the ranges" is where the divisor, a number or the lowest value of a variable, is below 1 (R 6.37)
   pub divisors :

@@ -1,12 +1,15 @@
 -- Values that may be lacking: what lacks where parts do, as a Bool.
 use Prim.Native.Nat.{ℕ}
-use mathlib.Core.Path.{_≡_, refl, ap}
+use mathlib.Core.Path.{_≡_, refl, sym, ap, _∙_}
 use mathlib.Core.Bool.{Bool, true, false, not, _&&_, _||_}
 use mathlib.Core.Option.{Option, none, some}
 use Rattle.sets.specs.Set.{member}
 use Rattle.sets.proofs.SetLaws.{member-none}
 use Rattle.meaning.specs.Value.{ofOne, ofBoth, isTrue}
 use Rattle.evaluator.specs.Promises.{given}
+
+pub given-as : {A : Type 0} {p q : Bool} {a b : A} → p ≡ q → a ≡ b → given p a ≡ given q b
+given-as {q = q} {a = a} e f = ap (λ (p : Bool). given p a) e ∙ ap (given q) f
 
 pub of-one : {A B : Type 0} (f : A → B) (p : Bool) (a : A) → ofOne f (given p a) ≡ given p (f a)
 unfolding ofOne given
@@ -35,6 +38,15 @@ module _ {A : Type 0} where
   unfolding ofOne
   of-same f same none = refl
   of-same f same (some a) = ap some (same a)
+
+-- three parts, joined from the left or from the right
+pub of-chain : {A : Type 0} (f : A → A → A) → ((a b c : A) → f (f a b) c ≡ f a (f b c)) → (p q : Bool) (a b : A) (t : Option A)
+    → ofBoth f (given p a) (ofBoth f (given q b) t) ≡ ofBoth f (given (p || q) (f a b)) t
+unfolding ofBoth ofOne given
+of-chain f assoc true q a b t = refl
+of-chain f assoc false true a b t = refl
+of-chain f assoc false false a b none = refl
+of-chain f assoc false false a b (some c) = ap some (sym (assoc a b c))
 
 pub is-true : (p b : Bool) → isTrue (given p b) ≡ b && not p
 unfolding isTrue given

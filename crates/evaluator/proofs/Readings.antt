@@ -31,8 +31,8 @@ use Rattle.meaning.specs.Held.{Biased}
 use Rattle.evaluator.specs.Promises.{Next, frontKind, EndsTerm, EndsExpr, EndsConj, EndsWhole, operand, AtomRead}
 use Rattle.evaluator.specs.Promises.{Small, Adds, given, Remains, worth, signOf, Near, Joined, Sums, TermRead}
 use Rattle.evaluator.specs.Promises.{ExprRead, testOf, Truths, spellCompared, comparedValue, CompareRead}
-use Rattle.evaluator.specs.Promises.{SimpleRead, ConjRead, CondRead}
-use Rattle.evaluator.proofs.Lacking.{of-one, of-both, of-first, of-same, all-there}
+use Rattle.evaluator.specs.Promises.{SimpleRead, CondRead}
+use Rattle.evaluator.proofs.Lacking.{given-as, of-one, of-both, of-chain, of-first, of-same, all-there}
 use Rattle.evaluator.proofs.Numbers.{compares-worth, joined-zero, joined-parts}
 use Rattle.evaluator.proofs.Places.{front-is, behind, number-at, name-at, apart, kind-within}
 use Rattle.evaluator.proofs.Slots.{slot-value, slot-held}
@@ -653,10 +653,10 @@ module _ {ks values vars : List ℕ} where
 
 -- Conjunctions and conditions are chains: items joined by a mark
 
-record Chain {X Y : Type 0} (spellX : X → List Lexeme) (EndsX : List Lexeme → Type 0) (meansX : X → List Var → List ℤ
+pub record Chain {X Y : Type 0} (spellX : X → List Lexeme) (EndsX : List Lexeme → Type 0) (meansX : X → List Var → List ℤ
     → Option Bool)
     (spellY : Y → List Lexeme) (EndsY : List Lexeme → Type 0) (meansY : Y → List Var → List ℤ → Option Bool)
-    (m : Mark) (op : Bool → Bool → Bool) : Type 0 where
+    (m : Mark) (op : Bool → Bool → Bool) (unit : Bool) : Type 0 where
   -- one item, or an item, the mark and a chain
   split :
       (y : Y)
@@ -666,111 +666,118 @@ record Chain {X Y : Type 0} (spellX : X → List Lexeme) (EndsX : List Lexeme �
   item-ends : (us : List Lexeme) → EndsY us → EndsX us
   no-mark : (us : List Lexeme) → EndsY us → frontKind us ≡ kindOf (mark m) → ⊥
   mark-ends : (us : List Lexeme) → EndsX (mark m ∷ us)
+  unit-first : (b : Bool) → op unit b ≡ b
+  assoc : (a b c : Bool) → op (op a b) c ≡ op a (op b c)
 
-conj-chain : Chain spellSimple EndsExpr simpleValue spellConj EndsConj conjValue and-and _&&_
+pub conj-chain : Chain spellSimple EndsExpr simpleValue spellConj EndsConj conjValue and-and _&&_ true
 unfolding spellConj conjValue EndsConj markNumber
 conj-chain = record {
   split = elim [ just s ↦ inl (s, refl, refl) | and s c ↦ inr (s, c, refl, λ vs as′. refl) ];
   item-ends = λ us ends. ends .0;
   no-mark = λ us ends. ends .1;
   mark-ends = and-ends;
+  unit-first = λ b. refl;
+  assoc = elim [ true ↦ λ b c. refl | false ↦ λ b c. refl ];
 }
 
-cond-chain : Chain spellConj EndsConj conjValue spellCond EndsWhole condValue or-or _||_
+pub cond-chain : Chain spellConj EndsConj conjValue spellCond EndsWhole condValue or-or _||_ false
 unfolding spellCond condValue EndsWhole markNumber
 cond-chain = record {
   split = elim [ only c ↦ inl (c, refl, refl) | or c d ↦ inr (c, d, refl, λ vs as′. refl) ];
   item-ends = λ us ends. ends .0;
   no-mark = λ us ends. ends .1;
   mark-ends = or-ends;
+  unit-first = λ b. refl;
+  assoc = elim [ true ↦ λ b c. refl | false ↦ λ b c. refl ];
 }
+
+-- a chain from a place, of which the item at another comes next: what is read there, joined with what is held, is the
+-- whole
+pub record Linked {Y : Type 0} (spellY : Y → List Lexeme) (EndsY : List Lexeme → Type 0) (meansY : Y → List Var → List ℤ
+    → Option Bool)
+    (op : Bool → Bool → Bool) (ks values vars : List ℕ) (at : ℕ) (holds : List Bool) (lacks place : ℕ) : Type 0 where
+  pub from : at ≤ place
+  pub to : place ≤ length ks
+  pub whole :
+      (j : ℕ) → j < 16 → (vs : List Var) (as′ : List ℤ) (ls us : List Lexeme) (y : Y) → Codes vs ls ks values
+      → Biased vs as′ (lane vars j)
+      → drop at ls ≡ spellY y ++ us → EndsY us
+      → (z : Y) × (meansY y vs as′ ≡ ofBoth op (given (member lacks j) (getD holds j false)) (meansY z vs as′))
+      × (drop place ls ≡ spellY z ++ us)
 
 module _ {X Y : Type 0} {spellX : X → List Lexeme} {EndsX : List Lexeme → Type 0} {meansX : X → List Var → List ℤ
     → Option Bool}
     {spellY : Y → List Lexeme} {EndsY : List Lexeme → Type 0} {meansY : Y → List Var → List ℤ → Option Bool} {m : Mark}
-    {op : Bool → Bool → Bool}
-    (chain : Chain spellX EndsX meansX spellY EndsY meansY m op) {ks values vars : List ℕ} where
-  -- no mark behind the item
-  chain-one : {at n lacks : ℕ} {holds : List Bool} → Truths spellX EndsX meansX ks values vars at holds lacks n
-      → (getD ks n noKind ≡ kindOf (mark m) → ⊥)
-      → Truths spellY EndsY meansY ks values vars at holds lacks n
-  unfolding frontKind kindOf
-  chain-one {at} {n} {lacks} {holds} item none = record {
-    from = item .from;
-    to = item .to;
-    reads = λ j l vs as′ ls us y codes biased e ends.
-        ⊎-elim
-        (λ t. let one = item .reads j l vs as′ ls us (t .0) codes biased (e ∙ ap (λ z. z ++ us) (t .1))
-        (chain .item-ends us ends) in
-        (ap (λ f. f vs as′) (t .2) ∙ one .0, one .1))
-        (λ t. let one = item .reads j l vs as′ ls (mark m ∷ (spellY (t .1) ++ us)) (t .0) codes biased
-        (e ∙ ap (λ z. z ++ us) (t .2) ∙ append-assoc (spellX (t .0)) (mark m ∷ spellY (t .1)) us)
-        (chain .mark-ends (spellY (t .1) ++ us)) in
-        absurd (none (sym (front-is codes n refl (one .1)))))
-        (chain .split y);
+    {op : Bool → Bool → Bool} {unit : Bool}
+    (chain : Chain spellX EndsX meansX spellY EndsY meansY m op unit) {ks values vars : List ℕ} where
+  -- before the first item
+  pub chain-first : {at : ℕ} → at ≤ length ks → Linked spellY EndsY meansY op ks values vars at (replicate 16 unit) 0 at
+  unfolding ofBoth
+  chain-first within = record {
+    from = omega arith;
+    to = within;
+    whole = λ j l vs as′ ls us y codes biased e ends. (y, sym (start j l (meansY y vs as′)), e);
   }
+    where
+      start : (j : ℕ) → j < 16 → (t : Option Bool)
+          → ofBoth op (given (member 0 j) (getD (replicate 16 unit) j false)) t ≡ t
+      start j l t =
+          ap (λ s. ofBoth op s t) (all-there j (getD (replicate 16 unit) j false) ∙ ap some (getD-replicate 16 j unit false l))
+          ∙ of-same (op unit) (chain .unit-first) t
 
-  -- the mark, and a chain behind it
-  chain-more : {at n r n′ lacks lacks′ either : ℕ} {holds holds′ both : List Bool}
-      → Truths spellX EndsX meansX ks values vars at holds lacks n
-      → getD ks n noKind ≡ kindOf (mark m) → Next ks n r → Truths spellY EndsY meansY ks values vars r holds′ lacks′ n′
-      → ((j : ℕ) → j < 16 → getD both j false ≡ op (getD holds j false) (getD holds′ j false))
-      → ((u : ℕ) → member either u ≡ member lacks u || member lacks′ u)
-      → Truths spellY EndsY meansY ks values vars at both either n′
-  chain-more {n = n} {lacks = lacks} {lacks′ = lacks′} {holds = holds} {holds′ = holds′} {both = both} item kind next
-      more joins
-      lack = record {
-        from = omega (arith, item .from, next .from, more .from);
-        to = more .to;
-        reads = λ j l vs as′ ls us y codes biased e ends.
-            ⊎-elim
-            (λ t. let one = item .reads j l vs as′ ls us (t .0) codes biased (e ∙ ap (λ z. z ++ us) (t .1))
-            (chain .item-ends us ends) in
-            absurd (chain .no-mark us ends (front-is codes n kind (one .1))))
-            (λ t. let one = item .reads j l vs as′ ls (mark m ∷ (spellY (t .1) ++ us)) (t .0) codes biased
-            (e ∙ ap (λ z. z ++ us) (t .2) ∙ append-assoc (spellX (t .0)) (mark m ∷ spellY (t .1)) us)
-            (chain .mark-ends (spellY (t .1) ++ us)) in
-            let two = more .reads j l vs as′ ls us (t .1) codes biased (behind codes next (one .1)) ends in (
-              t .3 vs as′ ∙ ap (λ z. ofBoth op z (meansY (t .1) vs as′)) (one .0)
-                  ∙ ap (ofBoth op (given (member lacks j) (getD holds j false))) (two .0)
-                  ∙ of-both op (member lacks j) (member lacks′ j) (getD holds j false) (getD holds′ j false)
-                  ∙ ap (given (member lacks j || member lacks′ j)) (sym (joins j l))
-                  ∙ ap (λ p. given p (getD both j false)) (sym (lack j)),
-              two .1,
-            ))
-            (chain .split y);
-      }
+  module _ {at n place lacks lacks′ either : ℕ} {holds holds′ both : List Bool}
+      (linked : Linked spellY EndsY meansY op ks values vars at holds lacks place)
+      (item : Truths spellX EndsX meansX ks values vars place holds′ lacks′ n)
+      (joins : (j : ℕ) → j < 16 → getD both j false ≡ op (getD holds j false) (getD holds′ j false))
+      (lack : (u : ℕ) → member either u ≡ member lacks u || member lacks′ u) where
+    -- no mark behind the item
+    pub chain-last : (getD ks n noKind ≡ kindOf (mark m) → ⊥) → Truths spellY EndsY meansY ks values vars at both either n
+    unfolding frontKind kindOf
+    chain-last none = record {
+      from = omega (arith, linked .from, item .from);
+      to = item .to;
+      reads = λ j l vs as′ ls us y codes biased e ends.
+          let (z, means, here) = linked .whole j l vs as′ ls us y codes biased e ends in
+          ⊎-elim
+          (λ t. let one = item .reads j l vs as′ ls us (t .0) codes biased (here ∙ ap (λ z. z ++ us) (t .1))
+          (chain .item-ends us ends) in (
+            means ∙ ap (ofBoth op (given (member lacks j) (getD holds j false))) (ap (λ f. f vs as′) (t .2) ∙ one .0)
+                ∙ of-both op (member lacks j) (member lacks′ j) (getD holds j false) (getD holds′ j false)
+                ∙ given-as (sym (lack j)) (sym (joins j l)),
+            one .1,
+          ))
+          (λ t. let one = item .reads j l vs as′ ls (mark m ∷ (spellY (t .1) ++ us)) (t .0) codes biased
+          (here ∙ ap (λ z. z ++ us) (t .2) ∙ append-assoc (spellX (t .0)) (mark m ∷ spellY (t .1)) us)
+          (chain .mark-ends (spellY (t .1) ++ us)) in
+          absurd (none (sym (front-is codes n refl (one .1)))))
+          (chain .split z);
+    }
 
-module _ {ks values vars : List ℕ} where
-  pub conj-one : {at n lacks : ℕ} {holds : List Bool} → SimpleRead ks values vars at holds lacks n
-      → (getD ks n noKind ≡ kindOf (mark and-and) → ⊥) → ConjRead ks values vars at holds lacks n
-  unfolding markNumber
-  conj-one item none = chain-one conj-chain item none
-
-  pub conj-more : {at n r n′ lacks lacks′ either : ℕ} {holds holds′ both : List Bool}
-      → SimpleRead ks values vars at holds lacks n
-      → getD ks n noKind ≡ kindOf (mark and-and) → Next ks n r
-      → ConjRead ks values vars r holds′ lacks′ n′
-      → ((j : ℕ) → j < 16 → getD both j false ≡ getD holds j false && getD holds′ j false)
-      → ((u : ℕ) → member either u ≡ member lacks u || member lacks′ u)
-      → ConjRead ks values vars at both either n′
-  unfolding markNumber
-  conj-more item kind next more joins lack = chain-more conj-chain item kind next more joins lack
-
-  pub cond-one : {at n lacks : ℕ} {holds : List Bool} → ConjRead ks values vars at holds lacks n
-      → (getD ks n noKind ≡ kindOf (mark or-or) → ⊥) → CondRead ks values vars at holds lacks n
-  unfolding markNumber
-  cond-one item none = chain-one cond-chain item none
-
-  pub cond-more : {at n r n′ lacks lacks′ either : ℕ} {holds holds′ both : List Bool}
-      → ConjRead ks values vars at holds lacks n
-      → getD ks n noKind ≡ kindOf (mark or-or) → Next ks n r
-      → CondRead ks values vars r holds′ lacks′ n′
-      → ((j : ℕ) → j < 16 → getD both j false ≡ getD holds j false || getD holds′ j false)
-      → ((u : ℕ) → member either u ≡ member lacks u || member lacks′ u)
-      → CondRead ks values vars at both either n′
-  unfolding markNumber
-  cond-more item kind next more joins lack = chain-more cond-chain item kind next more joins lack
+    -- the mark, and more behind it
+    pub chain-more : {r : ℕ} → getD ks n noKind ≡ kindOf (mark m) → Next ks n r
+        → Linked spellY EndsY meansY op ks values vars at both either r
+    chain-more kind next = record {
+      from = omega (arith, linked .from, item .from, next .from);
+      to = next .to;
+      whole = λ j l vs as′ ls us y codes biased e ends.
+          let (z, means, here) = linked .whole j l vs as′ ls us y codes biased e ends in
+          ⊎-elim
+          (λ t. let one = item .reads j l vs as′ ls us (t .0) codes biased (here ∙ ap (λ z. z ++ us) (t .1))
+          (chain .item-ends us ends) in
+          absurd (chain .no-mark us ends (front-is codes n kind (one .1))))
+          (λ t. let one = item .reads j l vs as′ ls (mark m ∷ (spellY (t .1) ++ us)) (t .0) codes biased
+          (here ∙ ap (λ z. z ++ us) (t .2) ∙ append-assoc (spellX (t .0)) (mark m ∷ spellY (t .1)) us)
+          (chain .mark-ends (spellY (t .1) ++ us)) in (
+            t .1,
+            means ∙ ap (ofBoth op (given (member lacks j) (getD holds j false)))
+                (t .3 vs as′ ∙ ap (λ z. ofBoth op z (meansY (t .1) vs as′)) (one .0))
+                ∙ of-chain op (chain .assoc) (member lacks j) (member lacks′ j) (getD holds j false)
+                (getD holds′ j false) (meansY (t .1) vs as′)
+                ∙ ap (λ s. ofBoth op s (meansY (t .1) vs as′)) (given-as (sym (lack j)) (sym (joins j l))),
+            behind codes next (one .1),
+          ))
+          (chain .split z);
+    }
 
 -- what stands behind a condition in a file ends it
 pub condition-ends : (us : List Lexeme) → EndsCond us → EndsWhole us

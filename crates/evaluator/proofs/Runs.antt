@@ -1,6 +1,6 @@
 -- Runs of blocks and statements in the lanes of a set, one law for each way that the code goes: what is run from a
 -- place from what was read and run at its parts.
-use Prim.Native.Nat.{ℕ, suc, _+_, _-_, _<_}
+use Prim.Native.Nat.{ℕ, zero, suc, _+_, _-_, _<_, _≤_}
 use native.Mathlib.Omega.{arith}
 use mathlib.Core.Path.{_≡_, refl, sym, ap, _∙_, subst}
 use mathlib.Core.Bool.{Bool, true, false, not, _&&_, cond, and-true, and-false}
@@ -9,7 +9,6 @@ use mathlib.Core.Option.{Option, none, some}
 use lib.ListN.{length, getD, drop, replicate, length-drop, length-append, getD-replicate}
 use lib.IntN.{ℤ}
 use Rattle.sets.specs.Set.{member}
-use Rattle.sets.proofs.SetLaws.{member-none}
 use Rattle.syntax.specs.Token.{Lexeme, key, mark, rbrace, rparen, semicolon, k-else, k-if}
 use Rattle.syntax.specs.Decide.Lexeme.{markNumber, keywordNumber}
 use Rattle.syntax.specs.Held.Kind.{kindOf, nameKind, noKind}
@@ -96,7 +95,7 @@ side false h o p = refl
 
 module _ {ks values lows highs vars : List ℕ} {on : List Bool} where
   -- no statement
-  pub block-end : (at : ℕ) → length vars ≡ 96 → (getD ks at noKind ≡ nameKind → ⊥)
+  block-end : (at : ℕ) → length vars ≡ 96 → (getD ks at noKind ≡ nameKind → ⊥)
       → (getD ks at noKind ≡ kindOf (key k-if) → ⊥)
       → BlockRun ks values lows highs vars on at (replicate 16 true) vars
   unfolding spellBlock runBlock RunAs
@@ -117,7 +116,7 @@ module _ {ks values lows highs vars : List ℕ} {on : List Bool} where
           ∙ stmt-front s (spellBlock b ++ (mark rbrace ∷ us)))
 
   -- the statements behind the first go on from its values
-  pub block-more : {at n : ℕ} {held held′ : List ℕ} {ok ok′ both : List Bool}
+  block-more : {at n : ℕ} {held held′ : List ℕ} {ok ok′ both : List Bool}
       → StmtRun ks values lows highs vars on at ok held n
       → (getD ks at noKind ≡ kindOf (mark rbrace) → ⊥) → BlockRun ks values lows highs held on n ok′ held′
       → ((j : ℕ) → j < 16 → getD both j false ≡ getD ok j false && getD ok′ j false)
@@ -143,6 +142,73 @@ module _ {ks values lows highs vars : List ℕ} {on : List Bool} where
           (λ bs. cond (getD on j false) (runBlock b vs bs) (some bs)) (t .0)
           (λ bs held-so. rest .runs j l vs bs ls us b codes held-so ranges (t .1)) (joins j l))
 
+-- A block begun: what is run from the place on, behind what ran without a fault so far, is the whole run
+
+pub record Begun (ks values lows highs vars : List ℕ) (on : List Bool) (at : ℕ) (held : List ℕ) (ok : List Bool)
+    (place : ℕ) : Type 0 where
+  pub from : at ≤ place
+  pub to : place ≤ length ks
+  pub long : length held ≡ 96
+  pub whole-run : (held′ : List ℕ) (ok′ both : List Bool) → BlockRun ks values lows highs held on place ok′ held′
+      → ((j : ℕ) → j < 16 → getD both j false ≡ getD ok j false && getD ok′ j false)
+      → BlockRun ks values lows highs vars on at both held′
+
+inBoth : List Bool → List Bool → List Bool
+inBoth [] bs = []
+inBoth (a ∷ as′) [] = []
+inBoth (a ∷ as′) (b ∷ bs) = (a && b) ∷ inBoth as′ bs
+
+in-both : (as′ bs : List Bool) (j : ℕ) → getD (inBoth as′ bs) j false ≡ getD as′ j false && getD bs j false
+unfolding inBoth
+in-both [] bs j = refl
+in-both (a ∷ as′) [] j = sym (and-false (getD (a ∷ as′) j false))
+in-both (a ∷ as′) (b ∷ bs) zero = refl
+in-both (a ∷ as′) (b ∷ bs) (suc j) = in-both as′ bs j
+
+and-assoc : (a b c : Bool) → (a && b) && c ≡ a && (b && c)
+and-assoc true b c = refl
+and-assoc false b c = refl
+
+module _ {ks values lows highs vars : List ℕ} {on : List Bool} {at : ℕ} where
+  pub begun-first : at ≤ length ks → length vars ≡ 96
+      → Begun ks values lows highs vars on at vars (replicate 16 true) at
+  begun-first within long = record {
+    from = omega arith;
+    to = within;
+    long = long;
+    whole-run = λ held′ ok′ both rest joins. record {
+      long = rest .long;
+      runs = λ j l vs as′ ls us b codes biased ranges e.
+          subst (λ (h : Bool). RunAs vs h (lane held′ j) (cond (getD on j false) (runBlock b vs as′) (some as′)))
+          (sym (joins j l ∙ ap (λ (h : Bool). h && getD ok′ j false) (getD-replicate 16 j true false l)))
+          (rest .runs j l vs as′ ls us b codes biased ranges e);
+    };
+  }
+
+  module _ {held : List ℕ} {ok : List Bool} {place : ℕ}
+      (begun : Begun ks values lows highs vars on at held ok place) where
+    pub begun-last : (getD ks place noKind ≡ nameKind → ⊥) → (getD ks place noKind ≡ kindOf (key k-if) → ⊥)
+        → BlockRun ks values lows highs vars on at ok held
+    begun-last no-name no-if =
+        begun .whole-run held (replicate 16 true) ok (block-end place (begun .long) no-name no-if)
+        (λ j l. sym (ap (_&&_ (getD ok j false)) (getD-replicate 16 j true false l) ∙ and-true (getD ok j false)))
+
+    pub begun-more : {n : ℕ} {held′ : List ℕ} {first both : List Bool}
+        → StmtRun ks values lows highs held on place first held′ n
+        → (getD ks place noKind ≡ kindOf (mark rbrace) → ⊥)
+        → ((j : ℕ) → j < 16 → getD both j false ≡ getD ok j false && getD first j false)
+        → Begun ks values lows highs vars on at held′ both n
+    begun-more {first = first} stmt more joins = record {
+      from = omega (arith, begun .from, stmt .from);
+      to = stmt .to;
+      long = stmt .long;
+      whole-run = λ held″ ok′ all rest joins′.
+          begun .whole-run held″ (inBoth first ok′) all (block-more stmt more rest (λ j l. in-both first ok′ j))
+          (λ j l. joins′ j l ∙ ap (λ (h : Bool). h && getD ok′ j false) (joins j l)
+          ∙ and-assoc (getD ok j false) (getD first j false) (getD ok′ j false)
+          ∙ ap (_&&_ (getD ok j false)) (sym (in-both first ok′ j)));
+    }
+
 -- Statements
 
 -- one run or the other, as `runStmt` chooses
@@ -152,15 +218,6 @@ choose o p t = elim t [ true ↦ o | false ↦ p ]
 chosen : (h : Bool) (o p : Option (List ℤ)) → cond h o p ≡ choose o p h
 chosen true o p = refl
 chosen false o p = refl
-
--- where nothing lacks, nothing changes
-pub no-fault : (a b : Bool) → a ≡ a && not (b && false)
-no-fault true true = refl
-no-fault true false = refl
-no-fault false b = refl
-
-pub none-lack : (on ok : List Bool) (j : ℕ) → getD ok j false ≡ getD ok j false && not (getD on j false && member 0 j)
-none-lack on ok j = rw (member-none j) (no-fault (getD ok j false) (getD on j false))
 
 -- a lane of the set that lacks a value has a fault, and else what follows from the value
 lacking : {A : Type 0} (vs : List Var) (ok : Bool) {ok′ : Bool} (on p : Bool) (held : List ℕ) (as′ : List ℤ) (a : A)

@@ -1,6 +1,6 @@
 -- What the evaluator's inner functions promise: bounds on places and sums for any tokens, and in each lane, for tokens
 -- that a tree spells, its meaning and the place behind it. The lanes in which the tree lacks a value are a set.
-use Prim.Native.Nat.{ℕ, suc, _+_, _-_, _*_, _%_, _<_, _≤_}
+use Prim.Native.Nat.{ℕ, suc, _+_, _-_, _*_, _<_, _≤_}
 use mathlib.Core.Path.{_≡_}
 use mathlib.Core.Bool.{Bool, true, false, not, _||_, cond}
 use mathlib.Core.List.{List, [], _∷_, _++_}
@@ -95,18 +95,9 @@ unfoldable pub given : {A : Type 0} → Bool → A → Option A
 given true a = none
 given false a = some a
 
--- the remainder of p less m by b
-unfoldable pub rest : ℕ → ℕ → ℕ → ℕ
-rest p m b = (p + (b - m % b)) % b
-
 -- a lane holds what variables may have
 pub record Held (vars : List ℕ) (j : ℕ) : Type 0 where
   pub each : (k : ℕ) → getD (lane vars j) k 0 ≤ 255
-
--- an operand's remainders by a number
-pub record RestsBy (vars : List ℕ) (slot p m b : ℕ) (rests : List ℕ) : Type 0 where
-  pub small : Small rests
-  pub is : (j : ℕ) → j < 16 → Held vars j → getD rests j 0 ≡ rest (operand (lane vars j) slot p) m b
 
 -- remainders of one operand by another, and the lanes that lack one
 pub record Remains (vars : List ℕ) (slot p m slot′ p′ m′ : ℕ) (rests : List ℕ) (lacks : ℕ) : Type 0 where

@@ -6,11 +6,10 @@
 // has no `mod` pays little for that: an expression is summed up as if it had none (`eval_plain`), and where it meets
 // one its comparison or assignment begins again (`compare_mod`, `assign_mod`); where truths are joined, so is a word.
 ghost use mathlib.Core.Path.{_≡_};
-ghost use mathlib.Core.Bool.{not, _&&_, _||_, cond, false};
+ghost use mathlib.Core.Bool.{cond, false};
 ghost use mathlib.Core.List.{List, _∷_, _++_};
-ghost use Prim.Native.Nat.{ℕ, _+_, _-_, _/_, _%_, _<_, _≤_};
+ghost use Prim.Native.Nat.{ℕ, _+_, _-_, _%_, _<_, _≤_};
 ghost use lib.ListN.{drop, length, getD, set};
-ghost use lib.Dec.{ltb};
 ghost use lib.IntN.{ℤ};
 ghost use Rattle.sets.specs.Set.{member};
 ghost use Rattle.syntax.specs.Limits.{mostVars};
@@ -21,7 +20,7 @@ ghost use Rattle.meaning.specs.Value.{truth};
 ghost use Rattle.meaning.specs.Decide.Bodies.{runBlock};
 ghost use Rattle.meaning.specs.Held.{Biased, Ranges};
 ghost use Rattle.evaluator.specs.Coding.{Codes, EndsCond, RunAs, lane};
-ghost use Rattle.evaluator.specs.Promises.{Placed, Next, Closes, Operand, AtomRead, Small, Adds, rest, RestsBy};
+ghost use Rattle.evaluator.specs.Promises.{Placed, Next, Closes, Operand, AtomRead, Small, Adds};
 ghost use Rattle.evaluator.specs.Promises.{Remains, Near, Joined, TermRead, ExprRead, AtomSum, PlainRead, testOf};
 ghost use Rattle.evaluator.specs.Promises.{CompareRead, CondRead, ConjRead, SimpleRead, Stored, BlockRun};
 ghost use Rattle.evaluator.specs.Promises.{StmtRun, BranchRun};
@@ -36,12 +35,6 @@ struct Atom {
     plus: u32,
     minus: u32,
     next: usize,
-}
-
-// A remainder in each lane, and the lanes that lack one.
-struct Rests {
-    lanes: [u32; 16],
-    lacks: u16,
 }
 
 // The value of an expression in each lane, the lanes that lack one, and the token behind it.
@@ -170,64 +163,6 @@ fn moved(lanes: [u32; 16], plus: [u32; 16], minus: [u32; 16]) -> [u32; 16]
     sums
 }
 
-// The lanes of one set that another has not.
-fn unless(a: [bool; 16], b: [bool; 16]) -> [bool; 16]
-    ensures { λ r. ⌜ ((j : ℕ) → j < 16 → getD r j false ≡ getD a j false && not (getD b j false)) ⌝ }
-{
-    let mut set = [false; 16];
-    let mut j: usize = 0;
-    while j < 16 {
-        set[j] = a[j] & !b[j];
-        j += 1;
-    }
-    set
-}
-
-fn other(a: [bool; 16]) -> [bool; 16]
-    ensures { λ r. ⌜ ((j : ℕ) → j < 16 → getD r j false ≡ not (getD a j false)) ⌝ }
-{
-    unless([true; 16], a)
-}
-
-fn both(a: [bool; 16], b: [bool; 16]) -> [bool; 16]
-    ensures { λ r. ⌜ ((j : ℕ) → j < 16 → getD r j false ≡ getD a j false && getD b j false) ⌝ }
-{
-    unless(a, other(b))
-}
-
-fn union(a: [bool; 16], b: [bool; 16]) -> [bool; 16]
-    ensures { λ r. ⌜ ((j : ℕ) → j < 16 → getD r j false ≡ getD a j false || getD b j false) ⌝ }
-{
-    other(unless(other(a), b))
-}
-
-// The set of lanes as bits.
-fn mask(lanes: [bool; 16]) -> u16
-    ensures { λ r. ⌜ ((j : ℕ) → j < 16 → member r j ≡ getD lanes j false) ⌝ }
-{
-    let mut set: u16 = 0;
-    let mut j: u32 = 0;
-    while j < 16 {
-        if lanes[j as usize] {
-            set = sets::with(set, j);
-        }
-        j += 1;
-    }
-    set
-}
-
-fn below(a: [u32; 16], b: [u32; 16]) -> [bool; 16]
-    ensures { λ r. ⌜ ((j : ℕ) → j < 16 → getD r j false ≡ ltb (getD a j 0) (getD b j 0)) ⌝ }
-{
-    let mut set = [false; 16];
-    let mut j: usize = 0;
-    while j < 16 {
-        set[j] = a[j] < b[j];
-        j += 1;
-    }
-    set
-}
-
 // Sums with what a term adds less what it takes away, added in each lane or taken away.
 fn joined(lanes: [u32; 16], taken: bool, plus: [u32; 16], minus: u32) -> [u32; 16]
     requires { ⌜ Near 8192 lanes ⌝ }
@@ -242,93 +177,8 @@ fn joined(lanes: [u32; 16], taken: bool, plus: [u32; 16], minus: u32) -> [u32; 1
     moved(lanes, plus, all)
 }
 
-// The remainder of one number less another by a third less a fourth, and 0 where that is below 1.
-fn remainder(plus: u32, minus: u32, by: u32, less: u32) -> u32
-    requires { ⌜ (plus ≤ 65535) × (minus ≤ 65535) × (by ≤ 65535) ⌝ }
-    ensures { λ r. ⌜ r ≡ cond (ltb less by) (rest plus minus (by - less)) 0 ⌝ }
-{
-    if less < by {
-        let divisor = by - less;
-        return (plus + (divisor - minus % divisor)) % divisor;
-    }
-    0
-}
-
-// Remainders by a divisor that differs from lane to lane.
-fn by_lanes(plus: [u32; 16], minus: u32, by: [u32; 16], less: u32) -> Rests
-    requires { ⌜ Small plus × (minus ≤ 65535) × Small by ⌝ }
-    ensures { λ r. ⌜ ((j : ℕ) → j < 16 → (member (r .lacks) j ≡ not (ltb less (getD by j 0)))
-        × (getD (r .lanes) j 0 ≡ cond (ltb less (getD by j 0)) (rest (getD plus j 0) minus (getD by j 0 - less)) 0)) ⌝ }
-{
-    let mut lanes = [0u32; 16];
-    let mut j: usize = 0;
-    while j < 16 {
-        lanes[j] = remainder(plus[j], minus, by[j], less);
-        j += 1;
-    }
-    let lacks = mask(other(below([less; 16], by)));
-    Rests { lanes, lacks }
-}
-
-// The remainder of a small number, with a multiplication in the place of a division: `times` is 65,536 by the divisor
-// and one more.
-fn cast_out(x: u32, by: u32, times: u32) -> u32
-    requires { ⌜ (0 < by) × (by ≤ 128) × (x ≤ 255 + by) × (times ≡ 65536 / by + 1) ⌝ }
-    ensures { λ r. ⌜ r ≡ x % by ⌝ }
-{
-    x - x * times / 65536 * by
-}
-
-// Remainders of a variable's values by a number up to 128. The values have 128 added, and `more` makes that a multiple
-// of the divisor.
-fn by_small(lanes: [u32; 16], by: u32) -> [u32; 16]
-    requires { ⌜ (0 < by) × (by ≤ 128) ⌝ }
-    ensures { λ r. ⌜ ((j : ℕ) → j < 16 → getD r j 0 ≡ rest (getD lanes j 0 % 256) 128 by) ⌝ }
-{
-    let times = 65536 / by + 1;
-    let more = by - 128 % by;
-    let mut rests = [0u32; 16];
-    let mut j: usize = 0;
-    while j < 16 {
-        rests[j] = cast_out(lanes[j] % 256 + more, by, times);
-        j += 1;
-    }
-    rests
-}
-
-// Remainders of a variable's values by a number above 128: each value is less than that away from 0.
-fn by_large(lanes: [u32; 16], by: u32) -> [u32; 16]
-    requires { ⌜ (128 < by) × (by ≤ 65535) ⌝ }
-    ensures { λ r. ⌜ ((j : ℕ) → j < 16 → getD r j 0 ≡ rest (getD lanes j 0 % 256) 128 by) ⌝ }
-{
-    let mut rests = [0u32; 16];
-    let mut j: usize = 0;
-    while j < 16 {
-        let x = lanes[j] % 256;
-        rests[j] = if x < 128 { x + (by - 128) } else { x - 128 };
-        j += 1;
-    }
-    rests
-}
-
-// Remainders by a number.
-fn by_number(vars: &[u16; 96], left: Atom, by: u32) -> [u32; 16]
-    requires { ⌜ (0 < by) × (by ≤ 65535) ⌝ }
-    requires { ⌜ Operand (left .slot) (left .plus) (left .minus) ⌝ }
-    ensures { λ r. ⌜ RestsBy (now (vars .entry)) (left .slot) (left .plus) (left .minus) by r ⌝ }
-{
-    if left.slot < syntax::VARIABLES {
-        let lanes = operands(vars, left.slot, left.plus);
-        if by <= 128 {
-            return by_small(lanes, by);
-        }
-        return by_large(lanes, by);
-    }
-    [remainder(left.plus, left.minus, by, 0); 16]
-}
-
 // The remainders of one operand by another.
-fn divide(vars: &[u16; 96], left: Atom, right: Atom) -> Rests
+fn divide(vars: &[u16; 96], left: Atom, right: Atom) -> sixteen::Rests
     requires { ⌜ Operand (left .slot) (left .plus) (left .minus) ⌝ }
     requires { ⌜ Operand (right .slot) (right .plus) (right .minus) ⌝ }
     ensures { λ r. ⌜ Remains (now (vars .entry)) (left .slot) (left .plus) (left .minus) (right .slot) (right .plus)
@@ -337,18 +187,13 @@ fn divide(vars: &[u16; 96], left: Atom, right: Atom) -> Rests
     if right.slot < syntax::VARIABLES {
         let one = operands(vars, left.slot, left.plus);
         let two = operands(vars, right.slot, right.plus);
-        return by_lanes(one, left.minus, two, right.minus);
+        return sixteen::by_lanes(one, left.minus, two, right.minus);
     }
-    if right.minus < right.plus {
-        return Rests {
-            lanes: by_number(vars, left, right.plus - right.minus),
-            lacks: 0,
-        };
+    if left.slot < syntax::VARIABLES {
+        let lanes = operands(vars, left.slot, left.plus);
+        return sixteen::by_number(lanes, right.plus, right.minus);
     }
-    Rests {
-        lanes: [0; 16],
-        lacks: 65535,
-    }
+    sixteen::of_number(left.plus, left.minus, right.plus, right.minus)
 }
 
 // What is summed up to a term, with the term added or taken away.
@@ -472,22 +317,22 @@ fn compare(kind: u8, a: [u32; 16], b: [u32; 16]) -> [bool; 16]
     ensures { λ r. ⌜ ((j : ℕ) → j < 16 → getD r j false ≡ testOf kind (getD a j 0) (getD b j 0)) ⌝ }
 {
     if kind == syntax::BELOW {
-        return below(a, b);
+        return sixteen::below(a, b);
     }
     if kind == syntax::ABOVE {
-        return below(b, a);
+        return sixteen::below(b, a);
     }
     if kind == syntax::AT_MOST {
-        return other(below(b, a));
+        return sixteen::other(sixteen::below(b, a));
     }
     if kind == syntax::AT_LEAST {
-        return other(below(a, b));
+        return sixteen::other(sixteen::below(a, b));
     }
-    let differ = union(below(a, b), below(b, a));
+    let differ = sixteen::union(sixteen::below(a, b), sixteen::below(b, a));
     if kind == syntax::DIFFERS {
         return differ;
     }
-    other(differ)
+    sixteen::other(differ)
 }
 
 fn test(kind: u8, a: u32, b: u32) -> bool
@@ -588,23 +433,25 @@ fn eval_cond(kinds: &[u8], values: &[u16], vars: &[u16; 96], at: usize) -> Truth
     ensures { λ r. ⌜ CondRead (now (kinds .entry)) (now (values .entry)) (now (vars .entry)) at (r .holds) (r .lacks)
         (r .next) ⌝ }
 {
-    let conj = eval_conj(kinds, values, vars, at);
-    if kind_at(kinds, conj.next) == syntax::OR_OR {
-        let next = after(kinds, conj.next);
-        let more = eval_cond(kinds, values, vars, next);
-        let a = conj.holds;
-        let b = more.holds;
-        return Truth {
-            holds: union(a, b),
-            lacks: sets::union(conj.lacks, more.lacks),
-            next: more.next,
-        };
-    }
-    let holds = conj.holds;
-    Truth {
-        holds,
-        lacks: conj.lacks,
-        next: conj.next,
+    let mut holds = [false; 16];
+    let mut lacks: u16 = 0;
+    let mut place = at;
+    loop {
+        let conj = eval_conj(kinds, values, vars, place);
+        let one = conj.holds;
+        let all = sixteen::union(holds, one);
+        let missing = sets::union(lacks, conj.lacks);
+        holds = all;
+        lacks = missing;
+        if kind_at(kinds, conj.next) == syntax::OR_OR {
+            place = after(kinds, conj.next);
+        } else {
+            return Truth {
+                holds,
+                lacks,
+                next: conj.next,
+            };
+        }
     }
 }
 
@@ -613,23 +460,25 @@ fn eval_conj(kinds: &[u8], values: &[u16], vars: &[u16; 96], at: usize) -> Truth
     ensures { λ r. ⌜ ConjRead (now (kinds .entry)) (now (values .entry)) (now (vars .entry)) at (r .holds) (r .lacks)
         (r .next) ⌝ }
 {
-    let simple = eval_simple(kinds, values, vars, at);
-    if kind_at(kinds, simple.next) == syntax::AND_AND {
-        let next = after(kinds, simple.next);
-        let more = eval_conj(kinds, values, vars, next);
-        let a = simple.holds;
-        let b = more.holds;
-        return Truth {
-            holds: both(a, b),
-            lacks: sets::union(simple.lacks, more.lacks),
-            next: more.next,
-        };
-    }
-    let holds = simple.holds;
-    Truth {
-        holds,
-        lacks: simple.lacks,
-        next: simple.next,
+    let mut holds = [true; 16];
+    let mut lacks: u16 = 0;
+    let mut place = at;
+    loop {
+        let simple = eval_simple(kinds, values, vars, place);
+        let one = simple.holds;
+        let all = sixteen::both(holds, one);
+        let missing = sets::union(lacks, simple.lacks);
+        holds = all;
+        lacks = missing;
+        if kind_at(kinds, simple.next) == syntax::AND_AND {
+            place = after(kinds, simple.next);
+        } else {
+            return Truth {
+                holds,
+                lacks,
+                next: simple.next,
+            };
+        }
     }
 }
 
@@ -644,7 +493,7 @@ fn eval_simple(kinds: &[u8], values: &[u16], vars: &[u16; 96], at: usize) -> Tru
         let simple = eval_simple(kinds, values, vars, next);
         let a = simple.holds;
         return Truth {
-            holds: other(a),
+            holds: sixteen::other(a),
             lacks: simple.lacks,
             next: simple.next,
         };
@@ -691,7 +540,7 @@ pub fn holds(kinds: &[u8], values: &[u16], vars: &[u16; 96], at: usize) -> u16
     }
     let cond = eval_cond(kinds, values, vars, at);
     let lanes = cond.holds;
-    sets::minus(mask(lanes), cond.lacks)
+    sets::minus(sixteen::mask(lanes), cond.lacks)
 }
 
 // The new value in the lanes of a set, with 128 added, and the old one in the others.
@@ -738,37 +587,13 @@ fn store(
     if slot < syntax::VARIABLES {
         let low = [wide(lows[slot]) + (ZERO - 128); 16];
         let high = [wide(highs[slot]) + (ZERO - 128); 16];
-        let out = union(below(sums, low), below(high, sums));
-        let ok = other(both(on, out));
+        let out = sixteen::union(sixteen::below(sums, low), sixteen::below(high, sums));
+        let ok = sixteen::other(sixteen::both(on, out));
         let old = operands(vars, slot, 0);
         put(vars, slot, merged(on, sums, old));
         return ok;
     }
-    other(on)
-}
-
-// The set of bits as lanes.
-fn spread(set: u16) -> [bool; 16]
-    ensures { λ r. ⌜ ((j : ℕ) → j < 16 → getD r j false ≡ member set j) ⌝ }
-{
-    let mut lanes = [false; 16];
-    let mut j: u32 = 0;
-    while j < 16 {
-        lanes[j as usize] = sets::has(set, j);
-        j += 1;
-    }
-    lanes
-}
-
-// The lanes with no fault, once those of a set that lack a value have one.
-fn faulted(ok: [bool; 16], on: [bool; 16], lacks: u16) -> [bool; 16]
-    ensures { λ r. ⌜ ((j : ℕ) → j < 16
-        → getD r j false ≡ getD ok j false && not (getD on j false && member lacks j)) ⌝ }
-{
-    if lacks == 0 {
-        return ok;
-    }
-    unless(ok, both(on, spread(lacks)))
+    sixteen::other(on)
 }
 
 // The closing brace of the block that opens at a token, or the end where what is held is none.
@@ -809,7 +634,7 @@ fn assign_mod(
     let assigned = value_at(values, at) as usize;
     let lanes = sum.lanes;
     let stored = store(lows, highs, vars, on, assigned, lanes);
-    let ok = faulted(stored, on, sum.lacks);
+    let ok = sixteen::faulted(stored, on, sum.lacks);
     Step { ok, next }
 }
 
@@ -828,17 +653,22 @@ fn run_block(
     ensures { λ r. ⌜ BlockRun (now (kinds .entry)) (now (values .entry)) lows highs (now (vars .entry)) on at
         r (now (vars .exit)) ⌝ }
 {
-    let kind = kind_at(kinds, at);
-    if kind == syntax::RBRACE {
-        return [true; 16];
+    let mut ok = [true; 16];
+    let mut place = at;
+    loop {
+        let kind = kind_at(kinds, place);
+        if kind == syntax::RBRACE {
+            return ok;
+        }
+        if kind == syntax::NO_KIND {
+            return ok;
+        }
+        let one = run_stmt(kinds, values, lows, highs, vars, on, place);
+        let first = one.ok;
+        let all = sixteen::both(ok, first);
+        ok = all;
+        place = one.next;
     }
-    if kind == syntax::NO_KIND {
-        return [true; 16];
-    }
-    let one = run_stmt(kinds, values, lows, highs, vars, on, at);
-    let first = one.ok;
-    let more = run_block(kinds, values, lows, highs, vars, on, one.next);
-    both(first, more)
 }
 
 fn run_stmt(
@@ -865,7 +695,7 @@ fn run_stmt(
         let step = run_branch(kinds, values, lows, highs, vars, on, open, holds);
         let ran = step.ok;
         return Step {
-            ok: faulted(ran, on, cond.lacks),
+            ok: sixteen::faulted(ran, on, cond.lacks),
             next: step.next,
         };
     }
@@ -900,15 +730,31 @@ fn run_branch(
     let close = close_of(kinds, values, brace);
     let next = after(kinds, close);
     let first = after(kinds, brace);
-    let ok = run_block(kinds, values, lows, highs, vars, both(on, holds), first);
+    let ok = run_block(
+        kinds,
+        values,
+        lows,
+        highs,
+        vars,
+        sixteen::both(on, holds),
+        first,
+    );
     if kind_at(kinds, next) == syntax::KEY_ELSE {
         let open = after(kinds, next);
         let last = close_of(kinds, values, open);
         let behind = after(kinds, last);
         let second = after(kinds, open);
-        let more = run_block(kinds, values, lows, highs, vars, unless(on, holds), second);
+        let more = run_block(
+            kinds,
+            values,
+            lows,
+            highs,
+            vars,
+            sixteen::unless(on, holds),
+            second,
+        );
         return Step {
-            ok: both(ok, more),
+            ok: sixteen::both(ok, more),
             next: behind,
         };
     }
@@ -943,6 +789,6 @@ pub fn run_body(
         };
     }
     let lanes = run_block(kinds, values, lows, highs, &mut ended, [true; 16], at);
-    let ok = mask(lanes);
+    let ok = sixteen::mask(lanes);
     Ran { ok, values: ended }
 }

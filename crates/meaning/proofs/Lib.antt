@@ -17,6 +17,7 @@ pub mod BodyLaws
 pub mod Alike
 pub mod Faults
 pub mod SameGuards
+pub mod Lacking
 pub mod Unvalued
 pub mod Judged
 pub mod Searching

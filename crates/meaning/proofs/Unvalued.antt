@@ -1,31 +1,30 @@
 -- 15: the pass over the tokens finds the first `mod` of keep, a try or a guard that lacks a value in some state. Where a
 -- `mod` stands is told from the text, part by part; a divisor can be below 1 exactly where it is so at the lowest values.
 -- Where none lacks one, every condition of keep, a try or a guard has a value at every state.
-use Prim.Native.Nat.{ℕ, zero, suc}
+use Prim.Native.Nat.{ℕ}
 use mathlib.Core.Path.{_≡_, refl, sym, ap, subst, _∙_}
 use mathlib.Core.Bool.{Bool, true, false, not, _&&_, _||_, false≢true}
 use mathlib.Core.Logic.{_⊎_, inl, inr, ⊎-elim, _↔_}
 use mathlib.Core.List.{List, [], _∷_, _++_, append-nil, append-assoc, append-cancel-left, head-eq-of-cons-eq}
 use mathlib.Core.List.{tail-eq-of-cons-eq}
-use mathlib.Core.Option.{Option, none, some, Option·some-injective}
-use lib.ListN.{getElem?}
+use mathlib.Core.Option.{Option, none, some}
 use lib.IntN.{ℤ, pos}
 use Rattle.syntax.specs.Bytes.{sameBytes}
-use Rattle.syntax.specs.Token.{Lexeme, name, key, number, mark, lbrace, rbrace, lparen, rparen, semicolon, equals, dots}
-use Rattle.syntax.specs.Token.{becomes, minus, bang, and-and, or-or, k-monitor, k-var, k-in, k-keep, k-method, k-try}
+use Rattle.syntax.specs.Token.{Lexeme, name, key, number, mark, lbrace, rbrace, lparen, rparen, semicolon}
+use Rattle.syntax.specs.Token.{becomes, minus, bang, and-and, or-or, k-monitor, k-keep, k-method, k-try}
 use Rattle.syntax.specs.Token.{k-waituntil, k-if, k-else, k-true, k-false, k-mod, Token, lexemes}
-use Rattle.syntax.specs.Decide.Lexeme.{isKey, isMark, isName, keywordNumber, markNumber}
-use Rattle.syntax.specs.Decide.Reading.{got, onwards, _>>=_, give, begins, rest, choose, expect, readName, readNumber}
-use Rattle.syntax.specs.Decide.Reading.{readInt, readAtom}
+use Rattle.syntax.specs.Decide.Lexeme.{isKey, isMark, keywordNumber, markNumber}
+use Rattle.syntax.specs.Decide.Reading.{got, begins, rest}
+use Rattle.syntax.specs.Decide.Reading.{readAtom}
 use Rattle.syntax.specs.Tree.{Int, plain, negated, Atom, literal, variable, Sign, added, taken, Term, alone, remainder}
 use Rattle.syntax.specs.Tree.{Signed, Expr, Comparison, eq, ne, lt, le, gt, ge, Cond, only, or, Conj, just, and, Simple}
 use Rattle.syntax.specs.Tree.{negation, bracketed, constant, compare, Block, end, then, Stmt, assign, if-then, if-else}
 use Rattle.syntax.specs.Tree.{Region, Method, Var, Monitor, all, each, spell, spellInt, spellAtom, signMark, spellTerm}
 use Rattle.syntax.specs.Tree.{spellSigned, spellExpr, comparisonMark, spellConstant, spellCond, spellConj, spellSimple}
-use Rattle.syntax.specs.Tree.{spellBlock, spellStmt, spellRegion, spellMethod, spellVar, spellTry}
+use Rattle.syntax.specs.Tree.{spellBlock, spellStmt, spellRegion, spellMethod, spellTry}
 use Rattle.syntax.proofs.Lexemes.{decides-key}
-use Rattle.meaning.specs.Value.{intOf, less, inRange, valueOf, atomValue, modulo, ofOne, ofBoth, termValue}
-use Rattle.meaning.specs.Value.{joined, termsValue, exprValue, compares, condValue, conjValue, simpleValue, isTrue}
+use Rattle.meaning.specs.Value.{intOf, less, inRange, valueOf, atomValue, termValue}
+use Rattle.meaning.specs.Value.{condValue, isTrue}
 use Rattle.meaning.specs.Value.{truth}
 use Rattle.meaning.specs.State.{lowest}
 use Rattle.meaning.specs.Runs.{State, no-values, one-value, regionsOf, IsRegion}
@@ -35,177 +34,16 @@ use Rattle.meaning.specs.Valued.{Asked, of-keep, of-try, of-guard, Remai
 use Rattle.meaning.specs.Accepted.{AtMost, GoodRanges, no-vars, one-var, NoneOffends, FirstOffends, NoneLacks}
 use Rattle.meaning.specs.Refusal.{Unvalued}
 use Rattle.meaning.specs.Decide.Check.{asks, lowDivisor, unvalued}
-use Rattle.logic.proofs.Bools.{split, clash, both, not-true, true-not, no-some, different}
+use Rattle.logic.proofs.Bools.{split, clash, both, not-true, true-not, different}
 use Rattle.logic.proofs.Bools as bools
 use Rattle.meaning.proofs.Integers.{not-less-self, not-less-trans}
 use Rattle.meaning.proofs.Remainders.{modulo-none}
+use Rattle.meaning.proofs.Lacking.{in-one, in-either, at-number, Without, without-nil, without-next}
+use Rattle.meaning.proofs.Lacking.{without-vars, atom-read, of-cond, lacks-iff}
 use Rattle.meaning.proofs.KeywordPlaces.{each-append}
 use Rattle.meaning.proofs.FromPart.{behind, from-keep, from-try, from-region, region-parts}
 use Rattle.meaning.proofs.GrammarPlace.{Cut, cut, lexemes-append}
 use Rattle.meaning.proofs.Limits.{Pass, law}
-
--- Where an element of two lists stands: in the first, or in the second
-
-module _ {A : Type 0} (a : A) where
-  abbrev InFirst : List A → List A → List A → List A → Type 0
-  InFirst v w before after = (rest : List A) × (v ≡ before ++ (a ∷ rest)) × (after ≡ rest ++ w)
-
-  abbrev InSecond : List A → List A → List A → List A → Type 0
-  InSecond v w before after = (front : List A) × (before ≡ v ++ front) × (w ≡ front ++ (a ∷ after))
-
-  in-one : (v w before after : List A) → v ++ w ≡ before ++ (a ∷ after)
-      → InFirst v w before after ⊎ InSecond v w before after
-  in-one [] w before after e = inr (before, refl, e)
-  in-one (l ∷ v) w [] after e = inl (v, cc, let q : v ++ w ≡ after = cc in sym q)
-  in-one (l ∷ v) w (b ∷ before) after e =
-      let head : l ≡ b = cc in
-      ⊎-elim (λ t. inl (t .0, let q = t .1 in cc, t .2)) (λ t. inr (t .0, let q = t .1 in cc, t .2))
-      (in-one v w before after (cc))
-
-  -- where the one with a number stands
-  at-number : (as′ : List A) (k : ℕ) → getElem? as′ k ≡ some a → (before after : List A) × (as′ ≡ before ++ (a ∷ after))
-  at-number [] k e = no-some e
-  at-number (b ∷ as′) zero e = ([], as′, let q : b ≡ a = Option·some-injective _ _ e in cc)
-  at-number (b ∷ as′) (suc k) e =
-      let t = at-number as′ k e in (b ∷ t .0, t .1, ap {B = List A} (λ x. b ∷ x) (t .2))
-
--- a `mod` of two texts
-in-either : (v w before after : List Lexeme) → v ++ w ≡ before ++ (key k-mod ∷ after)
-    → InFirst (key k-mod) v w before after ⊎ InSecond (key k-mod) v w before after
-in-either = in-one (key k-mod)
-
--- no `mod` stands in a text
-abbrev Without : List Lexeme → Type 0
-Without w = (before after : List Lexeme) → w ≡ before ++ (key k-mod ∷ after) → ⊥
-
-without-nil : Without []
-without-nil [] after e = different (cc)
-without-nil (b ∷ before) after e = different (cc)
-
-without-next : (l : Lexeme) {w : List Lexeme} → isKey k-mod l ≡ false → Without w → Without (l ∷ w)
-without-next l h f [] after e =
-    let q : l ≡ key k-mod = cc in clash (decides-key k-mod l .1 q) h
-without-next l h f (b ∷ before) after e = f before after (cc)
-
-without-join : {v w : List Lexeme} → Without v → Without w → Without (v ++ w)
-without-join {v} {w} f g before after e =
-    ⊎-elim (λ t. f before (t .0) (t .1)) (λ t. g (t .0) after (t .2)) (in-either v w before after e)
-
-without-int : (i : Int) → Without (spellInt i)
-unfolding spellInt isKey
-without-int (plain n) = without-next (number n) refl without-nil
-without-int (negated n) = without-next (mark minus) refl (without-next (number n) refl without-nil)
-
-without-atom : (a : Atom) → Without (spellAtom a)
-unfolding spellAtom isKey
-without-atom (literal i) = without-int i
-without-atom (variable x) = without-next (name x) refl without-nil
-
-without-vars : (vs : List Var) → Without (each spellVar vs)
-unfolding each spellVar isKey keywordNumber
-without-vars [] = without-nil
-without-vars (v ∷ vs) =
-    without-join (without-next (key k-var) refl (without-next (name (v .title)) refl (without-next (mark equals) refl
-    (without-join (without-int (v .start)) (without-next (key k-in) refl (without-join (without-int (v .low))
-    (without-next (mark dots) refl (without-join (without-int (v .high)) (without-next (mark semicolon) refl
-    without-nil))))))))) (without-vars vs)
-
--- Each `mod` of a condition stands between two atoms
-
-record Sides (before after : List Lexeme) : Type 0 where
-  front : List Lexeme
-  back : List Lexeme
-  left : Atom
-  right : Atom
-  ahead : before ≡ front ++ spellAtom left
-  behind : after ≡ spellAtom right ++ back
-
-abbrev Between : List Lexeme → Type 0
-Between w = (before after : List Lexeme) → w ≡ before ++ (key k-mod ∷ after) → Sides before after
-
--- with more on the left, and with more on the right
-more-left : (v : List Lexeme) {before after : List Lexeme} → Sides before after → Sides (v ++ before) after
-more-left v s = record {
-  front = v ++ s .front;
-  back = s .back;
-  left = s .left;
-  right = s .right;
-  ahead = ap (λ (x : List Lexeme). v ++ x) (s .ahead) ∙ sym (append-assoc v (s .front) (spellAtom (s .left)));
-  behind = s .behind;
-}
-
-more-right : (w : List Lexeme) {before after : List Lexeme} → Sides before after → Sides before (after ++ w)
-more-right w s = record {
-  front = s .front;
-  back = s .back ++ w;
-  left = s .left;
-  right = s .right;
-  ahead = s .ahead;
-  behind = ap (λ (x : List Lexeme). x ++ w) (s .behind) ∙ append-assoc (spellAtom (s .right)) (s .back) w;
-}
-
-none-between : {w : List Lexeme} → Without w → Between w
-none-between f before after e = absurd (f before after e)
-
-join : {v w : List Lexeme} → Between v → Between w → Between (v ++ w)
-join {v} {w} f g before after e =
-    ⊎-elim (λ t. subst (Sides before) (sym (t .2)) (more-right w (f before (t .0) (t .1))))
-    (λ t. subst (λ (x : List Lexeme). Sides x after) (sym (t .1)) (more-left v (g (t .0) after (t .2))))
-    (in-either v w before after e)
-
-next : (l : Lexeme) {w : List Lexeme} → isKey k-mod l ≡ false → Between w → Between (l ∷ w)
-next l h f = join {v = l ∷ []} (none-between (without-next l h without-nil)) f
-
-of-term : (t : Term) → Between (spellTerm t)
-unfolding spellTerm
-of-term (alone a) = none-between (without-atom a)
-of-term (remainder a b) = λ before after e.
-    ⊎-elim (λ t. absurd (without-atom a before (t .0) (t .1))) (λ t. at-word before after (t .0) (t .1) (t .2))
-    (in-either (spellAtom a) (key k-mod ∷ spellAtom b) before after e)
-  where
-    at-word : (before after front : List Lexeme) → before ≡ spellAtom a ++ front
-        → key k-mod ∷ spellAtom b ≡ front ++ (key k-mod ∷ after) → Sides before after
-    at-word before after [] p q = record {
-      front = [];
-      back = [];
-      left = a;
-      right = b;
-      ahead = p ∙ append-nil (spellAtom a);
-      behind = let r : after ≡ spellAtom b = cc in r ∙ sym (append-nil (spellAtom b));
-    }
-    at-word before after (x ∷ front) p q = absurd (without-atom b front after (cc))
-
-of-terms : (ts : List Signed) → Between (each spellSigned ts)
-unfolding each spellSigned isKey
-of-terms [] = none-between without-nil
-of-terms (t ∷ ts) = join (next (mark (signMark (t .sign))) refl (of-term (t .term))) (of-terms ts)
-
-of-expr : (e : Expr) → Between (spellExpr e)
-unfolding spellExpr
-of-expr e = join (of-term (e .first)) (of-terms (e .more))
-
-of-constant : (b : Bool) → Between (spellConstant b)
-unfolding spellConstant isKey keywordNumber
-of-constant true = none-between (without-next (key k-true) refl without-nil)
-of-constant false = none-between (without-next (key k-false) refl without-nil)
-
-mutual
-  unfolding spellCond isKey
-
-  of-cond : (c : Cond) → Between (spellCond c)
-  of-cond (only c) = of-conj c
-  of-cond (or c d) = join (of-conj c) (next (mark or-or) refl (of-cond d))
-
-  of-conj : (c : Conj) → Between (spellConj c)
-  of-conj (just s) = of-simple s
-  of-conj (and s c) = join (of-simple s) (next (mark and-and) refl (of-conj c))
-
-  of-simple : (s : Simple) → Between (spellSimple s)
-  of-simple (negation s) = next (mark bang) refl (of-simple s)
-  of-simple (bracketed c) =
-      next (mark lparen) refl (join (of-cond c) (none-between (without-next (mark rparen) refl without-nil)))
-  of-simple (constant b) = of-constant b
-  of-simple (compare e o f) = join (of-expr e) (next (mark (comparisonMark o)) refl (of-expr f))
 
 -- Is a condition asked, behind some lexemes
 
@@ -407,7 +245,7 @@ module _ (m : Monitor) (before after : List Lexeme) where
   found-in : (pre : List Lexeme) (c : Cond) → Asked m pre c → (b rest w : List Lexeme)
       → spellCond c ≡ b ++ (key k-mod ∷ rest) → before ≡ pre ++ b → after ≡ rest ++ w → Found m before after
   found-in pre c asked b rest w e p q =
-      let s = of-cond c b rest e in
+      let s = of-cond [] [] c b rest e in
       record {
         pre = pre;
         condition = c;
@@ -619,12 +457,6 @@ asked-on {m} (of-guard methods others x before after r e f) =
 
 -- Divisors
 
-atom-read : (a : Atom) (us : List Lexeme) → readAtom (spellAtom a ++ us) ≡ got a us
-unfolding readAtom readInt readName readNumber spellAtom spellInt choose expect begins rest give _>>=_ onwards isName isMark markNumber
-atom-read (literal (plain n)) us = refl
-atom-read (literal (negated n)) us = refl
-atom-read (variable x) us = refl
-
 -- the lowest values are a state, and below every other
 lowest-state : {vs : List Var} → GoodRanges vs → State vs (lowest vs)
 unfolding lowest AtMost inRange
@@ -779,114 +611,29 @@ missing-iff {vs} good a b =
 
 -- Behind 15 every condition that is asked has a value at every state
 
-module _ (vs : List Var) (as′ : List ℤ) where
-  -- no remainder of a text lacks one
-  record Valued (w : List Lexeme) : Type 0 where
-    none-missing :
-        (front back : List Lexeme) (a b : Atom) → w ≡ front ++ (spellAtom a ++ (key k-mod ∷ (spellAtom b ++ back)))
-        → termValue vs as′ (remainder a b) ≡ none → ⊥
-
-  valued-left : (v w : List Lexeme) → Valued (v ++ w) → Valued v
-  valued-left v w h = record {
-    none-missing = λ front back a b e.
-        h .none-missing front (back ++ w) a b (ap (λ (x : List Lexeme). x ++ w) e ∙ simp append-assoc);
-  }
-
-  valued-right : (v w : List Lexeme) → Valued (v ++ w) → Valued w
-  valued-right v w h = record {
-    none-missing = λ front back a b e.
-        h .none-missing (v ++ front) back a b (ap (λ (x : List Lexeme). v ++ x) e ∙ sym (append-assoc v front _));
-  }
-
-  valued-rest : (l : Lexeme) (w : List Lexeme) → Valued (l ∷ w) → Valued w
-  valued-rest l w h = valued-right (l ∷ []) w h
-
-  valued-past : (v : List Lexeme) (l : Lexeme) (w : List Lexeme) → Valued (v ++ (l ∷ w)) → Valued w
-  valued-past v l w h = valued-rest l w (valued-right v (l ∷ w) h)
-
-  -- a value is there
-  record There {A : Type 0} (o : Option A) : Type 0 where
-    value : A
-    is : o ≡ some value
-
-  there-one : {A B : Type 0} (f : A → B) {o : Option A} → There o → There (ofOne f o)
-  unfolding ofOne
-  there-one f t = record { value = f (t .value); is = rw (t .is) }
-
-  there-both : {A B C : Type 0} (f : A → B → C) {o : Option A} {p : Option B} → There o → There p → There (ofBoth f o p)
-  unfolding ofBoth ofOne
-  there-both f t u = record { value = f (t .value) (u .value); is = rw (t .is, u .is) }
-
-  there-term : (t : Term) → Valued (spellTerm t) → There (termValue vs as′ t)
-  unfolding spellTerm termValue
-  there-term (alone a) h = record { value = atomValue vs as′ a; is = refl }
-  there-term (remainder a b) h = one (modulo (atomValue vs as′ a) (atomValue vs as′ b)) refl
-    where
-      one : (o : Option ℤ) → modulo (atomValue vs as′ a) (atomValue vs as′ b) ≡ o
-          → There (modulo (atomValue vs as′ a) (atomValue vs as′ b))
-      one none e =
-          absurd (h .none-missing [] [] a b
-          (ap (λ (x : List Lexeme). spellAtom a ++ (key k-mod ∷ x)) (sym (append-nil (spellAtom b)))) e)
-      one (some z) e = record { value = z; is = e }
-
-  there-terms : (o : Option ℤ) (ts : List Signed) → There o → Valued (each spellSigned ts) → There (termsValue vs as′ o ts)
-  unfolding each spellSigned termsValue
-  there-terms o [] t h = t
-  there-terms o (s ∷ ts) t h =
-      there-terms _ ts
-      (there-both (joined (s .sign)) t
-      (there-term (s .term) (valued-rest _ _ (valued-left (spellSigned s) (each spellSigned ts) h))))
-      (valued-right (spellSigned s) (each spellSigned ts) h)
-
-  there-expr : (e : Expr) → Valued (spellExpr e) → There (exprValue vs as′ e)
-  unfolding spellExpr exprValue
-  there-expr e h =
-      there-terms _ (e .more) (there-term (e .first) (valued-left (spellTerm (e .first)) _ h))
-      (valued-right (spellTerm (e .first)) _ h)
-
-  mutual
-    unfolding spellCond condValue
-
-    there-cond : (c : Cond) → Valued (spellCond c) → There (condValue c vs as′)
-    there-cond (only c) h = there-conj c h
-    there-cond (or c d) h =
-        there-both _||_ (there-conj c (valued-left (spellConj c) _ h)) (there-cond d (valued-past (spellConj c) _ _ h))
-
-    there-conj : (c : Conj) → Valued (spellConj c) → There (conjValue c vs as′)
-    there-conj (just s) h = there-simple s h
-    there-conj (and s c) h =
-        there-both _&&_ (there-simple s (valued-left (spellSimple s) _ h))
-        (there-conj c (valued-past (spellSimple s) _ _ h))
-
-    there-simple : (s : Simple) → Valued (spellSimple s) → There (simpleValue s vs as′)
-    there-simple (negation s) h = there-one not (there-simple s (valued-rest _ _ h))
-    there-simple (bracketed c) h = there-cond c (valued-left (spellCond c) _ (valued-rest _ _ h))
-    there-simple (constant b) h = record { value = b; is = refl }
-    there-simple (compare e o f) h =
-        there-both (compares o) (there-expr e (valued-left (spellExpr e) _ h))
-        (there-expr f (valued-past (spellExpr e) _ _ h))
-
 module _ (m : Monitor) (valued : NoneLacks m) {as′ : List ℤ} (state : State (all (m .vars)) as′) where
   asked-valued : {pre : List Lexeme} {c : Cond} → Asked m pre c
       → condValue c (all (m .vars)) as′ ≡ some (truth c (all (m .vars)) as′)
   unfolding NoneLacks truth isTrue
-  asked-valued {pre} {c} asked =
-      let t = there-cond (all (m .vars)) as′ c (record {
-        none-missing = λ front back a b e h. valued (pre ++ (front ++ spellAtom a)) (record {
-          pre = pre;
-          condition = c;
-          asked = asked;
-          left = a;
-          right = b;
-          front = front;
-          stands = record { back = back; stands = e };
-          place = refl;
-          values = as′;
-          state = state;
-          missing = h;
-        });
-      }) in
-      rw (t .is)
+  asked-valued {pre} {c} asked = go (condValue c (all (m .vars)) as′) refl
+    where
+      go : (o : Option Bool) → condValue c (all (m .vars)) as′ ≡ o → o ≡ some (isTrue o)
+      go (some b) e = refl
+      go none e =
+          let t = lacks-iff (all (m .vars)) as′ c .0 e in
+          absurd (valued (pre ++ (t .front ++ spellAtom (t .left))) (record {
+            pre = pre;
+            condition = c;
+            asked = asked;
+            left = t .left;
+            right = t .right;
+            front = t .front;
+            stands = t .stands;
+            place = refl;
+            values = as′;
+            state = state;
+            missing = t .missing;
+          }))
 
   pub keep-valued : condValue (m .keep) (all (m .vars)) as′ ≡ some (truth (m .keep) (all (m .vars)) as′)
   keep-valued = asked-valued of-keep

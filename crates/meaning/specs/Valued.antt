@@ -4,7 +4,7 @@ use mathlib.Core.List.{List, [], _∷_, _++_}
 use mathlib.Core.Option.{none}
 use lib.IntN.{ℤ}
 use Rattle.syntax.specs.Token.{Lexeme, key, mark, lparen, k-keep, k-try, k-waituntil, k-mod}
-use Rattle.syntax.specs.Tree.{Atom, remainder, Cond, Region, Method, Monitor, all, spellAtom, spellCond}
+use Rattle.syntax.specs.Tree.{Atom, remainder, Cond, Region, Method, Var, Monitor, all, spellAtom, spellCond}
 use Rattle.meaning.specs.Value.{termValue}
 use Rattle.meaning.specs.Runs.{State}
 use Rattle.meaning.specs.Before.{upTo, upToTry, upToRegion}
@@ -24,6 +24,14 @@ pub data Asked (m : Monitor) : List Lexeme → Cond → Type 0 where
 pub record RemainderIn (c : Cond) (left right : Atom) (front : List Lexeme) : Type 0 where
   pub back : List Lexeme
   pub stands : spellCond c ≡ front ++ (spellAtom left ++ (key k-mod ∷ (spellAtom right ++ back)))
+
+-- a remainder of a condition that has no value in a state
+pub record Missing (c : Cond) (vs : List Var) (as′ : List ℤ) : Type 0 where
+  pub left : Atom
+  pub right : Atom
+  pub front : List Lexeme
+  pub stands : RemainderIn c left right front
+  pub missing : termValue vs as′ (remainder left right) ≡ none
 
 -- behind some lexemes of the file stands a "`mod` in keep, a try or a guard that has no value in some state of the ranges":
 -- the state need not be kept, and nothing else of the condition matters (R 6.36). 15 names the first

@@ -4,7 +4,7 @@ use native.Mathlib.Omega.{arith}
 use mathlib.Core.Path.{_≡_, ap, _∙_}
 use lib.ListN.{getD}
 use Rattle.meaning.specs.SixteenBits.{wrapped, share}
-use Rattle.evaluator.proofs.Lanes.{Filled, fill-none, fill-more, all-filled}
+use Rattle.sixteen.proofs.Fill.{Filled, fill-none, fill-more, all-filled}
 use Rattle.bodies.proofs.with_shares.Statement.{statement}
 use Rattle.bodies.proofs.with_shares.Tie as tie
 

@@ -1,18 +1,22 @@
 -- The proof of the cycle of calls {eval_cond, eval_conj, eval_simple}. The measure is three times the count of tokens
--- left, with a rank for calls at the same place. Each return is a law on conditions, by the kind at the place or behind
--- the first part.
+-- left, with a rank for calls at the same place. A condition and a conjunction are chains: in both loops what is read
+-- from the place on, joined with what is held, is the whole. Each return is a law, by the kind at the place or behind.
 use borrow.Author.Needs.{needs}
 use Prim.Native.Nat.{ℕ, _+_, _-_, _*_, _<_}
 use native.Mathlib.Omega.{arith}
 use mathlib.Core.Path.{sym, refl, _∙_}
-use mathlib.Core.Bool.{true, false}
+use mathlib.Core.Bool.{true, false, _&&_, _||_}
 use lib.ListN.{length}
+use Rattle.syntax.specs.Tree.{spellConj, spellCond}
+use Rattle.meaning.specs.Value.{conjValue, condValue}
+use Rattle.evaluator.specs.Promises.{EndsConj, EndsWhole}
 use Rattle.syntax.specs.Token.{mark, lparen, bang, and-and, or-or}
 use Rattle.syntax.specs.Decide.Lexeme.{markNumber, keywordNumber}
 use Rattle.syntax.specs.Held.Kind.{kindOf}
 use Rattle.evaluator.proofs.Places.{kind-within}
 use Rattle.evaluator.proofs.Readings.{simple-not, simple-bracketed, simple-constant, constantKind}
-use Rattle.evaluator.proofs.Readings.{simple-compare, conj-one, conj-more, cond-one, cond-more}
+use Rattle.evaluator.proofs.Readings.{simple-compare, Linked, conj-chain, cond-chain, chain-first, chain-last}
+use Rattle.evaluator.proofs.Readings.{chain-more}
 use borrow.Fn.Kinds.{In}
 use borrow.Fn.PlainCycle.{Measures, is, falls, and}
 use Rattle.evaluator.proofs.eval_cond.Reads as eval-cond
@@ -25,11 +29,11 @@ use Rattle.evaluator.proofs.eval_simple.Reads as eval-simple
 use Rattle.evaluator.proofs.eval_simple.Kinds as eval-simple-kinds
 use Rattle.evaluator.proofs.+eval_cond+eval_conj+eval_simple.Lts-eval_simple as eval-simple-lts
 use Rattle.evaluator.proofs.after.Reads as after-reads
-use Rattle.evaluator.proofs.both.Reads as both-reads
+use Rattle.sixteen.proofs.both.Reads as both-reads
 use Rattle.evaluator.proofs.eval_compare.Reads as eval-compare-reads
 use Rattle.evaluator.proofs.kind_at.Reads as kind-at-reads
-use Rattle.evaluator.proofs.other.Reads as other-reads
-use Rattle.evaluator.proofs.union.Reads as union-reads
+use Rattle.sixteen.proofs.other.Reads as other-reads
+use Rattle.sixteen.proofs.union.Reads as union-reads
 use Rattle.sets.proofs.union.Reads as sets-union-reads
 use Rattle.evaluator.proofs.+eval_cond+eval_conj+eval_simple.{statement}
 use Rattle.evaluator.proofs.+eval_cond+eval_conj+eval_simple.Tie.{close}
@@ -70,32 +74,28 @@ abbrev eval-cond-calls : ℕ → eval-cond-lts.Claims
 eval-cond-calls t = (
   eval-conj-below t,
   eval-conj.Post,
-  kind-at-reads.Asked,
-  kind-at-reads.Learnt,
-  after-reads.Asked,
-  after-reads.Learnt,
-  eval-cond-below t,
-  eval-cond.Post,
   union-reads.Asked,
   union-reads.Learnt,
   sets-union-reads.Asked,
   sets-union-reads.Learnt,
+  kind-at-reads.Asked,
+  kind-at-reads.Learnt,
+  after-reads.Asked,
+  after-reads.Learnt,
 )
 
 abbrev eval-conj-calls : ℕ → eval-conj-lts.Claims
 eval-conj-calls t = (
   eval-simple-below t,
   eval-simple.Post,
-  kind-at-reads.Asked,
-  kind-at-reads.Learnt,
-  after-reads.Asked,
-  after-reads.Learnt,
-  eval-conj-below t,
-  eval-conj.Post,
   both-reads.Asked,
   both-reads.Learnt,
   sets-union-reads.Asked,
   sets-union-reads.Learnt,
+  kind-at-reads.Asked,
+  kind-at-reads.Learnt,
+  after-reads.Asked,
+  after-reads.Learnt,
 )
 
 abbrev eval-simple-calls : ℕ → eval-simple-lts.Claims
@@ -114,55 +114,101 @@ eval-simple-calls t = (
   eval-compare-reads.Learnt,
 )
 
-eval-cond-eval-cond-requires : (t : ℕ) → eval-cond-lts.Need-eval-cond-requires (eval-cond-calls t) (eval-cond-at t)
-    eval-cond.Post
+abbrev eval-cond-Inv-loop : eval-cond-lts.InvT-loop
+eval-cond-Inv-loop kinds values vars at holds₀ lacks₀ place₀ holds lacks place =
+    Linked spellCond EndsWhole condValue _||_ kinds values vars at holds lacks place
+
+abbrev eval-cond-μ-loop : eval-cond-lts.MeasureT-loop
+eval-cond-μ-loop kinds values vars at holds₀ lacks₀ place₀ holds lacks place = length kinds - place
+
+eval-cond-loop-holds : (t : ℕ) → eval-cond-lts.Need-loop-holds (eval-cond-calls t) (eval-cond-at t) eval-cond.Post
+    eval-cond-Inv-loop eval-cond-μ-loop
+eval-cond-loop-holds t c = chain-first cond-chain (c .before .before .pre .1 .within)
+
+eval-cond-eval-conj-requires : (t : ℕ) → eval-cond-lts.Need-eval-conj-requires (eval-cond-calls t) (eval-cond-at t)
+    eval-cond.Post eval-cond-Inv-loop eval-cond-μ-loop
+eval-cond-eval-conj-requires t c κs =
+    let start = c .before .before .before in
+    let inv = c .loop .inv in
+    (omega (arith, inv .from, inv .to, start .pre), record { within = inv .to; short = start .pre .1 .short })
+
+eval-cond-loop-less : (t : ℕ) → eval-cond-lts.Need-loop-less (eval-cond-calls t) (eval-cond-at t) eval-cond.Post
+    eval-cond-Inv-loop eval-cond-μ-loop
 unfolding kindOf markNumber keywordNumber
-eval-cond-eval-cond-requires t c κs =
-    let conj = c .before .before .before in
-    let start = conj .before .before .before in
-    let step = kind-within (kindOf (mark or-or)) (c .after .ensures)
-    (sym (c .before .before .kind-at .ensures) ∙ c .before .if1 .taken) refl in
-    omega (arith, step, conj .eval-conj .ensures, c .after .ensures, start .pre)
+eval-cond-loop-less t c =
+    let kind = c .before .before in
+    let item = kind .before .before .before .before in
+    let step = kind-within (kindOf (mark or-or)) (c .after .ensures) (sym (kind .kind-at .ensures) ∙ c .before .if1 .taken)
+    refl in
+    omega (arith, step, item .eval-conj .ensures, c .after .ensures)
+
+eval-cond-loop-again : (t : ℕ) → eval-cond-lts.Need-loop-again (eval-cond-calls t) (eval-cond-at t) eval-cond.Post
+    eval-cond-Inv-loop eval-cond-μ-loop
+unfolding kindOf markNumber keywordNumber
+eval-cond-loop-again t c =
+    let kind = c .before .before in
+    let lack = kind .before in
+    let item = lack .before .before .before in
+    chain-more cond-chain (item .before .loop .inv) (item .eval-conj .ensures) (lack .before .union .ensures)
+    (lack .union2 .ensures) (sym (kind .kind-at .ensures) ∙ c .before .if1 .taken) (c .after .ensures)
 
 eval-cond-returns : (t : ℕ) → eval-cond-lts.Need-returns (eval-cond-calls t) (eval-cond-at t) eval-cond.Post
+    eval-cond-Inv-loop eval-cond-μ-loop
 unfolding kindOf markNumber keywordNumber
 eval-cond-returns t c =
-    let more = c .before .before .before .before in
-    let kind = more .before .before .before in
-    cond-more (kind .before .eval-conj .ensures) (sym (kind .kind-at .ensures) ∙ more .before .before .if1 .taken)
-    (more .before .after .ensures) (more .eval-cond .ensures) (c .before .union .ensures)
-    (c .union2 .ensures)
+    let kind = c .before in
+    let lack = kind .before in
+    let item = lack .before .before .before in
+    chain-last cond-chain (item .before .loop .inv) (item .eval-conj .ensures) (lack .before .union .ensures)
+    (lack .union2 .ensures) (λ e. c .if1 .left (kind .kind-at .ensures ∙ e))
 
-eval-cond-returns-2 : (t : ℕ) → eval-cond-lts.Need-returns-2 (eval-cond-calls t) (eval-cond-at t) eval-cond.Post
+abbrev eval-conj-Inv-loop : eval-conj-lts.InvT-loop
+eval-conj-Inv-loop kinds values vars at holds₀ lacks₀ place₀ holds lacks place =
+    Linked spellConj EndsConj conjValue _&&_ kinds values vars at holds lacks place
+
+abbrev eval-conj-μ-loop : eval-conj-lts.MeasureT-loop
+eval-conj-μ-loop kinds values vars at holds₀ lacks₀ place₀ holds lacks place = length kinds - place
+
+eval-conj-loop-holds : (t : ℕ) → eval-conj-lts.Need-loop-holds (eval-conj-calls t) (eval-conj-at t) eval-conj.Post
+    eval-conj-Inv-loop eval-conj-μ-loop
+eval-conj-loop-holds t c = chain-first conj-chain (c .before .before .pre .1 .within)
+
+eval-conj-eval-simple-requires : (t : ℕ) → eval-conj-lts.Need-eval-simple-requires (eval-conj-calls t) (eval-conj-at t)
+    eval-conj.Post eval-conj-Inv-loop eval-conj-μ-loop
+eval-conj-eval-simple-requires t c κs =
+    let start = c .before .before .before in
+    let inv = c .loop .inv in
+    (omega (arith, inv .from, inv .to, start .pre), record { within = inv .to; short = start .pre .1 .short })
+
+eval-conj-loop-less : (t : ℕ) → eval-conj-lts.Need-loop-less (eval-conj-calls t) (eval-conj-at t) eval-conj.Post
+    eval-conj-Inv-loop eval-conj-μ-loop
 unfolding kindOf markNumber keywordNumber
-eval-cond-returns-2 t c =
+eval-conj-loop-less t c =
     let kind = c .before .before in
-    cond-one (kind .before .eval-conj .ensures) (λ e. c .before .if1 .left (kind .kind-at .ensures ∙ e))
+    let item = kind .before .before .before .before in
+    let step = kind-within (kindOf (mark and-and)) (c .after .ensures) (sym (kind .kind-at .ensures) ∙ c .before .if1 .taken)
+    refl in
+    omega (arith, step, item .eval-simple .ensures, c .after .ensures)
 
-eval-conj-eval-conj-requires : (t : ℕ) → eval-conj-lts.Need-eval-conj-requires (eval-conj-calls t) (eval-conj-at t)
-    eval-conj.Post
+eval-conj-loop-again : (t : ℕ) → eval-conj-lts.Need-loop-again (eval-conj-calls t) (eval-conj-at t) eval-conj.Post
+    eval-conj-Inv-loop eval-conj-μ-loop
 unfolding kindOf markNumber keywordNumber
-eval-conj-eval-conj-requires t c κs =
-    let simple = c .before .before .before in
-    let start = simple .before .before .before in
-    let step = kind-within (kindOf (mark and-and)) (c .after .ensures)
-    (sym (c .before .before .kind-at .ensures) ∙ c .before .if1 .taken) refl in
-    omega (arith, step, simple .eval-simple .ensures, c .after .ensures, start .pre)
+eval-conj-loop-again t c =
+    let kind = c .before .before in
+    let lack = kind .before in
+    let item = lack .before .before .before in
+    chain-more conj-chain (item .before .loop .inv) (item .eval-simple .ensures) (lack .before .both .ensures)
+    (lack .union .ensures) (sym (kind .kind-at .ensures) ∙ c .before .if1 .taken) (c .after .ensures)
 
 eval-conj-returns : (t : ℕ) → eval-conj-lts.Need-returns (eval-conj-calls t) (eval-conj-at t) eval-conj.Post
+    eval-conj-Inv-loop eval-conj-μ-loop
 unfolding kindOf markNumber keywordNumber
 eval-conj-returns t c =
-    let more = c .before .before .before .before in
-    let kind = more .before .before .before in
-    conj-more (kind .before .eval-simple .ensures) (sym (kind .kind-at .ensures) ∙ more .before .before .if1 .taken)
-    (more .before .after .ensures) (more .eval-conj .ensures) (c .before .both .ensures)
-    (c .union .ensures)
-
-eval-conj-returns-2 : (t : ℕ) → eval-conj-lts.Need-returns-2 (eval-conj-calls t) (eval-conj-at t) eval-conj.Post
-unfolding kindOf markNumber keywordNumber
-eval-conj-returns-2 t c =
-    let kind = c .before .before in
-    conj-one (kind .before .eval-simple .ensures) (λ e. c .before .if1 .left (kind .kind-at .ensures ∙ e))
+    let kind = c .before in
+    let lack = kind .before in
+    let item = lack .before .before .before in
+    chain-last conj-chain (item .before .loop .inv) (item .eval-simple .ensures) (lack .before .both .ensures)
+    (lack .union .ensures) (λ e. c .if1 .left (kind .kind-at .ensures ∙ e))
 
 eval-simple-eval-simple-requires : (t : ℕ) → eval-simple-lts.Need-eval-simple-requires (eval-simple-calls t)
     (eval-simple-at t) eval-simple.Post
@@ -228,24 +274,26 @@ eval-simple-returns-5 t c =
 pub +eval-cond+eval-conj+eval-simple-spec : {M : Type 1} → statement M
 +eval-cond+eval-conj+eval-simple-spec =
     close μ-eval-cond μ-eval-conj μ-eval-simple
-    (λ t. eval-cond-lts.spec (eval-cond-calls t) (eval-cond-at t) eval-cond.Post
-    (λ c κs. omega (arith, c .before .before .pre))
+    (λ t. eval-cond-lts.spec (eval-cond-calls t) (eval-cond-at t) eval-cond.Post eval-cond-Inv-loop eval-cond-μ-loop
+    (eval-cond-loop-holds t)
+    (eval-cond-eval-conj-requires t)
+    (λ c κs. tt)
+    (λ c κs. tt)
     (λ c κs. tt)
     (λ c κs. search needs)
-    (eval-cond-eval-cond-requires t)
+    (eval-cond-loop-less t)
+    (eval-cond-loop-again t)
+    (eval-cond-returns t))
+    (λ t. eval-conj-lts.spec (eval-conj-calls t) (eval-conj-at t) eval-conj.Post eval-conj-Inv-loop eval-conj-μ-loop
+    (eval-conj-loop-holds t)
+    (eval-conj-eval-simple-requires t)
     (λ c κs. tt)
     (λ c κs. tt)
-    (eval-cond-returns t)
-    (eval-cond-returns-2 t))
-    (λ t. eval-conj-lts.spec (eval-conj-calls t) (eval-conj-at t) eval-conj.Post
-    (λ c κs. omega (arith, c .before .before .pre))
     (λ c κs. tt)
     (λ c κs. search needs)
-    (eval-conj-eval-conj-requires t)
-    (λ c κs. tt)
-    (λ c κs. tt)
-    (eval-conj-returns t)
-    (eval-conj-returns-2 t))
+    (eval-conj-loop-less t)
+    (eval-conj-loop-again t)
+    (eval-conj-returns t))
     λ t. eval-simple-lts.spec (eval-simple-calls t) (eval-simple-at t) eval-simple.Post
     (λ c κs. tt)
     (λ c κs. search needs)

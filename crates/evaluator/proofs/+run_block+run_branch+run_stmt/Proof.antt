@@ -1,6 +1,7 @@
 -- The proof of the cycle of calls {run_block, run_branch, run_stmt}. The measure is three times the count of tokens
 -- left, with a rank for calls at the same place: a block's statement begins where the block does, and an if's blocks
--- begin behind it. Each return is a law on blocks, statements or branches, by the kind at the place.
+-- begin behind it. In a block's loop, what is run from the place on is the rest of the whole run. Each return is a law on
+-- blocks, statements or branches, by the kind at the place.
 use borrow.Author.Needs.{needs}
 use Prim.Native.Nat.{ℕ, _+_, _-_, _*_, _<_}
 use native.Mathlib.Omega.{arith}
@@ -11,7 +12,9 @@ use Rattle.syntax.specs.Decide.Lexeme.{markNumber, keywordNumber}
 use Rattle.syntax.specs.Held.Kind.{kindOf, nameKind, noKind}
 use Rattle.evaluator.proofs.Places.{apart, kind-here}
 use Rattle.evaluator.proofs.Readings.{near-more}
-use Rattle.evaluator.proofs.Runs.{block-end, block-more, none-lack, stmt-assign, stmt-if, branch-one, branch-two}
+use Rattle.sixteen.proofs.Fill.{none-lack}
+use Rattle.evaluator.proofs.Runs.{Begun, begun-first, begun-last, begun-more, stmt-assign, stmt-if}
+use Rattle.evaluator.proofs.Runs.{branch-one, branch-two}
 use borrow.Fn.Kinds.{In}
 use borrow.Fn.PlainCycle.{Measures, is, falls, and}
 use Rattle.evaluator.proofs.run_block.Reads as run-block
@@ -25,14 +28,14 @@ use Rattle.evaluator.proofs.run_stmt.Kinds as run-stmt-kinds
 use Rattle.evaluator.proofs.+run_block+run_branch+run_stmt.Lts-run_stmt as run-stmt-lts
 use Rattle.evaluator.proofs.after.Reads as after-reads
 use Rattle.evaluator.proofs.assign_mod.Reads as assign-mod-reads
-use Rattle.evaluator.proofs.both.Reads as both-reads
+use Rattle.sixteen.proofs.both.Reads as both-reads
 use Rattle.evaluator.proofs.close_of.Reads as close-of-reads
 use Rattle.evaluator.proofs.eval_cond.Reads as eval-cond-reads
 use Rattle.evaluator.proofs.eval_plain.Reads as eval-plain-reads
-use Rattle.evaluator.proofs.faulted.Reads as faulted-reads
+use Rattle.sixteen.proofs.faulted.Reads as faulted-reads
 use Rattle.evaluator.proofs.kind_at.Reads as kind-at-reads
 use Rattle.evaluator.proofs.store.Reads as store-reads
-use Rattle.evaluator.proofs.unless.Reads as unless-reads
+use Rattle.sixteen.proofs.unless.Reads as unless-reads
 use Rattle.evaluator.proofs.value_at.Reads as value-at-reads
 use Rattle.evaluator.proofs.+run_block+run_branch+run_stmt.{statement}
 use Rattle.evaluator.proofs.+run_block+run_branch+run_stmt.Tie.{close}
@@ -77,8 +80,6 @@ run-block-calls t = (
   kind-at-reads.Learnt,
   run-stmt-below t,
   run-stmt.Post,
-  run-block-below t,
-  run-block.Post,
   both-reads.Asked,
   both-reads.Learnt,
 )
@@ -121,53 +122,64 @@ run-stmt-calls t = (
   store-reads.Learnt,
 )
 
+abbrev run-block-Inv-loop : run-block-lts.InvT-loop
+run-block-Inv-loop kinds values lows highs vars₀ on at ok₀ place₀ vars ok place =
+    Begun kinds values lows highs vars₀ on at vars ok place
+
+abbrev run-block-μ-loop : run-block-lts.MeasureT-loop
+run-block-μ-loop kinds values lows highs vars₀ on at ok₀ place₀ vars ok place = length kinds - place
+
+run-block-loop-holds : (t : ℕ) → run-block-lts.Need-loop-holds (run-block-calls t) (run-block-at t) run-block.Post
+    run-block-Inv-loop run-block-μ-loop
+run-block-loop-holds t c =
+    let start = c .before .before in begun-first (start .pre .1 .0 .within) (start .pre .1 .1)
+
 run-block-returns : (t : ℕ) → run-block-lts.Need-returns (run-block-calls t) (run-block-at t) run-block.Post
+    run-block-Inv-loop run-block-μ-loop
 unfolding kindOf markNumber keywordNumber
 run-block-returns t c =
-    let start = c .before .before .before .before in
     let kind = sym (c .before .kind-at .ensures) ∙ c .if1 .taken in
-    block-end (start .args .at) (start .pre .1 .1) (λ e. apart (kindOf (mark rbrace)) nameKind refl kind e)
+    begun-last (c .before .before .loop .inv) (λ e. apart (kindOf (mark rbrace)) nameKind refl kind e)
     (λ e. apart (kindOf (mark rbrace)) (kindOf (key k-if)) refl kind e)
 
 run-block-returns-2 : (t : ℕ) → run-block-lts.Need-returns-2 (run-block-calls t) (run-block-at t) run-block.Post
+    run-block-Inv-loop run-block-μ-loop
 unfolding kindOf markNumber keywordNumber
 run-block-returns-2 t c =
-    let start = c .before .before .before .before .before in
     let kind = sym (c .before .before .kind-at .ensures) ∙ c .if2 .taken in
-    block-end (start .args .at) (start .pre .1 .1) (λ e. apart noKind nameKind refl kind e)
+    begun-last (c .before .before .before .loop .inv) (λ e. apart noKind nameKind refl kind e)
     (λ e. apart noKind (kindOf (key k-if)) refl kind e)
 
-run-block-run-stmt-requires : (t : ℕ)
-    → run-block-lts.Need-run-stmt-requires (run-block-calls t) (run-block-at t) run-block.Post
+run-block-run-stmt-requires : (t : ℕ) → run-block-lts.Need-run-stmt-requires (run-block-calls t) (run-block-at t) run-block.Post
+    run-block-Inv-loop run-block-μ-loop
 run-block-run-stmt-requires t c κs =
     let kind = c .before .before .before in
-    let start = kind .before .before .before in (
-      omega (arith, start .pre .0),
+    let loop = kind .before in
+    let start = loop .before .before .before in
+    let inv = loop .loop .inv in (
+      omega (arith, inv .from, inv .to, start .pre .0),
       (
-        start .pre .1 .0,
+        record { within = inv .to; short = start .pre .1 .0 .short },
         (
-          start .pre .1 .1,
-          kind-here (start .args .kinds .now) (start .args .at)
+          inv .long,
+          kind-here (start .args .kinds .now) (loop .loop .place)
               (λ e. c .before .if2 .left (kind .kind-at .ensures ∙ e)),
         ),
       ),
     )
 
-run-block-run-block-requires : (t : ℕ) → run-block-lts.Need-run-block-requires (run-block-calls t) (run-block-at t)
-    run-block.Post
-run-block-run-block-requires t c κs =
-    let stmt = c .before .before in
-    let start = stmt .before .before .before .before .before .before .before in
-    omega (arith, stmt .run-stmt .ensures, start .pre)
+run-block-loop-less : (t : ℕ) → run-block-lts.Need-loop-less (run-block-calls t) (run-block-at t) run-block.Post
+    run-block-Inv-loop run-block-μ-loop
+run-block-loop-less t c = omega (arith, c .before .before .run-stmt .ensures)
 
-run-block-returns-3 : (t : ℕ) → run-block-lts.Need-returns-3 (run-block-calls t) (run-block-at t) run-block.Post
+run-block-loop-again : (t : ℕ) → run-block-lts.Need-loop-again (run-block-calls t) (run-block-at t) run-block.Post
+    run-block-Inv-loop run-block-μ-loop
 unfolding kindOf markNumber keywordNumber
-run-block-returns-3 t c =
-    let more = c .before in
-    let stmt = more .before .before .before in
+run-block-loop-again t c =
+    let stmt = c .before .before in
     let here = stmt .before .before .before in
-    block-more (stmt .run-stmt .ensures) (λ e. here .if1 .left (here .before .kind-at .ensures ∙ e))
-    (more .run-block .ensures) (c .both .ensures)
+    begun-more (here .before .before .loop .inv) (stmt .run-stmt .ensures)
+    (λ e. here .if1 .left (here .before .kind-at .ensures ∙ e)) (c .both .ensures)
 
 run-branch-run-block-requires : (t : ℕ) → run-branch-lts.Need-run-block-requires (run-branch-calls t) (run-branch-at t)
     run-branch.Post
@@ -299,14 +311,15 @@ run-stmt-returns-3 t c =
 pub +run-block+run-branch+run-stmt-spec : {M : Type 1} → statement M
 +run-block+run-branch+run-stmt-spec =
     close μ-run-block μ-run-branch μ-run-stmt
-    (λ t. run-block-lts.spec (run-block-calls t) (run-block-at t) run-block.Post
+    (λ t. run-block-lts.spec (run-block-calls t) (run-block-at t) run-block.Post run-block-Inv-loop run-block-μ-loop
+    (run-block-loop-holds t)
     (λ c κs. tt)
     (run-block-returns t)
     (run-block-returns-2 t)
     (run-block-run-stmt-requires t)
-    (run-block-run-block-requires t)
     (λ c κs. tt)
-    (run-block-returns-3 t))
+    (run-block-loop-less t)
+    (run-block-loop-again t))
     (λ t. run-branch-lts.spec (run-branch-calls t) (run-branch-at t) run-branch.Post
     (λ c κs. search needs)
     (λ c κs. search needs)

@@ -6,7 +6,7 @@ use mathlib.Core.Bool.{false}
 use lib.ListN.{getD}
 use borrow.Author.Needs.{needs}
 use Rattle.evaluator.specs.Promises.{testOf}
-use Rattle.evaluator.proofs.Lanes.{Filled, fill-none, fill-more, all-filled}
+use Rattle.sixteen.proofs.Fill.{Filled, fill-none, fill-more, all-filled}
 use Rattle.evaluator.proofs.compare_each.Statement.{statement}
 use Rattle.evaluator.proofs.compare_each.Tie as tie
 

@@ -6,7 +6,7 @@ use mathlib.Core.Bool.{false, cond}
 use mathlib.Core.Logic.{⊎-elim}
 use lib.ListN.{getD}
 use borrow.Author.Needs.{needs}
-use Rattle.evaluator.proofs.Lanes.{Filled, fill-none, fill-more, all-filled}
+use Rattle.sixteen.proofs.Fill.{Filled, fill-none, fill-more, all-filled}
 use Rattle.evaluator.proofs.merged.Statement.{statement}
 use Rattle.evaluator.proofs.merged.Tie as tie
 

@@ -5,7 +5,7 @@ use native.Mathlib.Omega.{arith}
 use mathlib.Core.Path.{_≡_, refl}
 use lib.ListN.{getD}
 use borrow.Author.Needs.{needs}
-use Rattle.evaluator.proofs.Lanes.{Filled, fill-none, fill-more, all-filled}
+use Rattle.sixteen.proofs.Fill.{Filled, fill-none, fill-more, all-filled}
 use Rattle.evaluator.proofs.moved.Statement.{statement}
 use Rattle.evaluator.proofs.moved.Tie as tie
 

@@ -7,7 +7,8 @@ use lib.ListN.{getD, getD-replicate}
 use borrow.Author.Tests.{lt-ltb, le-ltb}
 use borrow.Author.Needs.{needs}
 use Rattle.evaluator.specs.Promises.{operand}
-use Rattle.evaluator.proofs.Lanes.{Filled, fill-none, fill-more, all-filled, lane-at}
+use Rattle.sixteen.proofs.Fill.{Filled, fill-none, fill-more, all-filled}
+use Rattle.evaluator.proofs.Lanes.{lane-at}
 use Rattle.evaluator.proofs.operands.Statement.{statement}
 use Rattle.evaluator.proofs.operands.Tie as tie
 
