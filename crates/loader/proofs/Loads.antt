@@ -143,33 +143,33 @@ module _ {file : List ℕ} {ts : List Token} {kinds values places : List ℕ} (w
   unfolding Resolved
   resolved-long resolved r = rw (r, length-map, lexemes-length)
 
-  -- names and braces resolved
-  pub filling : (l : Layout) (t : Tries) (resolved linked : List ℕ) → Laid m (lexemes ts) l → TriesLaid m (lexemes ts) t
-      → Resolved ts resolved → Linked (lexemes ts) resolved linked
-      → Filling m (lexemes ts) kinds linked (j .bounds) l t
-  filling l t resolved linked laid tries r k =
+  -- what 15 asks for, names and braces resolved
+  pub coded : (resolved linked : List ℕ) → Resolved ts resolved → Linked (lexemes ts) resolved linked
+      → Coded (vars m) (lexemes ts) kinds linked (j .bounds .lows) (j .bounds .count)
+  coded resolved linked r k =
       record {
         codes = codes m resolved linked (p .grammar) w r (k .as-long) (k .others) (k .linked);
+        lowest =
+            record {
+              few = p .bounded .few-vars;
+              counted = p .bounded .counted;
+              held = p .bounded .ranges .lows-held;
+            };
+      }
+
+  -- and laid out
+  pub filling : (l : Layout) (t : Tries) {linked : List ℕ}
+      → Coded (vars m) (lexemes ts) kinds linked (j .bounds .lows) (j .bounds .count) → Laid m (lexemes ts) l
+      → TriesLaid m (lexemes ts) t → Filling m (lexemes ts) kinds linked (j .bounds) l t
+  filling l t c laid tries =
+      record {
+        codes = c .codes;
         bounded = p .bounded;
         laid = laid;
         tries-laid = tries;
         few = omega (arith, few-lexemes);
         few-regions = sizes .regions;
         few-tries = sizes .tries;
-      }
-
-  -- what 15 asks for
-  pub coded : {l : Layout} {t : Tries} {linked : List ℕ} → Filling m (lexemes ts) kinds linked (j .bounds) l t
-      → Coded (vars m) (lexemes ts) kinds linked (j .bounds .lows) (j .bounds .count)
-  coded f =
-      record {
-        codes = f .codes;
-        lowest =
-            record {
-              few = f .bounded .few-vars;
-              counted = f .bounded .counted;
-              held = f .bounded .ranges .lows-held;
-            };
       }
 
   -- 15, at a place that was found

@@ -74,14 +74,14 @@ fn load_judged(
 {
     let keep = judged.keep;
     let bounds = judged.bounds;
-    let tries = layout::tries_of(kinds, keep);
-    let layout = layout::lay_out(file, kinds, values, places, keep, tries.next);
     names::resolve(file, kinds, values, places, operands);
     layout::link_braces(kinds, operands);
     let lows = bounds.lows;
     if let Found::At(k) = divisors::find_unvalued(kinds, operands, places, lows, bounds.count) {
         return not_loaded(answers::say(15, wide(k), 0));
     }
+    let tries = layout::tries_of(kinds, keep);
+    let layout = layout::lay_out(file, kinds, values, places, keep, tries.next);
     let mentions = mentions::survey(kinds, operands, bounds.count, layout, tries);
     let last = filling::fill(
         kinds,

@@ -1,5 +1,5 @@
--- `loader::load_judged` meets its contract: the file has a tree, and what is laid out, resolved and linked is what 15,
--- `survey` and `fill` ask.
+-- `loader::load_judged` meets its contract: the file has a tree, what is resolved and linked is what 15 asks, and laid out
+-- what `survey` and `fill` ask.
 use native.Mathlib.Omega.{arith}
 use mathlib.Core.Path.{_≡_, sym, _∙_}
 use mathlib.Core.List.{List}
@@ -12,22 +12,22 @@ use Rattle.syntax.specs.Held.Kind.{Words}
 use Rattle.meaning.specs.Model.{vars}
 use Rattle.judging.specs.Judging.{Past7}
 use Rattle.judging.proofs.Refusals.{found-at, found-nothing}
-use Rattle.rows.specs.Filling.{Filling}
+use Rattle.divisors.specs.Coded.{Coded}
 use Rattle.filling.proofs.Fills.{left-all}
 use Rattle.loader.proofs.Loads.{sizes, few, is-keep, few-lexemes, kinds-held, resolved-long, filling, resolved}
 use Rattle.loader.proofs.Loads.{coded, loads-15, loads}
 use Rattle.loader.proofs.load_judged.Statement.{statement}
 use Rattle.loader.proofs.load_judged.Tie as tie
 
--- the places of what is laid out and linked, and what the function was given, where 15 has been asked
+-- the places of what is resolved and linked, and what the function was given, where 15 has been asked
 abbrev linking : tie.After-find-unvalued → tie.After-link-braces
 linking c = c .before .before .before .before .before
 
-abbrev laying : tie.After-find-unvalued → tie.After-lay-out
-laying c = linking c .before .before .before .before .before .before
+abbrev resolving : tie.After-find-unvalued → tie.After-resolve
+resolving c = linking c .before .before .before .before
 
 abbrev given : tie.After-find-unvalued → tie.Start
-given c = laying c .before .before .before .before .before .before .before .before .before .before .before
+given c = resolving c .before .before .before .before .before .before .before .before .before .before .before
 
 -- the file is held in these slices, and passed 3 to 7
 record Holds (c : tie.After-find-unvalued) (ts : List Token) (m : Monitor) : Type 0 where
@@ -37,23 +37,17 @@ record Holds (c : tie.After-find-unvalued) (ts : List Token) (m : Monitor) : Typ
   past : Past7 ts m (given c .args .judged)
   as-many : length (now (given c .args .operands)) ≡ length ts
 
--- what is laid out, resolved and linked
-full : (c : tie.After-find-unvalued) (ts : List Token) (m : Monitor) → Holds c ts m
-    → Filling m (lexemes ts) (now (given c .args .kinds)) (linking c .link-braces .last .1 .0) (given c .args .judged .bounds)
-    (laying c .lay-out .result) (laying c .before .tries-of .result)
-full c ts m h =
+-- what is resolved and linked
+linked : (c : tie.After-find-unvalued) (ts : List Token) (m : Monitor) → Holds c ts m
+    → let b = given c .args .judged .bounds in
+    Coded (vars m) (lexemes ts) (now (given c .args .kinds)) (linking c .link-braces .last .1 .0) (b .lows) (b .count)
+linked c ts m h =
     let j = given c .args .judged in
     let w = h .words in
     let p = h .past in
-    let l = laying c in
-    let tries = l .before .tries-of .ensures m (lexemes ts) (kinds-held w m j p) (few-lexemes w m j p)
-    (sizes w m j p .tries) (is-keep w m j p) in
-    let lays = l .lay-out .ensures m ts w (p .grammar) (sizes w m j p .regions) (few w m j p) (is-keep w m j p)
-    (tries .next) in
-    let resolves = linking c .before .before .before .before .resolve .ensures ts w (p .counts) (h .as-many) in
-    let links = linking c .link-braces .ensures (lexemes ts) (kinds-held w m j p) (resolved-long w m j p _ resolves)
-    (few-lexemes w m j p) in
-    filling w m j p _ _ _ _ lays tries resolves links
+    let resolves = resolving c .resolve .ensures ts w (p .counts) (h .as-many) in
+    coded w m j p _ _ resolves (linking c .link-braces .ensures (lexemes ts) (kinds-held w m j p)
+    (resolved-long w m j p _ resolves) (few-lexemes w m j p))
 
 -- 15 is judged before anything is filled
 returns : tie.Need-returns
@@ -65,7 +59,7 @@ returns c =
           loads-15 w m (given u .args .judged) p (c .not-loaded .result) _ _ _ (c .not-loaded .ensures)
           (c .before .say .ensures) (c .before .before .wide .ensures)
           (found-at _ _ (sym (k .k .given .1)
-          ∙ u .find-unvalued .ensures _ ts _ (vars m) w (coded w m (given u .args .judged) p (full u ts m h)))),
+          ∙ u .find-unvalued .ensures _ ts _ (vars m) w (linked u ts m h))),
       left-all _ _ _ _,
     )
 
@@ -74,19 +68,23 @@ returns-2 c =
     let filled = c .before .before .before .before .before .before .before .before .before .before in
     let placed = filled .before .before .before .before in
     let surveyed = placed .before .before in
-    let e = surveyed .before .before in
+    let laid = surveyed .before .before in
+    let e = laid .before .before in
     let u = e .before .before in
     let j = given u .args .judged in
-    let l = laying u .lay-out .result in
-    let t = laying u .before .tries-of .result in (
+    let t = laid .before .tries-of in (
       λ ts m w p o l₁ l₂ l₃.
           let h : Holds u ts m = record { words = w; past = p; as-many = o } in
-          let f = full u ts m h in
+          let x = linked u ts m h in
+          let tries = t .ensures m (lexemes ts) (kinds-held w m j p) (few-lexemes w m j p) (sizes w m j p .tries)
+          (is-keep w m j p) in
+          let f = filling w m j p (laid .lay-out .result) (t .result) x
+          (laid .lay-out .ensures m ts w (p .grammar) (sizes w m j p .regions) (few w m j p) (is-keep w m j p) (tries .next))
+          tries in
           let named = surveyed .survey .ensures m (lexemes ts) (resolved w m j p f) in
-          let valued = found-nothing _ (sym (e .enum-told .given .1)
-          ∙ u .find-unvalued .ensures _ ts _ (vars m) w (coded w m j p f)) in
-          loads w m j p l t (surveyed .survey .result) (c .pairs-of .result) (filled .fill .result) _ _ _ f named
-          (c .pairs-of .ensures) (placed .place-of .ensures) valued
+          let valued = found-nothing _ (sym (e .enum-told .given .1) ∙ u .find-unvalued .ensures _ ts _ (vars m) w x) in
+          loads w m j p (laid .lay-out .result) (t .result) (surveyed .survey .result) (c .pairs-of .result)
+          (filled .fill .result) _ _ _ f named (c .pairs-of .ensures) (placed .place-of .ensures) valued
           (filled .fill .ensures .0 m (lexemes ts) f named l₁ l₂ l₃),
       filled .fill .ensures .1,
     )
@@ -94,18 +92,18 @@ returns-2 c =
 -- the operands are as many as they were
 as-many : tie.Need-same-length
 as-many c =
-    let linked = c .before .before .before .before .before .before .before .before .before .before .before in
-    omega (arith, linked .link-braces .kept .1 .0, linked .before .before .before .before .resolve .kept .1 .1 .1 .1 .0)
+    let before = c .before .before .before .before .before .before .before .before .before .before .before in
+    omega (arith, before .link-braces .kept .1 .0, before .before .before .before .before .resolve .kept .1 .1 .1 .1 .0)
 
 as-many-2 : tie.Need-same-length-2
 as-many-2 c =
-    let linked = c .before .before .before .before .before .before .before .before .before .before .before .before .before .before .before .before .before .before .before .before .before .before .before .before .before in
-    omega (arith, linked .link-braces .kept .1 .0, linked .before .before .before .before .resolve .kept .1 .1 .1 .1 .0)
+    let before = c .before .before .before .before .before .before .before .before .before .before .before .before .before .before .before .before .before .before .before .before .before .before .before .before .before .before .before in
+    omega (arith, before .link-braces .kept .1 .0, before .before .before .before .before .resolve .kept .1 .1 .1 .1 .0)
 
 pub load-judged-spec : {M : Type 1} → statement M
 load-judged-spec =
     tie.close
-    (tie.spec (λ c κs. search needs) (λ c κs. search needs) (λ c κs. search needs) (λ c κs. search needs)
-    (λ c κs. search needs) (λ c. search needs) (λ c κs. search needs) (λ c κs. search needs) (λ c κs. search needs) as-many
-    returns (λ c. search needs) (λ c κs. search needs) (λ c κs. search needs) (λ c κs. search needs) (λ c κs. search needs)
-    as-many-2 (λ c. search needs) (λ c. search needs) (λ c. search needs) returns-2)
+    (tie.spec (λ c κs. search needs) (λ c κs. search needs) (λ c κs. search needs) (λ c. search needs)
+    (λ c κs. search needs) (λ c κs. search needs) (λ c κs. search needs) as-many returns (λ c. search needs)
+    (λ c κs. search needs) (λ c κs. search needs) (λ c κs. search needs) (λ c κs. search needs) (λ c κs. search needs)
+    (λ c κs. search needs) as-many-2 (λ c. search needs) (λ c. search needs) (λ c. search needs) returns-2)
