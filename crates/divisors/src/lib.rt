@@ -5,10 +5,10 @@ ghost use mathlib.Core.Path.{_≡_};
 ghost use mathlib.Core.Bool.{false, _&&_};
 ghost use mathlib.Core.List.{List};
 ghost use Prim.Native.Nat.{ℕ, _<_};
-ghost use lib.ListN.{drop, getD};
+ghost use lib.ListN.{length, drop, getD};
 ghost use lib.IntN.{pos};
 ghost use lib.Dec.{eqb};
-ghost use Rattle.syntax.specs.Token.{Lexeme, Token, lexemes, k-mod};
+ghost use Rattle.syntax.specs.Token.{Lexeme, Token, lexemes, key, k-mod};
 ghost use Rattle.syntax.specs.Tree.{Var};
 ghost use Rattle.syntax.specs.Decide.Lexeme.{isKey};
 ghost use Rattle.syntax.specs.Decide.Reading.{readAtom};
@@ -122,8 +122,22 @@ fn offends(
     low_divisor(kinds, operands, lows, count, next)
 }
 
-// 15: the place of the first `mod` of keep, a try or a guard that lacks a value in some state.
-pub fn find_unvalued(
+// Does a `mod` stand among the tokens? A file without any pays for no more than this.
+fn has_mod(kinds: &[u8]) -> bool
+    ensures { λ r. ⌜ (r ≡ false
+        → (i : ℕ) → i < length (now (kinds .entry)) → getD (now (kinds .entry)) i 0 ≡ kindOf (key k-mod) → ⊥) ⌝ }
+{
+    let mut found = false;
+    let mut i = 0;
+    while i < kinds.len() {
+        found = found | (kinds[i] == syntax::KEY_MOD);
+        i += 1;
+    }
+    found
+}
+
+// 15, asked at every token.
+fn search(
     kinds: &[u8],
     operands: &[u16],
     places: &[u16],
@@ -147,6 +161,25 @@ pub fn find_unvalued(
         }
         on = asks(on, kind);
         i += 1;
+    }
+    Found::Nothing
+}
+
+// 15: the place of the first `mod` of keep, a try or a guard that lacks a value in some state.
+pub fn find_unvalued(
+    kinds: &[u8],
+    operands: &[u16],
+    places: &[u16],
+    lows: [u16; syntax::VARIABLES],
+    count: usize,
+) -> Found
+    ensures { λ r. ⌜ ((file : List ℕ) (ts : List Token) (values : List ℕ) (vs : List Var)
+        → Words file ts (now (kinds .entry)) values (now (places .entry))
+        → Coded vs (lexemes ts) (now (kinds .entry)) (now (operands .entry)) lows count
+        → r ≡ foundOf (check.unvalued vs false ts)) ⌝ }
+{
+    if has_mod(kinds) {
+        return search(kinds, operands, places, lows, count);
     }
     Found::Nothing
 }
