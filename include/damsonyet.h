@@ -36,7 +36,7 @@ extern "C" {
 #define DAMSONYET_POINT_BYTES 49
 /* A buffer with room for the points of a trace of so many bytes. */
 #define DAMSONYET_POINTS_BYTES(trace_len) (DAMSONYET_POINT_BYTES * ((size_t)(trace_len) / DAMSONYET_FRAME_BYTES + 1))
-/* The stack that a call may need: 553,440 bytes were measured, by a condition of 998 marks `!`, and 250,000 for most files. */
+/* The stack that a call may need: 618,672 bytes were measured, by a condition of 998 marks `!`, and 250,000 for most files. */
 #define DAMSONYET_STACK 655360
 /* Values cross with 128 added. */
 #define DAMSONYET_VALUE(held) ((int)(held) - 128)
