@@ -136,35 +136,6 @@ fn has_mod(kinds: &[u8]) -> bool
     found
 }
 
-// 15, asked at every token.
-fn search(
-    kinds: &[u8],
-    operands: &[u16],
-    places: &[u16],
-    lows: [u16; syntax::VARIABLES],
-    count: usize,
-) -> Found
-    ensures { λ r. ⌜ ((file : List ℕ) (ts : List Token) (values : List ℕ) (vs : List Var)
-        → Words file ts (now (kinds .entry)) values (now (places .entry))
-        → Coded vs (lexemes ts) (now (kinds .entry)) (now (operands .entry)) lows count
-        → r ≡ foundOf (check.unvalued vs false ts)) ⌝ }
-{
-    if places.len() != kinds.len() {
-        return Found::Nothing;
-    }
-    let mut on = false;
-    let mut i = 0;
-    while i < kinds.len() {
-        let kind = kinds[i];
-        if offends(kinds, operands, lows, count, on, kind, i + 1) {
-            return Found::At(places[i]);
-        }
-        on = asks(on, kind);
-        i += 1;
-    }
-    Found::Nothing
-}
-
 // 15: the place of the first `mod` of keep, a try or a guard that lacks a value in some state.
 pub fn find_unvalued(
     kinds: &[u8],
@@ -178,8 +149,21 @@ pub fn find_unvalued(
         → Coded vs (lexemes ts) (now (kinds .entry)) (now (operands .entry)) lows count
         → r ≡ foundOf (check.unvalued vs false ts)) ⌝ }
 {
-    if has_mod(kinds) {
-        return search(kinds, operands, places, lows, count);
+    if !has_mod(kinds) {
+        return Found::Nothing;
+    }
+    if places.len() != kinds.len() {
+        return Found::Nothing;
+    }
+    let mut on = false;
+    let mut i = 0;
+    while i < kinds.len() {
+        let kind = kinds[i];
+        if offends(kinds, operands, lows, count, on, kind, i + 1) {
+            return Found::At(places[i]);
+        }
+        on = asks(on, kind);
+        i += 1;
     }
     Found::Nothing
 }
