@@ -1,5 +1,7 @@
 // The frames that the plain machine allows at a point of a run, rechecks left out, by thread and then region: how many there are,
 // and the one at a draw, read off the record without a list of them.
+#![tactic(auto)]
+
 ghost use Rattle.std.specs.Prelude.{◌≡◌, ◌&&◌, List, [], ℕ, ◌≤◌, ◌<◌, get_or};
 ghost use Rattle.sets.specs.Set.{member};
 ghost use Rattle.machine.specs.Monitor.{Monitor, Config, waiting};
@@ -16,21 +18,21 @@ use stepper::{Frame, Run};
 use threads::{Place, Thread};
 
 // The first regions of the methods: how many, and each.
-#[derive(Drop)]
+#[derive(Clone, Copy)]
 pub struct Methods {
     pub count: u8,
     pub first: [u8; machine::REGIONS],
 }
 
 // Whether any frame is allowed, and the one that a draw takes.
-#[derive(Drop)]
+#[derive(Clone, Copy)]
 pub struct Chosen {
     pub any: bool,
     pub frame: Frame,
 }
 
 // A thread, and a region for it.
-#[derive(Drop)]
+#[derive(Clone, Copy)]
 struct Spot {
     thread: u8,
     region: u8,

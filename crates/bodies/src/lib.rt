@@ -1,6 +1,8 @@
 // Runs the body of every region from every state, sixteen states at a time, each in a lane. What a body does to a
 // state's number is held as a shift: a number that is added to it, modulo 4,096, or FAULT. A body is run anew only
 // where a variable that its text names changed from the last sixteen states to these; else its shifts serve again.
+#![tactic(auto)]
+
 ghost use Rattle.std.specs.Prelude.{◌≡◌, List, ℕ, ◌+◌, ◌*◌, ◌<◌, ◌≤◌, length, get_or};
 ghost use Rattle.syntax.specs.Limits.{most_bytes, most_vars};
 ghost use Rattle.machine.specs.Limits.{most_regions, most_states, most_after};

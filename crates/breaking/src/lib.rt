@@ -1,5 +1,7 @@
 // Refusal 9 by look-up: the lowest region, then the lowest state from which the outcome of its body is a fault or not
 // kept.
+#![tactic(auto)]
+
 ghost use Rattle.std.specs.Prelude.{◌≡◌, ◌&&◌, ◌≤◌, length, get_or, eqb};
 ghost use Rattle.machine.specs.Limits.{most_regions, most_states, most_after};
 ghost use Rattle.syntax.specs.Tree.{Monitor};
@@ -14,7 +16,7 @@ use machine::StateNumber;
 use variables::Bounds;
 
 // Every region keeps, or the lowest region and then the lowest state from which one does not (9).
-#[derive(Drop)]
+#[derive(Clone, Copy)]
 pub enum Broken {
     Never,
     At(usize, StateNumber),

@@ -1,5 +1,7 @@
 // What each call answers, from what was loaded of a file: its table in a lent buffer, its start state, the runs of a
 // trace on both machines, every point of them in a lent buffer, and a load in a lent buffer.
+#![tactic(auto)]
+
 ghost use Rattle.std.specs.Prelude.{◌≡◌, List, ℕ};
 ghost use Rattle.meaning.specs.Decide.Check.{check};
 ghost use Rattle.meaning.specs.Decide.Calls.{place};
@@ -18,7 +20,7 @@ use table::Placed;
 // What placing answers, and where it is placed the table's length, the chosen tries, the first the lowest bit, and how
 // many pairs of region and guard are touched.
 #[repr(C)]
-#[derive(Drop)]
+#[derive(Clone, Copy)]
 pub struct Placing {
     pub answer: Answer,
     pub length: usize,
@@ -28,7 +30,7 @@ pub struct Placing {
 
 // Both machines' answers to a trace, and how many points are written.
 #[repr(C)]
-#[derive(Drop)]
+#[derive(Clone, Copy)]
 pub struct Pointing {
     pub plain: Answer,
     pub table: Answer,
@@ -37,7 +39,7 @@ pub struct Pointing {
 
 // What making a load answers, and how many frames are made.
 #[repr(C)]
-#[derive(Drop)]
+#[derive(Clone, Copy)]
 pub struct Made {
     pub answer: Answer,
     pub count: usize,

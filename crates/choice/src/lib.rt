@@ -1,5 +1,7 @@
 // The choice among a file's tries: from those that hold at the start values each pass drops what some body breaks, until
 // nothing is dropped; and the kept condition with the chosen ones in it.
+#![tactic(auto)]
+
 ghost use Rattle.std.specs.Prelude.{◌≡◌, Bool, not, ◌&&◌, ℕ, ◌+◌, ◌*◌, ◌<◌, ◌≤◌, length, get_or, eqb};
 ghost use Rattle.machine.specs.Limits.{most_regions, most_states, most_after};
 ghost use Rattle.syntax.specs.Limits.{most_tries};
@@ -14,7 +16,7 @@ use machine::StateNumber;
 
 // The chosen tries as bits; and of each try that a body breaks the pass, from 1, and the region and the state that break
 // it. All three are 0 of a chosen try, and of one that is false at the start values.
-#[derive(Drop)]
+#[derive(Clone, Copy)]
 pub struct Choice {
     pub chosen: u16,
     pub passes: [u8; syntax::TRIES],

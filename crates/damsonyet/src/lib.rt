@@ -1,6 +1,8 @@
 // The library for programs in C and in Rust: each call is exported under its own name by the C calling convention, takes
 // bytes as a pointer and a length, and answers by value. `include/damsonyet.h` declares them. No call asks anything of its
 // caller but what C itself asks; each states its complete result for every input.
+#![tactic(auto)]
+
 ghost use Rattle.std.specs.Prelude.{◌≡◌, List, ℕ, ◌<◌, get_or};
 ghost use Rattle.meaning.specs.Decide.Check as meaning;
 ghost use Rattle.meaning.specs.Calls as meant;
@@ -24,7 +26,7 @@ use survey::Fates;
 
 // What a run answers and its record, with each place and each turn as a byte.
 #[repr(C)]
-#[derive(Drop)]
+#[derive(Clone, Copy)]
 pub struct Ran {
     pub answer: Answer,
     pub vars: usize,
@@ -38,7 +40,7 @@ pub struct Ran {
 
 // The results of both machines on one trace.
 #[repr(C)]
-#[derive(Drop)]
+#[derive(Clone, Copy)]
 pub struct BothRan {
     pub plain: Ran,
     pub table: Ran,
@@ -46,7 +48,7 @@ pub struct BothRan {
 
 // The values of a state, each with 128 added.
 #[repr(C)]
-#[derive(Drop)]
+#[derive(Clone, Copy)]
 pub struct Values {
     pub held: [u16; syntax::VARIABLES],
 }

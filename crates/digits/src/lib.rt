@@ -1,4 +1,6 @@
 // One digit of the formats, 0-9 or A-F; and what writing into a lent buffer is, with its laws.
+#![tactic(auto)]
+
 ghost use Rattle.std.specs.Prelude.{◌≡◌, ◌%◌};
 ghost use Rattle.meaning.specs.Hex.{hex_digit};
 

@@ -1,5 +1,7 @@
 // 15, over the tokens of a file whose names are resolved: the first `mod` of keep, a try or a guard whose divisor can be
 // below 1.
+#![tactic(auto)]
+
 ghost use Rattle.std.specs.Prelude.{◌≡◌, false, ◌&&◌, List, ℕ, ◌<◌, length, drop, get_or, pos, eqb};
 ghost use Rattle.syntax.specs.Token.{Lexeme, Token, lexemes, key, k_mod};
 ghost use Rattle.syntax.specs.Tree.{Var};

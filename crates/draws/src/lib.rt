@@ -1,4 +1,6 @@
 // The draws of the load generator: each replaces a number of 32 bits, and its upper sixteen bits are used.
+#![tactic(auto)]
+
 ghost use Rattle.std.specs.Prelude.{◌≡◌, ◌*◌, ◌%◌};
 ghost use Rattle.machine.specs.Load.{drawn, upper};
 

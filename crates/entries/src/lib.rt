@@ -1,5 +1,7 @@
 // The entries of a monitor that is held in slices: for each region that touches a guard, by one sweep over the states
 // with all guards at once. Which guards a region touches is handed in as a set: its body leaves every other as it was.
+#![tactic(auto)]
+
 ghost use Rattle.std.specs.Prelude.{◌≡◌, ℕ, ◌+◌, ◌*◌, ◌%◌, ◌<◌, ◌≤◌, length, get_or};
 ghost use Rattle.machine.specs.Limits.{most_regions, most_states, most_entries};
 ghost use Rattle.machine.specs.Held.{code_of};
@@ -40,7 +42,7 @@ fn may_run(
 
 // What a region's body does to guards over the states it may run from, as sets: those that it makes true from some
 // state, those that hold before or after it from every state, and those that hold after it from some state.
-#[derive(Drop)]
+#[derive(Clone, Copy)]
 struct Sweep {
     raised: u16,
     covered: u16,

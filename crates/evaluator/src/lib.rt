@@ -5,6 +5,8 @@
 // a truth as a bool for each lane. Lanes that lack a value, by a remainder's divisor below 1, are a set of bits. What
 // has no `mod` pays little for that: an expression is summed up as if it had none (`eval_plain`), and where it meets
 // one its comparison or assignment begins again (`compare_mod`, `assign_mod`); where truths are joined, so is a word.
+#![tactic(auto)]
+
 ghost use Rattle.std.specs.Prelude.{◌≡◌, cond, false, List, ◌∷◌, ◌++◌, ℕ, ◌+◌, ◌-◌, ◌%◌, ◌<◌, ◌≤◌, drop, length, get_or, set, ℤ};
 ghost use Rattle.sets.specs.Set.{member};
 ghost use Rattle.syntax.specs.Limits.{most_vars};
@@ -25,7 +27,7 @@ const ZERO: u32 = 1073741824;
 
 // An operand: a variable's slot, or one past all slots and a number, as what is added less what is taken away; and the
 // token behind it.
-#[derive(Drop)]
+#[derive(Clone, Copy)]
 struct Atom {
     slot: usize,
     plus: u32,
@@ -34,7 +36,7 @@ struct Atom {
 }
 
 // The value of an expression in each lane, the lanes that lack one, and the token behind it.
-#[derive(Drop)]
+#[derive(Clone, Copy)]
 struct Sum {
     lanes: [u32; 16],
     lacks: u16,
@@ -42,7 +44,7 @@ struct Sum {
 }
 
 // The same up to the first `mod`, the token there or behind the expression, and its kind.
-#[derive(Drop)]
+#[derive(Clone, Copy)]
 struct Plain {
     lanes: [u32; 16],
     next: usize,
@@ -50,7 +52,7 @@ struct Plain {
 }
 
 // Whether a condition holds in each lane, the lanes that lack a value, and the token behind it.
-#[derive(Drop)]
+#[derive(Clone, Copy)]
 struct Truth {
     holds: [bool; 16],
     lacks: u16,
@@ -58,14 +60,14 @@ struct Truth {
 }
 
 // Whether a statement ran in each lane with no fault, and the token behind it.
-#[derive(Drop)]
+#[derive(Clone, Copy)]
 struct Step {
     ok: [bool; 16],
     next: usize,
 }
 
 // The lanes in which a body ran with no fault, and the values after it there.
-#[derive(Drop)]
+#[derive(Clone, Copy)]
 pub struct Ran {
     pub ok: u16,
     pub values: [u16; 96],

@@ -1,5 +1,7 @@
 // Refusals 8 and 9, and the choice among the tries before 9: the truths and the outcomes of the bodies of a file whose
 // names and braces are resolved, into lent slices.
+#![tactic(auto)]
+
 ghost use Rattle.std.specs.Prelude.{◌≡◌, List, ◌⊎◌, ◌≤◌, length};
 ghost use Rattle.machine.specs.Limits.{most_states, most_after};
 ghost use Rattle.syntax.specs.Token.{Lexeme};
@@ -17,7 +19,7 @@ use mentions::Mentions;
 use variables::Bounds;
 
 // 8 and 9: the answer, and the choice among the tries.
-#[derive(Drop)]
+#[derive(Clone, Copy)]
 pub struct Settled {
     pub answer: Answer,
     pub choice: Choice,

@@ -1,4 +1,6 @@
 // The load generator: frames that the plain machine allows, drawn one after the other, and their lines in a lent buffer.
+#![tactic(auto)]
+
 ghost use Rattle.std.specs.Prelude.{List, ℕ};
 ghost use Rattle.machine.specs.Monitor.{Monitor};
 ghost use Rattle.generator.specs.Making.{MakeAsked, MakesFrames};

@@ -1,5 +1,7 @@
 // Reads the grammar over the kinds of a file's tokens, by recursive descent in the shape of `syntax`'s `Reading`: where
 // a phrase ends, or where no file of the grammar can go on. `left` falls with each call of a cycle.
+#![tactic(auto)]
+
 ghost use Rattle.std.specs.Prelude.{List, map, ◌≡◌, length, ◌≤◌};
 ghost use Rattle.syntax.specs.Limits.{most_bytes};
 ghost use Rattle.syntax.specs.Token.{Lexeme, k_var, k_method, k_waituntil, k_try};
@@ -15,7 +17,7 @@ ghost use Rattle.grammar.specs.Reads.{Reads, Follows, Expects, halted, seen};
 
 // The token behind a phrase, or the token at which it cannot go on; the count of tokens stands for the file's end.
 // A function that is given a place at which the reading stopped hands it on.
-#[derive(Drop)]
+#[derive(Clone, Copy)]
 pub enum Pos {
     Next(usize),
     Stuck(usize),

@@ -1,12 +1,14 @@
 // Reading into a lent buffer until it is full, the input ends or a read fails, over C's read. Which bytes are read no
 // contract can say; proved is how many stand at the buffer's start, and that those before a place are kept.
+#![tactic(auto)]
+
 ghost use Rattle.std.specs.Prelude.{◌≤◌, min, ◌≡◌, length};
 ghost use Rattle.std.proofs.Math.Seq.{paste};
 ghost use Rattle.io.specs.Counts.{IsPrefixLen};
 ghost use Rattle.input.specs.Kept.{Keeps};
 
 // How many bytes stand at the buffer's start, and whether a read failed; errno then says why.
-#[derive(Drop)]
+#[derive(Clone, Copy)]
 pub struct Got {
     pub count: usize,
     pub failed: bool,

@@ -1,4 +1,6 @@
 // Refusals 3 to 7, in order, over a file's tokens; and of a file that passes them its variables and where `keep` stands.
+#![tactic(auto)]
+
 ghost use Rattle.std.specs.Prelude.{◌≡◌, List, get_or};
 ghost use Rattle.syntax.specs.Held.Kind.{Words};
 ghost use Rattle.syntax.specs.Token.{Token};
@@ -10,7 +12,7 @@ use passes::Found;
 use variables::Bounds;
 
 // 3 to 7: the answer so far, and where it is 0 the token of `keep` and the variables.
-#[derive(Drop)]
+#[derive(Clone, Copy)]
 pub struct Judged {
     pub answer: Answer,
     pub keep: usize,

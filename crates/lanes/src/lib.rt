@@ -1,6 +1,8 @@
 // The values of sixteen consecutive states of a file, each state in a lane: that of variable v in lane j stands at
 // v * 16 + j, with 128 added. They are made from the states' numbers, or from the sixteen states before by adding 16,
 // the last variable first, with a carry in each lane; the loops over lanes have no branches.
+#![tactic(auto)]
+
 ghost use Rattle.std.specs.Prelude.{◌≡◌, false, List, ◌++◌, ℕ, ◌+◌, ◌*◌, ◌<◌, ◌≤◌, drop, length, get_or, ℤ};
 ghost use Rattle.sets.specs.Set.{member};
 ghost use Rattle.syntax.specs.Limits.{most_vars};
@@ -17,7 +19,7 @@ use machine::StateNumber;
 use variables::Bounds;
 
 // Values, and the variables whose values differ from the ones before, as a set.
-#[derive(Drop)]
+#[derive(Clone, Copy)]
 pub struct Lanes {
     pub values: [u16; 96],
     pub changed: u16,
@@ -57,7 +59,7 @@ fn few(count: usize) -> usize
 }
 
 // What is added to a variable of a size, and what to those before it.
-#[derive(Drop)]
+#[derive(Clone, Copy)]
 struct Part {
     here: u16,
     rest: u16,

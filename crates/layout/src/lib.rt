@@ -1,6 +1,8 @@
 // Where keep, tries, guards and bodies of a file stand among its tokens; the numbers of its guards; which
 // regions begin a method and which go on in it; and for each brace that opens a block the place of the one that closes
 // it.
+#![tactic(auto)]
+
 ghost use Rattle.std.specs.Prelude.{◌≡◌, List, [], ◌∷◌, ◌++◌, ◌+◌, ◌%◌, ◌<◌, ◌≤◌, drop, take, get_or, length};
 ghost use Rattle.syntax.specs.Limits.{most_tokens, most_tries};
 ghost use Rattle.machine.specs.Limits.{most_regions};
@@ -17,7 +19,7 @@ ghost use Rattle.layout.specs.Promises.{Sized, SameToken, SameTokens, SameGuard,
 ghost use Rattle.layout.specs.Promises.{Numbers, Room, AddsRegion, AddsMethod, Grown};
 
 // At most sixteen regions and guards.
-#[derive(Drop)]
+#[derive(Clone, Copy)]
 pub struct Layout {
     // the token at which the kept condition begins
     pub keep: usize,
@@ -36,7 +38,7 @@ pub struct Layout {
 
 // The tries of a file, at most sixteen: how many, the tokens at which their conditions begin, and the token behind
 // them.
-#[derive(Drop)]
+#[derive(Clone, Copy)]
 pub struct Tries {
     pub count: usize,
     pub ats: [u16; syntax::TRIES],
@@ -44,7 +46,7 @@ pub struct Tries {
 }
 
 // A layout so far, and the token at which to go on.
-#[derive(Drop)]
+#[derive(Clone, Copy)]
 struct Spot {
     layout: Layout,
     at: usize,

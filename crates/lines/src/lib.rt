@@ -1,4 +1,6 @@
 // Lines into a lent buffer: those that the programs print, a refusal and the record of a run, and a frame's.
+#![tactic(auto)]
+
 ghost use Rattle.std.specs.Prelude.{◌≡◌, [], ◌∷◌, ◌+◌, ◌*◌, ◌%◌, ◌≤◌, length};
 ghost use Rattle.syntax.specs.Limits.{most_vars};
 ghost use Rattle.meaning.specs.Answer as meaning;

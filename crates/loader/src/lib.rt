@@ -1,4 +1,6 @@
 // Loads a file: the refusals 1 to 9 and 15 in order, and of an accepted file all that the table and the machines look up.
+#![tactic(auto)]
+
 ghost use Rattle.std.specs.Prelude.{◌≡◌, List, ◌≤◌, length};
 ghost use Rattle.machine.specs.Limits.{most_states, most_after};
 ghost use Rattle.syntax.specs.Held.Kind.{Words};
@@ -18,7 +20,7 @@ use variables::Bounds;
 
 // 1 to 9 and 15: the answer, and of an accepted file its variables, its layout, how many tries it has with the choice among
 // them, and for each region the guards that it touches, with the count of these pairs.
-#[derive(Drop)]
+#[derive(Clone, Copy)]
 pub struct Loaded {
     pub answer: Answer,
     pub bounds: Bounds,

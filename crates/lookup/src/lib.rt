@@ -1,5 +1,7 @@
 // A state by its number, with what holds there and what each region's body does from it; and the number of the state with
 // some values.
+#![tactic(auto)]
+
 ghost use Rattle.std.specs.Prelude.{◌≡◌, List, ℕ, ◌+◌, ◌*◌, ◌<◌, get_or};
 ghost use Rattle.syntax.specs.Tree.{Monitor, Var};
 ghost use Rattle.syntax.specs.Limits.{most_vars};
@@ -19,7 +21,7 @@ use variables::Bounds;
 // the values of its variables, each with 128 added, the guards that hold there, and for each region the state after its
 // body.
 #[repr(C)]
-#[derive(Drop)]
+#[derive(Clone, Copy)]
 pub struct State {
     pub answer: Answer,
     pub known: bool,
@@ -32,7 +34,7 @@ pub struct State {
 
 // The verdict of a file, and the number of a state of it, where the values are a state's.
 #[repr(C)]
-#[derive(Drop)]
+#[derive(Clone, Copy)]
 pub struct Numbered {
     pub answer: Answer,
     pub known: bool,

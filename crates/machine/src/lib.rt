@@ -1,5 +1,7 @@
 // Constants of the definitions in specs/, for all crates: the limits on a machine, as `Limits` and `Monitor` have them
 // (crates/machine/specs).
+#![tactic(auto)]
+
 pub const THREADS: usize = 16;
 
 pub const REGIONS: usize = 16;

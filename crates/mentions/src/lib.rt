@@ -1,5 +1,7 @@
 // The variables that keep, the guards, the tries and the bodies of a file name, as sets of slots, and for each region
 // the guards that it touches: those that name a variable which its body assigns. By one scan of each text's tokens.
+#![tactic(auto)]
+
 ghost use Rattle.std.specs.Prelude.{◌≡◌, false, List, ℕ, ◌-◌, ◌<◌, ◌≤◌, get_or};
 ghost use Rattle.machine.specs.Limits.{most_regions};
 ghost use Rattle.sets.specs.Set.{member, size};
@@ -14,7 +16,7 @@ use layout::{Layout, Tries};
 
 // Sets of slots, left sides included: those of the variables that keep, each guard, each try and each body name; and
 // sets of guards: those that each region touches.
-#[derive(Drop)]
+#[derive(Clone, Copy)]
 pub struct Mentions {
     pub keep: u16,
     pub guards: [u16; machine::REGIONS],

@@ -1,6 +1,8 @@
 // The library: the check of a file, the placing of its table into a lent buffer, runs of a trace on either machine or on
 // both, from a start state or from the start values, every point of a run in a lent buffer, and a load. No call asks anything of
 // its caller; each states its complete result for every input.
+#![tactic(auto)]
+
 ghost use Rattle.meaning.specs.Decide.Check as meaning;
 ghost use Rattle.meaning.specs.Decide.Calls as meant;
 ghost use Rattle.answers.specs.Says.{Is};

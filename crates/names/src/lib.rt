@@ -1,5 +1,7 @@
 // The pass over a file's tokens that answers 6, by the names declared so far, and the pass that gives each name its slot
 // among the variables.
+#![tactic(auto)]
+
 ghost use Rattle.std.specs.Prelude.{◌≡◌, ◌&&◌, ℕ, ◌≤◌, List, [], length, eqb};
 ghost use Rattle.std.proofs.Math.Option.{none};
 ghost use Rattle.syntax.specs.Bytes.{same_bytes};
@@ -13,7 +15,7 @@ ghost use Rattle.names.specs.Slots.{titles_of, slot_in, slot_or_value, Resolved,
 use passes::Found;
 
 // Declared names, as many as there may be methods: where each begins in the file, and its length.
-#[derive(Drop)]
+#[derive(Clone, Copy)]
 pub struct Names {
     pub starts: [u16; syntax::METHODS],
     pub lens: [u16; syntax::METHODS],

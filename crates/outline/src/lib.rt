@@ -1,4 +1,6 @@
 // What a file has and where it stands among its bytes: from its tokens, its variables and its layout.
+#![tactic(auto)]
+
 ghost use Rattle.std.specs.Prelude.{◌≡◌, List, ℕ, ◌<◌, ◌≤◌, get_or, take, length};
 ghost use Rattle.syntax.specs.Limits.{most_vars, most_tries, most_methods};
 ghost use Rattle.machine.specs.Limits.{most_regions};
@@ -19,7 +21,7 @@ use variables::Bounds;
 
 // From a byte on, up to another.
 #[repr(C)]
-#[derive(Drop)]
+#[derive(Clone, Copy)]
 pub struct Span {
     pub from: usize,
     pub to: usize,
@@ -27,7 +29,7 @@ pub struct Span {
 
 // A variable: its name, and its start value and bounds, each with 128 added.
 #[repr(C)]
-#[derive(Drop)]
+#[derive(Clone, Copy)]
 pub struct Variable {
     pub name: Span,
     pub start: u16,
@@ -37,7 +39,7 @@ pub struct Variable {
 
 // A method: its name, and the number of its first region.
 #[repr(C)]
-#[derive(Drop)]
+#[derive(Clone, Copy)]
 pub struct Method {
     pub name: Span,
     pub first: usize,
@@ -45,7 +47,7 @@ pub struct Method {
 
 // A region: its guard and its body, and the guard's number.
 #[repr(C)]
-#[derive(Drop)]
+#[derive(Clone, Copy)]
 pub struct Region {
     pub guard: Span,
     pub body: Span,
@@ -56,7 +58,7 @@ pub struct Region {
 // the state at the start values; where its name, the condition behind `keep` and those of its tries stand; and each
 // variable, method and region.
 #[repr(C)]
-#[derive(Drop)]
+#[derive(Clone, Copy)]
 pub struct Outline {
     pub answer: Answer,
     pub vars: usize,

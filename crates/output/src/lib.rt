@@ -1,5 +1,7 @@
 // What the programs print, from byte 0 of a lent buffer; the bytes behind are kept. Each call states every byte, for
 // every input: `placer_lines` and `runner_lines` of whole slices, the others of what a program has read so far.
+#![tactic(auto)]
+
 ghost use Rattle.std.specs.Prelude.{ℕ, ◌+◌, ◌≤◌, ◌<◌, ◌≡◌, List, length, take};
 ghost use Rattle.io.specs.Counts.{IsPrefixLen};
 ghost use Rattle.meaning.specs.Calls as calls;

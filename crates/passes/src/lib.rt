@@ -1,4 +1,6 @@
 // The passes over a file's tokens that answer 3 and 5, by counts.
+#![tactic(auto)]
+
 ghost use Rattle.std.specs.Prelude.{◌≡◌, ◌&&◌, ◌||◌, ℕ, ◌+◌, ◌≤◌, ◌<◌, List, leb, eqb};
 ghost use Rattle.syntax.specs.Limits.{most_tokens, most_open, most_vars, most_methods, most_tries};
 ghost use Rattle.machine.specs.Limits.{most_regions};
@@ -10,7 +12,7 @@ ghost use Rattle.meaning.specs.Decide.Check.{tally, crowded, past_limit};
 ghost use Rattle.passes.specs.Pass.{found_of};
 
 // The place of the first token that offends, or that there is none.
-#[derive(Drop)]
+#[derive(Clone, Copy)]
 pub enum Found {
     At(u16),
     Nothing,

@@ -1,4 +1,6 @@
 // One point of both machines' runs as bytes in a lent buffer: what both have in common once, and each machine's notices.
+#![tactic(auto)]
+
 ghost use Rattle.std.specs.Prelude.{◌≡◌, [], ◌∷◌, ℕ, ◌+◌, ◌<◌, ◌≤◌, length, get_or};
 ghost use Rattle.syntax.specs.Limits.{most_vars};
 ghost use Rattle.meaning.specs.Decide.Table.{for_each};

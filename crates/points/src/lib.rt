@@ -1,5 +1,7 @@
 // Every point of both machines' runs of a trace, as bytes in a lent buffer: what both have in common once, and each
 // machine's notices.
+#![tactic(auto)]
+
 ghost use Rattle.std.specs.Prelude.{◌≡◌, List, ℕ, ◌+◌, ◌≤◌, length};
 ghost use Rattle.syntax.specs.Tree.{Monitor};
 ghost use Rattle.machine.specs.Monitor as machine;
@@ -15,7 +17,7 @@ use run::frames::{Going, Stop};
 use variables::Bounds;
 
 // Where each machine stops, and how many points are written.
-#[derive(Drop)]
+#[derive(Clone, Copy)]
 pub struct Written {
     pub plain: Stop,
     pub table: Stop,

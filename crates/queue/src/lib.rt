@@ -1,5 +1,7 @@
 // The queue of those who wait in one number: four bits a thread, the earliest lowest. Who stands first, what stands behind
 // the first so many, one more thread behind them, and one thread less, with the others closed up.
+#![tactic(auto)]
+
 ghost use Rattle.std.specs.Prelude.{◌≡◌, ◌%◌, ◌<◌};
 ghost use Rattle.queue.specs.Packed.{behind_of, joined_to, left_by};
 

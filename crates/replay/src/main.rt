@@ -2,6 +2,8 @@
 // points from the start values both answers, how many there are, and a checksum of the buffer; then the same with a buffer
 // that is one byte too short; then what becomes of its tries. A case is the length of a monitor file and of a trace, four
 // bytes each, the lowest first, and then both.
+#![tactic(auto)]
+
 ghost use Rattle.std.specs.Prelude.{◌<◌};
 ghost use Rattle.io.specs.Counts.{IsPrefixLen};
 

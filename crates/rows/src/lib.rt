@@ -1,5 +1,7 @@
 // What holds at every state of a file whose names are resolved, and what every body does there, into lent slices: the
 // truth of keep, the guards and the tries that hold, and the outcome of each region's body.
+#![tactic(auto)]
+
 ghost use Rattle.std.specs.Prelude.{List, ◌≤◌, length};
 ghost use Rattle.machine.specs.Limits.{most_states, most_after};
 ghost use Rattle.syntax.specs.Token.{Lexeme};

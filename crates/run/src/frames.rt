@@ -9,14 +9,14 @@ use machine::StateNumber;
 use stepper::{Frame, Run};
 
 // Where a machine stops: the refusal's number and the frame, both 0 where it takes all.
-#[derive(Drop)]
+#[derive(Clone, Copy)]
 pub struct Stop {
     pub number: u8,
     pub frame: usize,
 }
 
 // The ends of both machines' runs, and the record at the plain one's.
-#[derive(Drop)]
+#[derive(Clone, Copy)]
 pub struct Ended {
     pub plain: Stop,
     pub table: Stop,
@@ -24,14 +24,14 @@ pub struct Ended {
 }
 
 // Both machines on their way: the record, and the table's refusal, 0 while that machine goes on.
-#[derive(Drop)]
+#[derive(Clone, Copy)]
 pub struct Going {
     pub run: Run,
     pub lost: Stop,
 }
 
 // What the plain machine answers a frame, and both machines behind it.
-#[derive(Drop)]
+#[derive(Clone, Copy)]
 pub struct Passed {
     pub number: u8,
     pub going: Going,

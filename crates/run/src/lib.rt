@@ -1,5 +1,7 @@
 // Runs a trace over an accepted file's slices, from a start state, on both machines: of each 11 to 14, or the record of its
 // run.
+#![tactic(auto)]
+
 pub mod frames;
 
 ghost use Rattle.std.specs.Prelude.{◌≡◌, Bool, List, ℕ, ◌<◌, length};
@@ -31,7 +33,7 @@ use variables::Bounds;
 
 // The record of a run: how many variables there are and each value with 128 added, the place and the turn of each of
 // sixteen threads, the notified set and how many are in it.
-#[derive(Drop)]
+#[derive(Clone, Copy)]
 pub struct Record {
     pub vars: usize,
     pub values: [u16; syntax::VARIABLES],
@@ -41,7 +43,7 @@ pub struct Record {
 }
 
 // What a run answers, its record where the trace is accepted, and whether the answer is the file's refusal.
-#[derive(Drop)]
+#[derive(Clone, Copy)]
 pub struct Running {
     pub answer: Answer,
     pub record: Record,
@@ -116,7 +118,7 @@ fn record_of(bounds: Bounds, run: Run, notified: u16) -> Record
 }
 
 // The results of both machines on one trace.
-#[derive(Drop)]
+#[derive(Clone, Copy)]
 pub struct Both {
     pub plain: Running,
     pub table: Running,

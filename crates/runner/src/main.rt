@@ -1,6 +1,8 @@
 // Reads monitor.txt and trace.txt, each once, and prints the plain machine's line and the table's, from the start
 // values; or a file's refusal once. A missing file reads as an empty one. Where opening, reading or writing fails
 // otherwise it says so on standard error, and after a failed read prints nothing.
+#![tactic(auto)]
+
 fn main() {
     let mut file = [0u8; output::FILE_BYTES];
     let monitor = input::read_opened(os::open_read(b"monitor.txt"), &mut file);

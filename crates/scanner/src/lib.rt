@@ -1,5 +1,7 @@
 // The tokens of a file one by one: a cursor by value whose method hands out the token and the advanced cursor, and a
 // reader that holds the file's slice and calls the cursor. Each promise cites the definitions of `syntax`.
+#![tactic(auto)]
+
 ghost use Rattle.std.specs.Prelude.{◌≡◌, [], ◌∷◌, ◌+◌, ◌≤◌, ◌<◌, drop, get_or, length};
 ghost use Rattle.syntax.specs.Bytes.{blank, letter, digit, word_byte, decimal};
 ghost use Rattle.syntax.specs.Decide.Leading.{leading};
@@ -9,7 +11,7 @@ ghost use Rattle.syntax.specs.Token.{marks};
 ghost use Rattle.scanner.specs.Step.{passes, marked, word_at, number_at, step_of, step_to, step_at};
 
 // A token: a word with its offsets, a number with its value, a mark with its kind, or none.
-#[derive(Drop)]
+#[derive(Clone, Copy)]
 pub enum Token {
     Word(usize, usize),
     Number(u16),
@@ -17,21 +19,21 @@ pub enum Token {
     None,
 }
 
-#[derive(Drop)]
+#[derive(Clone, Copy)]
 pub struct Cursor {
     pub at: usize,
 }
 
 // A file and a byte of it. Its functions are thin: each unpacks the slice and the byte and leaves the work to the
 // cursor.
-#[derive(Drop)]
+#[derive(Clone, Copy)]
 pub struct Reader<'a> {
     pub file: &'a [u8],
     pub at: usize,
 }
 
 // A token, the byte at which it begins, and the cursor past it. Where no token begins, the cursor stays there.
-#[derive(Drop)]
+#[derive(Clone, Copy)]
 pub struct Step {
     pub token: Token,
     pub start: usize,
@@ -39,7 +41,7 @@ pub struct Step {
 }
 
 // A mark's kind and how many bytes it has: 0 where there is none.
-#[derive(Drop)]
+#[derive(Clone, Copy)]
 struct Marked(u8, usize);
 
 // The classes of bytes, by number, for `run_end`.

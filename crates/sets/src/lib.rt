@@ -1,5 +1,7 @@
 // Sets of sixteen threads or guards as the bits of a number: members, one more or less, how many, the lowest, those that
 // another lacks, and those below a number.
+#![tactic(auto)]
+
 ghost use Rattle.std.specs.Prelude.{◌≡◌, true, not, ◌&&◌, ◌||◌, ℕ, ◌<◌, ◌≤◌, eqb, ltb};
 ghost use Rattle.sets.specs.Set.{member, size};
 

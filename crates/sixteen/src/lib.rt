@@ -1,12 +1,14 @@
 // Sixteen truths or numbers at once, each in a lane: sets of lanes, as truths and as bits, comparisons, and remainders.
 // A remainder's sides are held as one number less another, a variable's value with 128 added, so either may be below 0.
 // By a number a variable's values take a multiplication or a comparison each, and no division.
+#![tactic(auto)]
+
 ghost use Rattle.std.specs.Prelude.{◌≡◌, not, ◌&&◌, ◌||◌, false, ℕ, ◌+◌, ◌/◌, ◌%◌, ◌<◌, ◌≤◌, ltb, get_or};
 ghost use Rattle.sets.specs.Set.{member};
 ghost use Rattle.sixteen.specs.Rest.{rest, remainder_of, Rested};
 
 // A remainder in each lane, and the lanes that lack one, since the divisor there is below 1.
-#[derive(Drop)]
+#[derive(Clone, Copy)]
 pub struct Rests {
     pub lanes: [u32; 16],
     pub lacks: u16,

@@ -1,4 +1,6 @@
 // What is held of a file's states, looked up by their numbers.
+#![tactic(auto)]
+
 ghost use Rattle.std.specs.Prelude.{◌≡◌, get_or};
 
 use machine::StateNumber;

@@ -1,6 +1,8 @@
 // One frame on both machines: a record of their runs by value, and of each machine the step that the rules give or the
 // refusal's number. What both have in common is held and judged once. Each promise cites the step of `machine`, for every
 // monitor that the lent slices hold, and for either machine.
+#![tactic(auto)]
+
 ghost use Rattle.std.specs.Prelude.{◌≡◌, Bool, true, false, not, ◌&&◌, List, [], ℕ, ◌<◌, eqb};
 ghost use Rattle.sets.specs.Set.{member};
 ghost use Rattle.machine.specs.Monitor.{Monitor, Config, all_idle};
@@ -20,7 +22,7 @@ use machine::StateNumber;
 use threads::{Place, Thread, Threads};
 
 // The record of both machines' runs: the state's number, all threads, and each machine's notified set.
-#[derive(Drop)]
+#[derive(Clone, Copy)]
 pub struct Run {
     pub state: StateNumber,
     pub threads: Threads,
@@ -28,7 +30,7 @@ pub struct Run {
     pub table: u16,
 }
 
-#[derive(Drop)]
+#[derive(Clone, Copy)]
 pub struct Frame {
     pub thread: u8,
     pub region: u8,
@@ -37,7 +39,7 @@ pub struct Frame {
 
 // Of each machine the refusal's number, or 0 where it takes the frame; and the record afterwards, which shows the next
 // point of a machine that takes it, and is as it was where neither does.
-#[derive(Drop)]
+#[derive(Clone, Copy)]
 pub struct Outcome {
     pub plain: u8,
     pub table: u8,
@@ -45,7 +47,7 @@ pub struct Outcome {
 }
 
 // What answers a frame on each machine.
-#[derive(Drop)]
+#[derive(Clone, Copy)]
 struct Numbers {
     plain: u8,
     table: u8,

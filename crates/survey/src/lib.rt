@@ -1,5 +1,7 @@
 // What a tool needs to show a file without reading it again: its outline, its states by their numbers, and numbers by
 // values. No call asks anything of its caller; each states its complete result for every input.
+#![tactic(auto)]
+
 ghost use Rattle.std.specs.Prelude.{◌≡◌, List, ℕ};
 ghost use Rattle.loader.specs.Loading.{Loads};
 ghost use Rattle.survey.specs.Told.{past15, past8, OutlineTold, StateTold, NumberTold, FatesTold};
@@ -13,7 +15,7 @@ use tokens::Scanned;
 // The verdict of a file, and what becomes of its tries: whether it is told, how many there are, the chosen ones as bits,
 // and of each that a body breaks the pass, from 1, and the region and the state that break it.
 #[repr(C)]
-#[derive(Drop)]
+#[derive(Clone, Copy)]
 pub struct Fates {
     pub answer: Answer,
     pub known: bool,

@@ -1,5 +1,7 @@
 // Constants of the definitions in specs/, for all crates. The kinds of tokens by number, as `Kind` has them
 // (crates/syntax/specs/Held/Kind.antt).
+#![tactic(auto)]
+
 pub const NAME: u8 = 0;
 
 pub const NUMBER: u8 = 1;

@@ -1,4 +1,6 @@
 // The lines of a table in a lent buffer, from its entries held as numbers.
+#![tactic(auto)]
+
 ghost use Rattle.std.specs.Prelude.{◌≡◌, ◌+◌, ◌*◌, ◌<◌, ◌≤◌, length};
 ghost use Rattle.machine.specs.Limits.{most_regions, most_entries};
 ghost use Rattle.meaning.specs.Decide.Table.{entry_line};
@@ -7,7 +9,7 @@ ghost use Rattle.table.specs.Written.{PutsTable};
 ghost use Rattle.table.specs.Slices.{entry_by, line_at, lines_at, table_at};
 
 // The table's length, or that the buffer is shorter than the table (10).
-#[derive(Drop)]
+#[derive(Clone, Copy)]
 pub enum Placed {
     Length(usize),
     Short,

@@ -1,5 +1,7 @@
 // All sixteen threads: where each is, its turn among those who wait, and the queue of these by arrival. A thread begins to wait,
 // behind all who wait; a thread goes on, and those behind it close up. Nothing else changes threads.
+#![tactic(auto)]
+
 ghost use Rattle.std.specs.Prelude.{◌≡◌, false, ℕ, ◌-◌, ◌<◌};
 ghost use Rattle.machine.specs.Monitor.{SameThreads, idle_threads};
 ghost use Rattle.machine.specs.Queue.{place_in};
@@ -9,7 +11,7 @@ ghost use Rattle.queue.specs.Packed.{queue_of};
 ghost use Rattle.threads.specs.Held.{place_of, places_of, turns_of, threads_of, Turned, Queued, Puts, between};
 
 // Where a thread is: idle, waiting at a region, or due at a region.
-#[derive(Drop)]
+#[derive(Clone, Copy)]
 pub enum Place {
     Idle,
     Waiting(u8),
@@ -17,14 +19,14 @@ pub enum Place {
 }
 
 // A thread: where it is, and how many of those who wait began before it; 0 where it does not wait.
-#[derive(Drop)]
+#[derive(Clone, Copy)]
 pub struct Thread {
     pub place: Place,
     pub turn: u8,
 }
 
 // All of them, and those who wait in one number, four bits each, the earliest lowest, with how many they are.
-#[derive(Drop)]
+#[derive(Clone, Copy)]
 pub struct Threads {
     pub each: [Thread; machine::THREADS],
     pub order: u64,

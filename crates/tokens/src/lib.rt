@@ -1,4 +1,6 @@
 // The tokens of a whole file as numbers in lent arrays, token by token from `scanner`'s reader.
+#![tactic(auto)]
+
 ghost use Rattle.std.specs.Prelude.{◌≡◌, [], ◌∷◌, ◌+◌, ◌-◌, ◌≤◌, take, drop, length};
 ghost use Rattle.syntax.specs.Bytes.{same_bytes};
 ghost use Rattle.syntax.specs.Decide.Scan.{word_of};
@@ -9,7 +11,7 @@ ghost use Rattle.tokens.specs.Coded.{place, key_code, lexeme_code, Within, code_
 use scanner::{Cursor, Token};
 
 // How many tokens a file has; the first byte that begins none (2); or that it is too long (1).
-#[derive(Drop)]
+#[derive(Clone, Copy)]
 pub enum Scanned {
     Tokens(usize),
     Bad(usize),
@@ -17,7 +19,7 @@ pub enum Scanned {
 }
 
 // How a token is held: its kind, with a number's value or a name's length.
-#[derive(Drop)]
+#[derive(Clone, Copy)]
 struct Code {
     kind: u8,
     value: u16,

@@ -1,12 +1,14 @@
 // Reads the frames of a trace: how many frames a whole trace has or its first line that is none (12), and the numbers of
 // the frame at a byte.
+#![tactic(auto)]
+
 ghost use Rattle.std.specs.Prelude.{◌≡◌, ◌<◌};
 ghost use Rattle.meaning.specs.Decide.Frames.{is_hex};
 ghost use Rattle.trace.specs.Lined.{Tells, counted_of};
 ghost use Rattle.trace.specs.Decoded.{value_of, numbers_at};
 
 // The numbers of a frame's line.
-#[derive(Drop)]
+#[derive(Clone, Copy)]
 pub struct Numbers {
     pub thread: u8,
     pub region: u8,
@@ -14,7 +16,7 @@ pub struct Numbers {
 }
 
 // How many frames there are, or the number of the first line that is none.
-#[derive(Drop)]
+#[derive(Clone, Copy)]
 pub enum Counted {
     Frames(usize),
     BadAt(usize),

@@ -1,5 +1,7 @@
 // The truth of conditions at every state of a file, sixteen states at a time, into lent slices. A condition is evaluated
 // anew only where a variable that it names has changed since the last sixteen states.
+#![tactic(auto)]
+
 ghost use Rattle.std.specs.Prelude.{◌≡◌, List, ℕ, ◌+◌, ◌<◌, ◌≤◌, length};
 ghost use Rattle.machine.specs.Limits.{most_regions, most_states};
 ghost use Rattle.sets.specs.Set.{member};
@@ -15,7 +17,7 @@ use machine::StateNumber;
 use variables::Bounds;
 
 // Conditions, at most sixteen: the token at which each begins, the variables that it names, and how many there are.
-#[derive(Drop)]
+#[derive(Clone, Copy)]
 pub struct Texts {
     pub ats: [u16; machine::REGIONS],
     pub named: [u16; machine::REGIONS],

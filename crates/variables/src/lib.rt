@@ -1,5 +1,7 @@
 // The variables of a file: their bounds and start values from its tokens (7), and states as values and as numbers.
 // Values are held with 128 added, states' numbers in sixteen bits.
+#![tactic(auto)]
+
 ghost use Rattle.std.specs.Prelude.{◌≡◌, ◌+◌, ◌-◌, ◌*◌, ◌^◌, ◌<◌, ◌≤◌, List, [], ◌++◌, length, drop, slice_index};
 ghost use Rattle.syntax.specs.Limits.{most_bytes, most_vars};
 ghost use Rattle.machine.specs.Limits.{most_states};
@@ -14,7 +16,7 @@ ghost use Rattle.variables.specs.Promises.{Weighed, DigitOf};
 use machine::StateNumber;
 
 // At most six variables: bounds, start values, and weights in a state's number; and the count of states.
-#[derive(Drop)]
+#[derive(Clone, Copy)]
 pub struct Bounds {
     pub lows: [u16; syntax::VARIABLES],
     pub highs: [u16; syntax::VARIABLES],
@@ -25,7 +27,7 @@ pub struct Bounds {
 }
 
 // The variables, with the token behind them; or the token of the first variable with a bad range (7).
-#[derive(Drop)]
+#[derive(Clone, Copy)]
 pub struct Declared {
     pub ok: bool,
     pub token: usize,
@@ -55,14 +57,14 @@ const LOWEST: u32 = 65408;
 const HIGHEST: u32 = 65663;
 
 // An integer with 65,536 added, and the token behind it.
-#[derive(Drop)]
+#[derive(Clone, Copy)]
 struct Integer {
     value: u32,
     next: usize,
 }
 
 // The start value and the bounds of a variable, each with 65,536 added, and the token behind it.
-#[derive(Drop)]
+#[derive(Clone, Copy)]
 struct Triple {
     start: u32,
     low: u32,
@@ -260,7 +262,7 @@ fn times(a: u16, b: u16) -> u16
 }
 
 // A value, and the number that is left for the variables behind it.
-#[derive(Drop)]
+#[derive(Clone, Copy)]
 struct Digit {
     value: u16,
     rest: StateNumber,

@@ -1,4 +1,6 @@
 // Who waits on a guard, along the queue: those ahead of a waiter in its line, and whom a body notifies anew on both machines.
+#![tactic(auto)]
+
 ghost use Rattle.std.specs.Prelude.{◌≡◌, ◌||◌, ℕ, ◌<◌};
 ghost use Rattle.sets.specs.Set.{member};
 ghost use Rattle.machine.specs.Monitor.{on_guard, waits_on};
@@ -12,7 +14,7 @@ use machine::StateNumber;
 use threads::{Place, Threads};
 
 // A set of threads for each machine.
-#[derive(Drop)]
+#[derive(Clone, Copy)]
 pub struct Notices {
     pub plain: u16,
     pub table: u16,
