@@ -1,5 +1,4 @@
 -- `sets::below` meets its contract: a meet with the lowest bits; from 16 on nothing changes.
-use borrow.Author.Rules.{rules}
 use Prim.Native.Nat.{ℕ, ◌-◌, ◌^◌}
 use native.Mathlib.Omega.{arith}
 use mathlib.Core.Path.{sym, ap, ◌∙◌}
@@ -9,23 +8,18 @@ use lib.Pow.{pow_pos}
 use borrow.Author.Tests.{lt-ltb}
 use Rattle.sets.specs.Set.{member}
 use Rattle.sets.proofs.SetLaws.{bit_of, member_and, member_lowest}
-use Rattle.sets.proofs.below.Statement.{statement}
-use Rattle.sets.proofs.below.Tie as tie
+use Rattle.sets.proofs.below.Goals as goal
 
-returns : tie.Need-returns
-returns c u h =
-    let a = c.before.args in
-    ap (λ (n : ℕ). member (bit_and a.set (n - 1)) u) (bit_of a.n c.if1.true)
+pub returns-then-n-lt16 : goal.returns-then-n-lt16
+returns-then-n-lt16 c u h =
+    let a = c.args in
+    ap (λ (n : ℕ). member (bit_and a.set (n - 1)) u) (bit_of a.n c.if-n-lt16.true)
     ∙ member_and a.set (2 ^ a.n - 1) u ∙ ap (λ (b : Bool). member a.set u && b) (member_lowest a.n u)
 
-returns_2 : tie.Need-returns-2
-returns_2 c u h =
-    let a = c.before.args in
+pub returns-else-n-lt16 : goal.returns-else-n-lt16
+returns-else-n-lt16 c u h =
+    let a = c.args in
     sym (ap (λ (b : Bool). member a.set u && b) (lt-ltb u a.n (omega arith)) ∙ and-true (member a.set u))
 
-pub below_spec : {M : Type 1} → statement M
-below_spec =
-    tie.close
-    (tie.spec (λ c. search rules) (λ c. search rules) (λ c. search rules)
-    (λ c. let p = pow_pos c.before.args.n in let e = bit_of c.before.args.n c.if1.true in omega arith)
-    returns returns_2)
+pub overflow_sub-result : goal.overflow_sub-result
+overflow_sub-result = λ c. let p = pow_pos c.args.n in let e = bit_of c.args.n c.if-n-lt16.true in omega arith

@@ -1,0 +1,18 @@
+-- `sixteen::below` meets its contract: each turn stores the test of its lane.
+use Prim.Native.Nat.{◌-◌}
+use native.Mathlib.Omega.{arith}
+use mathlib.Core.Path.{◌≡◌, refl}
+use mathlib.Core.Bool.{false}
+use lib.ListN.{get_or}
+use lib.Dec.{ltb}
+use Rattle.sixteen.proofs.Fill.{Filled, fill_none, fill_more, all_filled}
+use Rattle.sixteen.proofs.below.Goals as goal
+
+pub loop-j-init : goal.loop-j-init
+loop-j-init = λ c. fill_none false
+
+pub loop-j-preserved : goal.loop-j-preserved
+loop-j-preserved = λ c. fill_more _ c.loop-j.invariant c.loop-j-test.true refl
+
+pub returns : goal.returns
+returns = λ c. all_filled c.loop-j.invariant c.loop-j-test.false

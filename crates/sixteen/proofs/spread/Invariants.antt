@@ -1,0 +1,13 @@
+use Prim.Native.Nat.{◌-◌}
+use native.Mathlib.Omega.{arith}
+use mathlib.Core.Path.{◌≡◌}
+use mathlib.Core.Bool.{false}
+use Rattle.sets.specs.Set.{member}
+use Rattle.sixteen.proofs.Fill.{Filled, fill_none, fill_more, all_filled}
+use Rattle.sixteen.proofs.spread.Given as goal
+
+abbrev pub invariant-loop-j : goal.invariant-loop-j
+invariant-loop-j l = Filled false (λ k x. x ≡ member l.set k) l.lanes l.j
+
+abbrev pub decreases-loop-j : goal.decreases-loop-j
+decreases-loop-j l = 16 - l.j
