@@ -49,7 +49,7 @@ all_marks =
 
 mark_at : (m : Mark) → get_or all_marks (mark_number m) lbrace ≡ m
 unfolding mark_number
-mark_at m = elim m [
+mark_at = elim [
   | lbrace ↦ refl
   | rbrace ↦ refl
   | lparen ↦ refl
@@ -77,7 +77,7 @@ all_keys = k_monitor ∷ k_var ∷ k_in ∷ k_keep ∷ k_method ∷ k_waituntil 
 
 key_at : (k : Keyword) → get_or all_keys (keyword_number k) k_monitor ≡ k
 unfolding keyword_number
-key_at k = elim k [
+key_at = elim [
   | k_monitor ↦ refl
   | k_var ↦ refl
   | k_in ↦ refl
@@ -123,10 +123,10 @@ the_key k = record { spells = key_spellable k; alone = alone; itself = eq-eqb (k
 names : {F : Follow} {n : ℕ} → Phrase (of (λ x. name x ∷ [])) F n read_name read_name
 unfolding read_name
 names = ones {s = name} (record {
-  tree = λ l. elim l [ name x ↦ some x | key k ↦ none | number n ↦ none | mark m ↦ none ];
+  tree = elim [ name x ↦ some x | key k ↦ none | number n ↦ none | mark m ↦ none ];
   at_none = refl;
-  at = λ l ls. elim l [ name x ↦ refl | key k ↦ refl | number n ↦ refl | mark m ↦ refl ];
-  fits = λ l x. elim l [ name y ↦ λ e. cc | key k ↦ λ e. cc | number n ↦ λ e. cc | mark m ↦ λ e. cc ];
+  at = elim [ name x ↦ λ ls. refl | key k ↦ λ ls. refl | number n ↦ λ ls. refl | mark m ↦ λ ls. refl ];
+  fits = elim [ name y ↦ λ x e. cc | key k ↦ λ x e. cc | number n ↦ λ x e. cc | mark m ↦ λ x e. cc ];
   takes = λ x. refl;
   example = bytes "a";
   spells = name_spellable;
@@ -135,10 +135,10 @@ names = ones {s = name} (record {
 numbers : {F : Follow} {n : ℕ} → Phrase (of (λ x. number x ∷ [])) F n read_number read_number
 unfolding read_number
 numbers = ones {s = number} (record {
-  tree = λ l. elim l [ name x ↦ none | key k ↦ none | number n ↦ some n | mark m ↦ none ];
+  tree = elim [ name x ↦ none | key k ↦ none | number n ↦ some n | mark m ↦ none ];
   at_none = refl;
-  at = λ l ls. elim l [ name x ↦ refl | key k ↦ refl | number n ↦ refl | mark m ↦ refl ];
-  fits = λ l x. elim l [ name y ↦ λ e. cc | key k ↦ λ e. cc | number n ↦ λ e. cc | mark m ↦ λ e. cc ];
+  at = elim [ name x ↦ λ ls. refl | key k ↦ λ ls. refl | number n ↦ λ ls. refl | mark m ↦ λ ls. refl ];
+  fits = elim [ name y ↦ λ x e. cc | key k ↦ λ x e. cc | number n ↦ λ x e. cc | mark m ↦ λ x e. cc ];
   takes = λ x. refl;
   example = 0;
   spells = number_spellable;
@@ -149,7 +149,7 @@ unfolding read_int spell_int begins is_mark mark_number
 ints = spelled
     (picks (the_mark minus) (turns negated numbers) (turns plain numbers) clear)
     (cases exact exact)
-    (λ i. elim i [ plain n ↦ (inr n, refl) | negated n ↦ (inl n, refl) ])
+    (elim [ plain n ↦ (inr n, refl) | negated n ↦ (inl n, refl) ])
 
 -- an integer begins with a number or a minus
 int_front : (t : Lexeme → Bool) (b : Bool) → ((n : ℕ) → t (number n) ≡ b) → t (mark minus) ≡ b
@@ -164,14 +164,14 @@ atoms = spelled
     (chooses is_name (turns variable names) (turns literal ints) clear
     (every λ i us _. int_front is_name false (λ _. refl) refl i us))
     (cases exact exact)
-    (λ a. elim a [ literal i ↦ (inr i, refl) | variable x ↦ (inl x, refl) ])
+    (elim [ literal i ↦ (inr i, refl) | variable x ↦ (inl x, refl) ])
 
 signs : {F : Follow} {n : ℕ} → Phrase (of (λ s. mark (sign_mark s) ∷ [])) F n read_sign read_sign
 unfolding read_sign sign_mark begins is_mark mark_number
 signs = spelled
     (picks (the_mark plus) (gives added) (skips (the_mark minus) (gives taken)) clear)
     (cases exact exact)
-    (λ a. elim a [ added ↦ (inl tt, refl) | taken ↦ (inr tt, refl) ])
+    (elim [ added ↦ (inl tt, refl) | taken ↦ (inr tt, refl) ])
 
 -- behind an atom a `mod` goes on with the term, so none may follow it
 abbrev no_mod : Follow
@@ -182,7 +182,7 @@ unfolding read_term spell_term
 terms = spelled
     (thens atoms (λ a. picks (the_key k_mod) (turns (remainder a) atoms) (gives (alone a)) (every λ _ us g. g)))
     (pairs λ a. cases exact (every λ _. append-nil (spell_atom a)))
-    (λ t. elim t [ alone a ↦ ((a, inr tt), refl) | remainder a b ↦ ((a, inl b), refl) ])
+    (elim [ alone a ↦ ((a, inr tt), refl) | remainder a b ↦ ((a, inl b), refl) ])
 
 signed : {n : ℕ} → Phrase (of spell_signed) no_mod n read_signed read_signed
 unfolding read_signed spell_signed
@@ -234,7 +234,7 @@ comparisons = spelled
     clear) (cases clear clear)) (cases clear (cases clear clear))) (cases clear (cases clear (cases clear clear))))
     (cases clear (cases clear (cases clear (cases clear clear)))))
     (cases exact (cases exact (cases exact (cases exact (cases exact exact)))))
-    (λ o. elim o [
+    (elim [
       | eq ↦ (inl tt, refl)
       | ne ↦ (inr (inl tt), refl)
       | lt ↦ (inr (inr (inl tt)), refl)
@@ -245,7 +245,7 @@ comparisons = spelled
 
 comparison_no_more : (o : Comparison) → goes_on_lem (mark (comparison_mark o)) ≡ false
 unfolding goes_on_lem is_sign is_mark is_key comparison_mark mark_number
-comparison_no_more o = elim o [ eq ↦ refl | ne ↦ refl | lt ↦ refl | le ↦ refl | gt ↦ refl | ge ↦ refl ]
+comparison_no_more = elim [ eq ↦ refl | ne ↦ refl | lt ↦ refl | le ↦ refl | gt ↦ refl | ge ↦ refl ]
 
 -- an expression begins with a name, a number or a minus
 expr_front : (t : Lexeme → Bool) → ((x : List ℕ) → t (name x) ≡ false) → ((n : ℕ) → t (number n) ≡ false)
@@ -292,9 +292,9 @@ mutual
   conds (suc k) (suc n) h = spelled
       (meets (conjs k (suc n) (omega arith))
       (λ c. picks₁ (the_mark or_or) (turns (or c) (conds k n (omega arith))) (gives (only c)) (every λ _ us g. g.2))
-      (λ c x us g. elim x [ inl d ↦ (refl, refl) | inr _ ↦ (g.0, g.1) ]))
+      (λ c. elim [ inl d ↦ λ us g. (refl, refl) | inr _ ↦ λ us g. (g.0, g.1) ]))
       (pairs λ c. cases exact (every λ _. append-nil (spell_conj c)))
-      (λ x. elim x [ only c ↦ ((c, inr tt), refl) | or c d ↦ ((c, inl d), refl) ])
+      (elim [ only c ↦ ((c, inr tt), refl) | or c d ↦ ((c, inl d), refl) ])
 
   conjs : (k n : ℕ) → 3 * n ≤ k → Phrase (of spell_conj) after_conj n (read_conj k) (read_conj (suc k))
   conjs zero n h = vacuous (omega arith) a_conj true_spellable
@@ -302,9 +302,9 @@ mutual
   conjs (suc k) (suc n) h = spelled
       (meets (simples k (suc n) (omega arith))
       (λ s. picks₁ (the_mark and_and) (turns (and s) (conjs k n (omega arith))) (gives (just s)) (every λ _ us g. g.1))
-      (λ s x us g. elim x [ inl d ↦ refl | inr _ ↦ g.0 ]))
+      (λ s. elim [ inl d ↦ λ us g. refl | inr _ ↦ λ us g. g.0 ]))
       (pairs λ s. cases exact (every λ _. append-nil (spell_simple s)))
-      (λ x. elim x [ just s ↦ ((s, inr tt), refl) | and s c ↦ ((s, inl c), refl) ])
+      (elim [ just s ↦ ((s, inr tt), refl) | and s c ↦ ((s, inl c), refl) ])
 
   simples : (k n : ℕ) → 3 * n ≤ k + 1 → Phrase (of spell_simple) no_more n (read_simple k) (read_simple (suc k))
   simples zero n h = vacuous (omega arith) a_simple true_spellable
@@ -325,10 +325,11 @@ mutual
       (cases clear (cases clear (cases clear
       (every λ x us _. expr_front (is_mark bang) (λ _. refl) (λ _. refl) refl x.0 _ us)))))
       (cases exact (cases exact (cases exact (cases exact exact))))
-      (λ x. elim x [
+      (elim [
         | negation s ↦ (inl s, refl)
         | bracketed c ↦ (inr (inl (c, tt)), refl)
-        | constant b ↦ elim b [ true ↦ (inr (inr (inl tt)), refl) | false ↦ (inr (inr (inr (inl tt))), refl) ]
+        | constant true ↦ (inr (inr (inl tt)), refl)
+        | constant false ↦ (inr (inr (inr (inl tt))), refl)
         | compare e o f ↦ (inr (inr (inr (inr (e, (o, f))))), refl)
       ])
 
@@ -393,7 +394,7 @@ mutual
       (every λ _ us g. g)
       (every λ x us _. rw append_assoc (stmt_front (is_mark rbrace) (λ _. refl) refl x.0 (spell_block x.1 ++ us))))
       (cases exact exact)
-      (λ x. elim x [ end ↦ (inl tt, refl) | then s b ↦ (inr (s, b), refl) ])
+      (elim [ end ↦ (inl tt, refl) | then s b ↦ (inr (s, b), refl) ])
 
   stmts : (k n : ℕ) → 3 * n ≤ k → Phrase (of spell_stmt) no_else n (read_stmt k) (read_stmt (suc k))
   stmts zero n h = vacuous (omega arith) a_stmt if_spellable
@@ -409,7 +410,7 @@ mutual
       (λ e. skips (the_mark semicolon) (gives (assign x e))) (λ _ _ _ _. refl))))
       clear)
       (cases (pairs λ c. pairs λ a. cases exact exact) exact)
-      (λ x. elim x [
+      (elim [
         | assign x e ↦ (inr (x, (e, tt)), refl)
         | if_then c b ↦ (inl (c, (b, inr tt)), refl)
         | if_else c a b ↦ (inl (c, (a, inl (b, tt))), refl)

@@ -177,7 +177,7 @@ pub pairs : {I : Type 0} {J : I → Type 0} {P : (i : I) × J i → Type 0} → 
 pairs h = record { at = λ x. (h x.0).at x.1 }
 
 pub cases : {I J : Type 0} {P : I ⊎ J → Type 0} → Every (λ (i : I). P (inl i)) → Every (λ (j : J). P (inr j)) → Every P
-cases h k = record { at = λ x. elim x [ inl i ↦ h.at i | inr j ↦ k.at j ] }
+cases h k = record { at = elim [ inl i ↦ h.at i | inr j ↦ k.at j ] }
 
 -- an equation that holds by computing
 pub exact : {I A : Type 0} {f : I → A} → Every (λ i. f i ≡ f i)
@@ -537,7 +537,7 @@ module _ {A : Type 0} (s : A → List Lexeme) (p : Lexeme → Bool) (starts : (a
         (λ a. omega (arith, not_empty a)) (λ _ as' us g. follows as' us g.1))
         (gives []) (every λ x us f. rw append_assoc (starts x.0 (each s x.1 ++ us))) (every λ x us f. f.0))
         (cases exact exact)
-        (λ x. elim x [ [] ↦ (inr tt, refl) | a ∷ as' ↦ (inl (a, as'), refl) ])
+        (elim [ [] ↦ (inr tt, refl) | a ∷ as' ↦ (inl (a, as'), refl) ])
 
   pub manys : {r r' : Reader A} (k n : ℕ) → n ≤ k → Phrase (of s) anything n r r'
       → Phrase (of (each s)) (λ us. begins p us ≡ false) n (read_many p r k) (read_many p r' (suc k))

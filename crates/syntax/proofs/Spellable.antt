@@ -27,7 +27,7 @@ scanned bs l n e = (take n bs, ((scan_found bs l n).0 e).1)
 
 pub key_spellable : (k : Keyword) → Spellable (key k)
 unfolding scan letter between leading word_byte digit word_of at_most bytes same_bytes keywords
-key_spellable k = elim k [
+key_spellable = elim [
   | k_monitor ↦ scanned (bytes "monitor") _ 7 refl
   | k_var ↦ scanned (bytes "var") _ 3 refl
   | k_in ↦ scanned (bytes "in") _ 2 refl
@@ -44,7 +44,7 @@ key_spellable k = elim k [
 
 pub mark_spellable : (m : Mark) → Spellable (mark m)
 unfolding scan letter between digit mark_of bytes starts_with marks
-mark_spellable m = elim m [
+mark_spellable = elim [
   | lbrace ↦ scanned (bytes "{") _ 1 refl
   | rbrace ↦ scanned (bytes "}") _ 1 refl
   | lparen ↦ scanned (bytes "(") _ 1 refl
