@@ -65,7 +65,8 @@ module _ {P : List ℕ → Bool} {vs : List Var} {as' bs : List ℤ} (same : Ali
   terms_value_lem a b [] e h = e
   terms_value_lem a b (t ∷ ts) e h =
       let one = term_value_lem t.term (in_rest _ _ (in_left (spell_signed t) (each spell_signed ts) h)) in
-      terms_value_lem _ _ ts (ap₂ (of_both (joined t.sign)) e one) (in_right (spell_signed t) (each spell_signed ts) h)
+      terms_value_lem (of_both (joined t.sign) a (term_value vs as' t.term)) (of_both (joined t.sign) b (term_value vs bs t.term)) ts
+      (ap₂ (of_both (joined t.sign)) e one) (in_right (spell_signed t) (each spell_signed ts) h)
 
   expr_value_lem : (e : Expr) → NamesPass P (spell_expr e) → expr_value vs as' e ≡ expr_value vs bs e
   unfolding spell_expr expr_value

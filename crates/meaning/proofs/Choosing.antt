@@ -442,7 +442,7 @@ module _ (m : Monitor) where
     sum = omega (arith, t.sum);
     few = omega (arith, t.few);
     breaks = t.breaks;
-    none_before = λ j. elim j [ zero ↦ λ low. e | suc j ↦ λ low. t.none_before j (omega arith) ];
+    none_before = λ j. elim j as (λ k. k < suc t.passed → first_break m (passes m k xs) (try_at m i) ≡ none) [ zero ↦ λ low. e | suc j ↦ λ low. t.none_before j (omega arith) ];
   }
 
   fate_broken : (n q : ℕ) (xs : List Bool) (i p k s : ℕ) → fate_from m n q xs i ≡ broken p k s → From n q xs i p k s

@@ -215,7 +215,7 @@ module _ (vs : List Var) (as' : List ℤ) where
   of_terms {o} {v} [] f = subst (Valued o) (sym (append-nil v)) f
   of_terms {o} {v} (t ∷ ts) f =
       subst (Valued (terms_value vs as' o (t ∷ ts))) (append_assoc v (spell_signed t) (each spell_signed ts))
-      (of_terms ts (both_sides (joined t.sign) f (next (mark (sign_mark t.sign)) refl (of_term t.term))))
+      (of_terms {o = of_both (joined t.sign) o (term_value vs as' t.term)} ts (both_sides (joined t.sign) f (next (mark (sign_mark t.sign)) refl (of_term t.term))))
 
   of_expr : (e : Expr) → Valued (expr_value vs as' e) (spell_expr e)
   unfolding spell_expr expr_value
@@ -301,7 +301,7 @@ module _ (vs : List Var) (as' : List ℤ) where
   missing_terms o [] {v} f e = in_first [] (f e)
   missing_terms o (t ∷ ts) {v} f e =
       subst MissingIn (append_assoc v (spell_signed t) (each spell_signed ts))
-      (missing_terms _ ts
+      (missing_terms (of_both (joined t.sign) o (term_value vs as' t.term)) ts
       (λ h. in_both_lem (joined t.sign) o (term_value vs as' t.term) h f
       (λ k. in_second (mark (sign_mark t.sign) ∷ []) (missing_term t.term k))) e)
 
