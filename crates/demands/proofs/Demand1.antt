@@ -12,7 +12,7 @@ use borrow.Author.Tests.{ltb-true, ltb-false}
 use Rattle.syntax.specs.Tree.{Monitor}
 use Rattle.machine.specs.Monitor.{Frame, Run, stopped}
 use Rattle.logic.proofs.Bools.{split, clash, is_false}
-use Rattle.meaning.specs.Answer.{answer, Verdict, accepted, refused}
+use Rattle.meaning.specs.Answer.{Verdict, accepted, refused}
 use Rattle.meaning.specs.Decide.Check.{check}
 use Rattle.meaning.specs.Model.{vars, kept, model}
 use Rattle.meaning.specs.State.{start_number}
@@ -23,7 +23,7 @@ use Rattle.meaning.specs.Decide.Calls.{place, running_of, run_list, run_frames, 
 use Rattle.meaning.specs.Accepted.{Accepted}
 use Rattle.meaning.specs.Trace.{FrameRecords, lines_of}
 use Rattle.meaning.proofs.Frames.{frames_read, frames_stop}
-use Rattle.meaning.proofs.Verdicts.{refusal_number, accepted_iff, refused_iff, check_iff, one_verdict}
+use Rattle.meaning.proofs.Verdicts.{refusal_number, accepted_iff, refused_iff, check_iff}
 use Rattle.meaning.proofs.ModelLaws.{startable_iff}
 use Rattle.meaning.proofs.StateLaws.{starts_state, number_below, state_at_number}
 use Rattle.machine.proofs.RulesDecided.{refuses_number}

@@ -32,7 +32,7 @@ use Rattle.meaning.specs.Calls.{Machine, plain_machine, table_machine, Startable
 use Rattle.meaning.specs.Bits.{each_from, bits}
 use Rattle.meaning.proofs.Each.{each_first}
 use Rattle.meaning.specs.Calls.{Record, record_of, Running, ran, not_run, notices_of}
-use Rattle.meaning.specs.Decide.Calls.{place, told_by, running_of, run_list, running}
+use Rattle.meaning.specs.Decide.Calls.{told_by, running_of, run_list, running}
 use Rattle.meaning.specs.Accepted.{Accepted}
 use Rattle.meaning.proofs.ModelLaws.{holds_guard, startable_iff}
 use Rattle.meaning.specs.Trace.{IsFrameRecord, FrameRecords, no_frame, one_frame, lines_of}

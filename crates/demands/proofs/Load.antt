@@ -18,7 +18,7 @@ use Rattle.machine.specs.Recheck.{Recheck}
 use Rattle.machine.specs.Load.{Among}
 use Rattle.machine.proofs.Reached.{Reached, start_reached}
 use Rattle.machine.proofs.Load.{loads, one_load, loads_most, loads_rules, loads_threads, loads_idle, loads_short}
-use Rattle.meaning.specs.Answer.{answer, Verdict, accepted, refused}
+use Rattle.meaning.specs.Answer.{Verdict, accepted, refused}
 use Rattle.meaning.specs.Decide.Check.{check}
 use Rattle.meaning.specs.State.{start_number}
 use Rattle.meaning.specs.Model.{vars, kept, model}
