@@ -9,8 +9,6 @@ use Rattle.syntax.specs.Token.{lbrace, rbrace, lparen, rparen, semicolon, become
 use Rattle.syntax.specs.Decide.Lexeme.{mark_number}
 use Rattle.syntax.specs.Decide.Lexeme.{keyword_number}
 use Rattle.syntax.specs.Held.Kind.{kind_of}
-use native.Mathlib.Omega.{arith}
-use Prim.Native.Nat.{ℕ, ◌<◌}
 use Rattle.grammar.proofs.+read_block_read_stmt.Goals as goal
 
 pub read_block-returns-then-left-eq0 : goal.read_block-returns-then-left-eq0
@@ -97,12 +95,3 @@ read_stmt-returns t c =
     then (took_mark becomes c.expect-becomes.ensures) λ _.
     then c.read_expr-value.ensures λ _.
     then (took_mark semicolon c.expect-2.ensures) λ _. done _))
-
-pub read_stmt-read_block-block2-requires : goal.read_stmt-read_block-block2-requires
-read_stmt-read_block-block2-requires t = λ c. (
-  omega (
-    arith,
-    c,
-  ),
-  tt,
-)

@@ -8,8 +8,6 @@ use Rattle.syntax.specs.Tree.{only, just, constant}
 use Rattle.syntax.specs.Token.{lparen, rparen, bang, and_and, or_or, k_true, k_false}
 use Rattle.syntax.specs.Decide.Lexeme.{mark_number, keyword_number}
 use Rattle.syntax.specs.Held.Kind.{kind_of}
-use native.Mathlib.Omega.{arith}
-use Prim.Native.Nat.{ℕ, ◌<◌}
 use Rattle.grammar.proofs.+read_cond_read_conj_read_simple.Goals as goal
 
 pub read_cond-returns-then-left-eq0 : goal.read_cond-returns-then-left-eq0

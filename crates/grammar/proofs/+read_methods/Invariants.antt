@@ -1,13 +1,3 @@
-use mathlib.Core.Path.{refl}
-use mathlib.Core.List.{[]}
-use Rattle.grammar.proofs.Readers.{then, done, yes, no, fuelled, spent}
-use Rattle.grammar.proofs.KindTests.{by_key}
-use Rattle.syntax.specs.Decide.Reading.{read_many, read_method}
-use Rattle.syntax.specs.Decide.Lexeme.{is_key, keyword_number}
-use Rattle.syntax.specs.Token.{k_method}
-use Rattle.syntax.specs.Held.Kind.{kind_of}
-use native.Mathlib.Omega.{arith}
-use Prim.Native.Nat.{ℕ, ◌<◌}
 use Rattle.grammar.proofs.+read_methods.Given as goal
 
 abbrev pub decreases-read_methods : goal.decreases-read_methods

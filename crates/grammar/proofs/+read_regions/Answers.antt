@@ -7,8 +7,6 @@ use Rattle.syntax.specs.Decide.Reading.{read_many, read_region}
 use Rattle.syntax.specs.Decide.Lexeme.{is_key, keyword_number}
 use Rattle.syntax.specs.Token.{k_waituntil}
 use Rattle.syntax.specs.Held.Kind.{kind_of}
-use native.Mathlib.Omega.{arith}
-use Prim.Native.Nat.{ℕ, ◌<◌}
 use Rattle.grammar.proofs.+read_regions.Goals as goal
 
 pub returns-then-rounds-eq0 : goal.returns-then-rounds-eq0

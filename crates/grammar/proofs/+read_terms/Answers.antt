@@ -6,8 +6,6 @@ use Rattle.grammar.proofs.KindTests.{by_sign, took_sign}
 use Rattle.syntax.specs.Decide.Reading.{read_many, read_signed, is_sign}
 use Rattle.syntax.specs.Decide.Lexeme.{mark_number}
 use Rattle.syntax.specs.Held.Kind.{kind_of}
-use native.Mathlib.Omega.{arith}
-use Prim.Native.Nat.{ℕ, ◌<◌}
 use Rattle.grammar.proofs.+read_terms.Goals as goal
 
 pub returns-then-left-eq0 : goal.returns-then-left-eq0

@@ -2,16 +2,11 @@
 use Prim.Native.Nat.{◌<◌}
 use native.Mathlib.Omega.{arith}
 use mathlib.Core.Path.{◌≡◌, refl}
-use mathlib.Core.List.{List, []}
-use Rattle.logic.proofs.Bools.{not_true}
-use borrow.Author.Tests.{not-false}
+use mathlib.Core.List.{[]}
 use Rattle.syntax.specs.Decide.Reading.{read_many, read_try}
 use Rattle.syntax.specs.Decide.Lexeme.{is_key, keyword_number}
 use Rattle.syntax.specs.Token.{k_try}
-use Rattle.syntax.specs.Tree.{Cond}
 use Rattle.syntax.specs.Held.Kind.{kind_of}
-use Rattle.grammar.specs.Reads.{Follows}
-use Rattle.grammar.specs.declared.Pos.{Pos}
 use Rattle.grammar.proofs.Readers.{then, done, yes, no, fuelled, spent}
 use Rattle.grammar.proofs.KindTests.{by_key}
 use Rattle.grammar.proofs.read_tries.Goals as goal
