@@ -3,10 +3,9 @@ use Rattle.std.proofs.Common.{refl, arith}
 use Rattle.meaning.specs.Value.{int_of}
 use Rattle.meaning.specs.State.{count}
 use Rattle.variables.proofs.Slots.{slots_none}
-use Rattle.variables.proofs.no_bounds.Statement.{statement}
-use Rattle.variables.proofs.no_bounds.Tie as tie
+use Rattle.variables.proofs.no_bounds.Goals as goal
 
-returns : tie.Need-returns
+pub returns : goal.returns
 unfolding count
 returns c =
     record {
@@ -16,6 +15,3 @@ returns c =
       highs = slots_none (λ v. int_of v.high) 0 (omega arith);
       starts = slots_none (λ v. int_of v.start) 128 (omega arith);
     }
-
-pub no_bounds_spec : {M : Type 1} → statement M
-no_bounds_spec = tie.close (tie.spec returns)
