@@ -3,19 +3,17 @@ use Prim.Native.Nat.{ℕ, ◌+◌, ◌-◌, ◌*◌, ◌/◌, ◌%◌, ◌^◌}
 use mathlib.Core.Path.{ap, ap₂, ◌∙◌}
 use native.Mathlib.Nat.{mod-le, mod-eq_of_lt, div-mul-le_self, le_trans}
 use native.Mathlib.Omega.{arith}
-use borrow.Author.Rules.{rules}
 use Rattle.queue.proofs.Packing.{left_is, back_fits, closed_fits, left_fits}
-use Rattle.queue.proofs.left.Statement.{statement}
-use Rattle.queue.proofs.left.Tie as tie
+use Rattle.queue.proofs.left.Goals as goal
 
-sub_result : tie.Need-overflow-sub-result
-sub_result c =
+pub overflow_sub-result : goal.overflow_sub-result
+overflow_sub-result c =
     let a = c.args in
     let p = 2 ^ (a.turn % 16 * 4) in
     le_trans (mod-le (a.order / p * p) (2 ^ 64)) (div-mul-le_self a.order p)
 
-add_result : tie.Need-overflow-add-result
-add_result c =
+pub overflow_add-result : goal.overflow_add-result
+overflow_add-result c =
     let a = c.args in
     let p = 2 ^ (a.turn % 16 * 4) in
     let small = c.ranges.order.fits in
@@ -24,7 +22,7 @@ add_result c =
     let f = left_fits a.order small p in
     record { fits = omega arith }
 
-returns : tie.Need-returns
+pub returns : goal.returns
 returns c h =
     let a = c.args in
     let p = 2 ^ (a.turn % 16 * 4) in
@@ -33,9 +31,3 @@ returns c h =
     ∙ ap (λ (x : ℕ). a.order - a.order / 2 ^ (x * 4) * 2 ^ (x * 4) + a.order / 2 ^ (x * 4) / 16 * 2 ^ (x * 4))
     (mod-eq_of_lt h)
     ∙ left_is a.order a.turn
-
-pub left_spec : {M : Type 1} → statement M
-left_spec =
-    tie.close
-    (tie.spec (λ c. search rules) (λ c. search rules) (λ c. search rules) (λ c. search rules) (λ c. search rules)
-    (λ c. search rules) sub_result (λ c. search rules) (λ c. search rules) add_result returns)

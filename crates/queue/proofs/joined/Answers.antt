@@ -4,19 +4,17 @@ use mathlib.Core.Path.{ap₂, ◌∙◌}
 use native.Mathlib.Nat.{mod-lt, mod-le, mod-eq_of_lt, div-mul-le_self, le_trans}
 use native.Mathlib.Omega.{arith}
 use lib.Dec.{lit<}
-use borrow.Author.Rules.{rules}
 use Rattle.queue.proofs.Packing.{joined_is, back_fits, thread_fits, joined_fits}
-use Rattle.queue.proofs.joined.Statement.{statement}
-use Rattle.queue.proofs.joined.Tie as tie
+use Rattle.queue.proofs.joined.Goals as goal
 
-sub_result : tie.Need-overflow-sub-result
-sub_result c =
+pub overflow_sub-result : goal.overflow_sub-result
+overflow_sub-result c =
     let a = c.args in
     let p = 2 ^ (a.count % 16 * 4) in
     le_trans (mod-le (a.order / p * p) (2 ^ 64)) (div-mul-le_self a.order p)
 
-add_result : tie.Need-overflow-add-result
-add_result c =
+pub overflow_add-result : goal.overflow_add-result
+overflow_add-result c =
     let a = c.args in
     let k = a.count % 16 in
     let t = a.t % 16 in
@@ -26,7 +24,7 @@ add_result c =
     let f = joined_fits a.order k t (mod-lt a.count (lit< tt)) (mod-lt a.t (lit< tt)) in
     record { fits = omega arith }
 
-returns : tie.Need-returns
+pub returns : goal.returns
 returns c h l =
     let a = c.args in
     let k = a.count % 16 in
@@ -37,9 +35,3 @@ returns c h l =
     ∙ ap₂ (λ (x y : ℕ). a.order - a.order / 2 ^ (x * 4) * 2 ^ (x * 4) + y * 2 ^ (x * 4)) (mod-eq_of_lt h)
     (mod-eq_of_lt l)
     ∙ joined_is a.order a.count a.t
-
-pub joined_spec : {M : Type 1} → statement M
-joined_spec =
-    tie.close
-    (tie.spec (λ c. search rules) (λ c. search rules) (λ c. search rules) (λ c. search rules) (λ c. search rules)
-    (λ c. search rules) sub_result (λ c. search rules) (λ c. search rules) (λ c. search rules) add_result returns)

@@ -1,59 +1,43 @@
 -- `threads::closed_up` meets its contract. The invariant: the places are as they were, the turns of those in the queue from the
 -- first place to k are written anew, and `rest` is what stands behind the first k.
-use Prim.Native.Nat.{ℕ, ◌+◌, ◌-◌, ◌/◌, ◌%◌, ◌≤◌, ◌<◌}
+use Prim.Native.Nat.{ℕ, ◌+◌, ◌/◌, ◌%◌, ◌≤◌, ◌<◌}
 use mathlib.Core.Path.{◌≡◌, refl, sym, ap, ◌∙◌}
-use mathlib.Core.Logic.{◌⊎◌, inl, inr, ⊎_elim}
+use mathlib.Core.Logic.{inl, inr, ⊎_elim}
 use native.Mathlib.Numerals.{add-one}
 use native.Mathlib.Omega.{arith}
-use lib.ListN.{length, get_or, set, length-set}
-use borrow.Author.Rules.{rules}
+use lib.ListN.{get_or, set, length-set}
 use Rattle.machine.specs.Queue.{place_in}
-use Rattle.machine.specs.Arrival.{Once}
 use Rattle.logic.proofs.Bools.{split_eq}
 use Rattle.queue.specs.Packed.{queue_of, behind_of}
 use Rattle.queue.proofs.Lists.{behind_next, place_at, at_place}
 use Rattle.threads.specs.Held.{places_of, turns_of, idle_thread, between}
 use Rattle.threads.proofs.Replaced.{puts_set, puts_own, puts_other}
 use Rattle.threads.proofs.Between.{between_in, between_out, between_next}
-use Rattle.threads.proofs.closed_up.Statement.{statement}
-use Rattle.threads.proofs.closed_up.Tie as tie
+use Rattle.threads.proofs.closed_up.Goals as goal
 
-abbrev invariant_loop : tie.invariant-loop
-invariant_loop order from waiting next₀ rest₀ k₀ next rest k =
-    ((u : ℕ) → u < 16 → places_of next u ≡ places_of next₀ u)
-    × (from ≤ k)
-    × ((k ≡ from) ⊎ (k ≤ waiting))
-    × (from < 16 → rest ≡ behind_of order k)
-    × (from < 16 → Once (queue_of order waiting) → (u : ℕ) → u < 16
-    → turns_of next u ≡ between from k (place_in (queue_of order waiting) u) (turns_of next₀ u))
-    × (length next ≡ 16)
-
-abbrev decreases_loop : tie.decreases-loop
-decreases_loop order from waiting next₀ rest₀ k₀ next rest k = waiting - k
-
-loop_holds : tie.Need-loop-init invariant_loop decreases_loop
-loop_holds c = (
+pub loop-k-init : goal.loop-k-init
+loop-k-init c = (
   λ u h. refl,
   omega arith,
   inl refl,
-  c.behind.ensures,
+  c.behind-rest.ensures,
   λ h o u l. sym (between_out _ _ _ _ (λ x y. omega arith)),
   omega arith,
 )
 
-loop_again : tie.Need-loop-preserved invariant_loop decreases_loop
+pub loop-k-preserved : goal.loop-k-preserved
 unfolding places_of idle_thread
-loop_again c =
-    let loop = c.before.before.before.loop in
-    let a = c.before.before.before.before.before.args in
-    let u = c.before.first.result in
+loop-k-preserved c =
+    let loop = c.loop-k in
+    let a = c.args in
+    let u = c.first-u.result in
     let q = queue_of a.order a.waiting in
     let puts = puts_set loop.next u (get_or loop.next u idle_thread).place loop.k (omega arith) in
     let next_rest : a.from < 16 → loop.rest / 16 ≡ behind_of a.order (loop.k + 1) =
     λ h. ap (λ (n : ℕ). n / 16) (loop.invariant.3 h) ∙ sym (behind_next a.order loop.k)
     ∙ ap (behind_of a.order) (sym (add-one loop.k)) in
     let who : a.from < 16 → u ≡ behind_of a.order loop.k % 16 =
-    λ h. c.before.first.ensures ∙ ap (λ (n : ℕ). n % 16) (loop.invariant.3 h) in (
+    λ h. c.first-u.ensures ∙ ap (λ (n : ℕ). n % 16) (loop.invariant.3 h) in (
       λ v h. split_eq v u
           (λ e. ap (places_of (set loop.next u (record { place = (get_or loop.next u idle_thread).place; turn = loop.k }))) e
           ∙ (puts_own puts (omega arith)).0 ∙ ap (places_of loop.next) (sym e) ∙ loop.invariant.0 v h)
@@ -73,25 +57,19 @@ loop_again c =
       length-set loop.next u (record { place = (get_or loop.next u idle_thread).place; turn = loop.k }) ∙ loop.invariant.5,
     )
 
-returns : tie.Need-returns invariant_loop decreases_loop
+pub returns : goal.returns
 returns c =
-    let loop = c.before.loop in
-    let a = c.before.before.before.args in
-    let q = queue_of a.order a.waiting in (
-      loop.invariant.0,
-      λ h o u l. loop.invariant.4 h o u l ∙ ⊎_elim
+    let loop = c.loop-k in
+    let a = c.args in
+    let q = queue_of a.order a.waiting in record {
+      by_index = loop.invariant.0;
+      u_value = λ h o u l. loop.invariant.4 h o u l ∙ ⊎_elim
           (λ e. ap (λ (k : ℕ). between a.from k (place_in q u) (turns_of a.each u)) e
           ∙ between_out a.from a.from (place_in q u) (turns_of a.each u) (λ x y. omega arith)
           ∙ sym (between_out a.from a.waiting (place_in q u) (turns_of a.each u)
-          (λ x y. let z : a.waiting ≤ loop.k = c.loop-test.false in omega arith)))
-          (λ e. let z : a.waiting ≤ loop.k = c.loop-test.false in
+          (λ x y. let z : a.waiting ≤ loop.k = c.loop-k-test.false in omega arith)))
+          (λ e. let z : a.waiting ≤ loop.k = c.loop-k-test.false in
           let s : loop.k ≡ a.waiting = omega arith in
           ap (λ (k : ℕ). between a.from k (place_in q u) (turns_of a.each u)) s)
-          loop.invariant.2,
-    )
-
-pub closed_up_spec : {M : Type 1} → statement M
-closed_up_spec =
-    tie.close
-    (tie.spec invariant_loop decreases_loop (λ c κs. search rules) loop_holds (λ c κs. search rules) (λ c. search rules) (λ c. search rules)
-    (λ c. search rules) (λ c. search rules) (λ c. search rules) (λ c. omega arith) (λ c. omega arith) loop_again returns)
+          loop.invariant.2;
+    }

@@ -2,14 +2,9 @@
 use Prim.Native.Nat.{ℕ, ◌*◌, ◌/◌, ◌^◌}
 use mathlib.Core.Path.{ap, ◌∙◌}
 use native.Mathlib.Nat.{mod-eq_of_lt}
-use borrow.Author.Rules.{rules}
 use Rattle.queue.proofs.Packing.{behind_is}
-use Rattle.queue.proofs.behind.Statement.{statement}
-use Rattle.queue.proofs.behind.Tie as tie
+use Rattle.queue.proofs.behind.Goals as goal
 
-returns : tie.Need-returns
+pub returns : goal.returns
 returns c h =
     let a = c.args in ap (λ (k : ℕ). a.order / 2 ^ (k * 4)) (mod-eq_of_lt h) ∙ behind_is a.order a.count
-
-pub behind_spec : {M : Type 1} → statement M
-behind_spec = tie.close (tie.spec (λ c. search rules) (λ c. search rules) (λ c. search rules) (λ c. search rules) returns)
