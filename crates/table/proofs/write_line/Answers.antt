@@ -1,0 +1,39 @@
+-- `table::write_line` meets its contract: its nine stores are the line's nine bytes.
+use native.Mathlib.Omega.{arith}
+use lib.ListN.{length-set}
+use Rattle.table.proofs.Lines.{line_stores}
+use borrow.Author.Rules.{rules}
+use Rattle.table.proofs.write_line.Goals as goal
+
+pub bounds-table-at-2 : goal.bounds-table-at-2
+bounds-table-at-2 c = simp length-set (omega arith)
+
+pub bounds-table-at-3 : goal.bounds-table-at-3
+bounds-table-at-3 c = simp length-set (omega arith)
+
+pub bounds-table-at-4 : goal.bounds-table-at-4
+bounds-table-at-4 c = simp length-set (omega arith)
+
+pub bounds-table-at-5 : goal.bounds-table-at-5
+bounds-table-at-5 c = simp length-set (omega arith)
+
+pub bounds-table-at-6 : goal.bounds-table-at-6
+bounds-table-at-6 c = simp length-set (omega arith)
+
+pub bounds-table-at-7 : goal.bounds-table-at-7
+bounds-table-at-7 c = simp length-set (omega arith)
+
+pub bounds-table-at-8 : goal.bounds-table-at-8
+bounds-table-at-8 c = simp length-set (omega arith)
+
+pub bounds-table-at-9 : goal.bounds-table-at-9
+bounds-table-at-9 c = simp length-set (omega arith)
+
+pub shape_of-table : goal.shape_of-table
+shape_of-table c = simp length-set
+
+pub returns : goal.returns
+returns c =
+    let a = c.args in
+    line_stores _ _ a.r a.g a.code _ _ (search rules) (search rules) (search rules) (search rules)
+    c.hex_digit.ensures c.hex_digit-2.ensures
