@@ -25,7 +25,7 @@ pub eval_cond-loop-place-smaller : goal.eval_cond-loop-place-smaller
 unfolding kind_of mark_number keyword_number
 eval_cond-loop-place-smaller t c =
     let step = kind_within (kind_of (mark or_or)) c.after-place.ensures
-        (sym c.kind_at.ensures ∙ c.if-kind_at-eq-OR_OR.true) refl in
+    (sym c.kind_at.ensures ∙ c.if-kind_at-eq-OR_OR.true) refl in
     omega (arith, step, c.eval_conj-conj.ensures, c.after-place.ensures)
 
 pub eval_cond-loop-place-preserved : goal.eval_cond-loop-place-preserved
@@ -52,7 +52,7 @@ pub eval_conj-loop-place-smaller : goal.eval_conj-loop-place-smaller
 unfolding kind_of mark_number keyword_number
 eval_conj-loop-place-smaller t c =
     let step = kind_within (kind_of (mark and_and)) c.after-place.ensures
-        (sym c.kind_at.ensures ∙ c.if-kind_at-eq-AND_AND.true) refl in
+    (sym c.kind_at.ensures ∙ c.if-kind_at-eq-AND_AND.true) refl in
     omega (arith, step, c.eval_simple-simple.ensures, c.after-place.ensures)
 
 pub eval_conj-loop-place-preserved : goal.eval_conj-loop-place-preserved
@@ -71,8 +71,7 @@ pub eval_simple-eval_simple-simple-requires : goal.eval_simple-eval_simple-simpl
 unfolding kind_of mark_number keyword_number
 eval_simple-eval_simple-simple-requires t c =
     let step = kind_within (kind_of (mark bang)) c.after-next.ensures
-        (sym c.kind_at-kind.ensures ∙ c.if-kind-eq-BANG.true) refl in
-    (
+    (sym c.kind_at-kind.ensures ∙ c.if-kind-eq-BANG.true) refl in (
       omega (arith, step, c.after-next.ensures, c.requires, c.decreases),
       record { within = c.after-next.ensures.to; short = c.requires.short },
     )
@@ -87,8 +86,7 @@ pub eval_simple-eval_cond-cond-requires : goal.eval_simple-eval_cond-cond-requir
 unfolding kind_of mark_number keyword_number
 eval_simple-eval_cond-cond-requires t c =
     let step = kind_within (kind_of (mark lparen)) c.after-next.ensures
-        (sym c.kind_at-kind.ensures ∙ c.if-kind-eq-LPAREN.true) refl in
-    (
+    (sym c.kind_at-kind.ensures ∙ c.if-kind-eq-LPAREN.true) refl in (
       omega (arith, step, c.after-next.ensures, c.requires, c.decreases),
       record { within = c.after-next.ensures.to; short = c.requires.short },
     )

@@ -34,8 +34,9 @@ unfolding mark_number sign_mark sign_of kind_of keyword_number
 sign c =
     sym c.kind_at-kind.ensures
     ∙ elim c.if-kind-eq-PLUS.branch [
-      then-kind-eq-PLUS w ↦ rw w.taken-is w.if-kind-eq-PLUS.true
-    | else-kind-eq-PLUS+then-kind-eq-MINUS w ↦ rw w.taken-is w.if-kind-eq-MINUS.true ]
+      | then-kind-eq-PLUS w ↦ rw w.taken-is w.if-kind-eq-PLUS.true
+      | else-kind-eq-PLUS+then-kind-eq-MINUS w ↦ rw w.taken-is w.if-kind-eq-MINUS.true
+    ]
 
 pub loop-lacks-smaller : goal.loop-lacks-smaller
 loop-lacks-smaller c =

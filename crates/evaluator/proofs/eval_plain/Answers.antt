@@ -35,8 +35,9 @@ sign : (c : Joined-kind-eq-PLUS)
     → c.eval_atom-sum.result.kind ≡ kind_of (mark (sign_mark (sign_of c.if-kind-eq-PLUS.taken)))
 unfolding mark_number sign_mark sign_of kind_of keyword_number
 sign c = elim c.if-kind-eq-PLUS.branch [
-      then-kind-eq-PLUS w ↦ rw w.taken-is w.if-kind-eq-PLUS.true
-    | else-kind-eq-PLUS+then-kind-eq-MINUS w ↦ rw w.taken-is w.if-kind-eq-MINUS.true ]
+  | then-kind-eq-PLUS w ↦ rw w.taken-is w.if-kind-eq-PLUS.true
+  | else-kind-eq-PLUS+then-kind-eq-MINUS w ↦ rw w.taken-is w.if-kind-eq-MINUS.true
+]
 
 pub after-place-requires : goal.after-place-requires
 after-place-requires c =

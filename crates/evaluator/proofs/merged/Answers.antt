@@ -12,8 +12,9 @@ pub loop-j-preserved : goal.loop-j-preserved
 loop-j-preserved c =
     fill_more c.if-on-j.lanes c.loop-j.invariant c.loop-j-test.true
     (elim c.if-on-j.branch [
-      then-on-j w ↦ rw (w.lanes-is, w.if-on-j.true)
-    | else-on-j w ↦ rw (w.lanes-is, w.if-on-j.false) ])
+      | then-on-j w ↦ rw (w.lanes-is, w.if-on-j.true)
+      | else-on-j w ↦ rw (w.lanes-is, w.if-on-j.false)
+    ])
 
 pub loop-j-init : goal.loop-j-init
 loop-j-init = λ c. fill_none 0
