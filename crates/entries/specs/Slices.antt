@@ -80,7 +80,7 @@ pub record Counts (states regions guards : ℕ) : Type 0 where
   pub few_guards : guards ≤ most_regions
 
 module _ (kept holds after guard_of touched : List ℕ) (states regions guards : ℕ) (before entries : List ℕ) where
-  -- the entries of so many regions and guards stand in a slice at region * mostRegions + guard, and every other number
+  -- the entries of so many regions and guards stand in a slice at region * most_regions + guard, and every other number
   -- is as it was
   pub record Filled : Type 0 where
     pub standing : (r g : ℕ) → r < regions → g < guards

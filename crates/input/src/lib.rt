@@ -1,5 +1,5 @@
-// Reading into a lent buffer until it is full, the input ends or a read fails, over C's read. Which bytes are read no
-// contract can say; proved is how many stand at the buffer's start, and that those before a place are kept.
+// Reading into a lent buffer until it is full, the input ends or a read fails. Which bytes are read no contract can say;
+// proved is how many stand at the buffer's start, and that those before a place are kept.
 #![tactic(auto)]
 
 ghost use Rattle.std.specs.Prelude.{◌≤◌, min, ◌≡◌, length};
@@ -7,22 +7,25 @@ ghost use Rattle.std.proofs.Math.Seq.{paste};
 ghost use Rattle.io.specs.Counts.{IsPrefixLen};
 ghost use Rattle.input.specs.Kept.{Keeps};
 
-// How many bytes stand at the buffer's start, and whether a read failed; errno then says why.
+use std::io::{Cursor, ErrorKind, Read, Write};
+use std::{io, str};
+
+// How many bytes stand at the buffer's start, and why a read failed, if one did.
 #[derive(Clone, Copy)]
 pub struct Got {
     pub count: usize,
-    pub failed: bool,
+    pub failed: Option<io::Error>,
 }
 
 // Reads on behind the first `from` bytes of the buffer.
-pub fn read_on(fd: i32, buf: &mut [u8], from: usize) -> Got
+pub fn read_on<R: Read>(reader: &mut R, buf: &mut [u8], from: usize) -> Got
     ensures prefix_len { IsPrefixLen result.count buf.new }
     ensures keeps { Keeps from buf.old result.count buf.new }
 {
     let mut done = least(from, buf.len());
     while done < buf.len() {
-        let got = read_part(fd, buf, done);
-        if got.failed {
+        let got = read_part(reader, buf, done);
+        if got.failed.is_some() {
             return got;
         }
         if got.count <= done {
@@ -32,35 +35,44 @@ pub fn read_on(fd: i32, buf: &mut [u8], from: usize) -> Got
     }
     Got {
         count: done,
-        failed: false,
+        failed: None,
     }
 }
 
 // One read behind the first `at` bytes of the buffer; where it fails or the input has ended, no more are counted.
-fn read_part(fd: i32, buf: &mut [u8], at: usize) -> Got
+fn read_part<R: Read>(reader: &mut R, buf: &mut [u8], at: usize) -> Got
     requires { at ≤ length buf.old }
     ensures { (result.count ≤ length buf.new)
         × Keeps at buf.old result.count buf.new }
 {
-    let got = libc::read(fd, &mut buf[at..]);
-    Got {
-        count: at + io::count(got, &buf[at..]),
-        failed: got < 0,
+    match reader.read(&mut buf[at..]) {
+        Ok(more) => Got {
+            count: at + more,
+            failed: None,
+        },
+        Err(e) => Got {
+            count: at,
+            failed: Some(e),
+        },
     }
 }
 
 // Reads what was opened, from the buffer's start. What is missing reads as empty; any other reason for which it was not
 // opened is a failure.
-pub fn read_opened(fd: i32, buf: &mut [u8]) -> Got
+pub fn read_opened<R: Read>(opened: &mut io::Result<R>, buf: &mut [u8]) -> Got
     ensures { IsPrefixLen result.count buf.new }
 {
-    if fd < 0 {
-        return Got {
+    match opened {
+        Ok(reader) => read_on(reader, buf, 0),
+        Err(e) => Got {
             count: 0,
-            failed: os::errno() != libc::ENOENT,
-        };
+            failed: if e.kind() == ErrorKind::NotFound {
+                None
+            } else {
+                Some(*e)
+            },
+        },
     }
-    read_on(fd, buf, 0)
 }
 
 // Copies as many bytes as both have from the start of one slice to the start of another, and says how many.
@@ -82,4 +94,24 @@ fn least(a: usize, b: usize) -> usize
     ensures upper_bound { (result ≤ a) × (result ≤ b) }
 {
     if a < b { a } else { b }
+}
+
+// Writes a line to standard error: what failed, as the caller names it, a colon and why, without the number that std
+// puts behind.
+pub fn fail<R: Eprint>(rt: &R, what: &str, why: io::Error) {
+    let mut text = Cursor::new([0u8; 256]);
+    let _ = write!(text, "{why}");
+    let end = least(text.position() as usize, 256);
+    let words = match str::from_utf8(&text.get_ref()[..end]) {
+        Ok(all) => before_number(all),
+        Err(_) => "",
+    };
+    let _ = eprintln!(rt; "{what}: {words}");
+}
+
+fn before_number(text: &str) -> &str {
+    match text.split_once(" (os error ") {
+        Some((words, _)) => words,
+        None => text,
+    }
 }

@@ -12,7 +12,7 @@ unfoldable pub follows_by : ℕ → ℕ → Place
 follows_by r zero = idle
 follows_by r (suc n) = due (r + 1)
 
--- few states, regions and guards; for each state the set of guards that hold there, and at region * mostStates + state
+-- few states, regions and guards; for each state the set of guards that hold there, and at region * most_states + state
 -- the state after a region's body, where that body may run
 pub record Held (m : Monitor) (kept holds after guard_of : List ℕ) : Type 0 where
   pub few_states : m.states ≤ most_states
@@ -42,6 +42,6 @@ unfoldable pub code_of : Entry → ℕ
 code_of none = 0
 code_of (entry a b) = 1 + 2 * bit a + 4 * bit b
 
--- the entries of a monitor are held at region * mostRegions + guard
+-- the entries of a monitor are held at region * most_regions + guard
 unfoldable pub HeldEntries : Monitor → List ℕ → Type 0
 HeldEntries m es = (r g : ℕ) → r < m.regions → g < m.guards → get_or es (r * most_regions + g) 0 ≡ code_of (entry_of m r g)

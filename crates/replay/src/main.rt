@@ -7,6 +7,7 @@
 ghost use Rattle.std.specs.Prelude.{◌<◌};
 ghost use Rattle.io.specs.Counts.{IsPrefixLen};
 
+use std::fs::File;
 use survey::Fates;
 
 // The most cases that are read.
@@ -18,18 +19,16 @@ const BUFFER: usize = 458836;
 // What stands in a buffer before it is lent.
 const UNWRITTEN: u8 = 165;
 
-fn main() {
-    let fd = os::open_read(b"cases.bin");
-    if 0 <= fd {
-        replay_all(fd);
-        libc::close(fd);
+fn main(rt: HostRuntime) {
+    if let Ok(mut data) = File::open(&rt, "cases.bin") {
+        replay_all(&rt, &mut data);
     }
 }
 
-fn replay_all(fd: i32) {
+fn replay_all(rt: &HostRuntime, data: &mut File) {
     let mut n: usize = 0;
     while n < CASES {
-        if !replay(fd) {
+        if !replay(rt, data) {
             return;
         }
         n += 1;
@@ -37,9 +36,9 @@ fn replay_all(fd: i32) {
 }
 
 // A length of four bytes, and one that fits no buffer at the end of the data.
-fn read_length(fd: i32) -> usize {
+fn read_length(data: &mut File) -> usize {
     let mut four = [0u8; 4];
-    if io::read_full(fd, &mut four) < 4 {
+    if input::read_on(data, &mut four, 0).count < 4 {
         return 65537;
     }
     small(four[0], four[1], four[2])
@@ -51,51 +50,58 @@ fn small(a: u8, b: u8, c: u8) -> usize {
 }
 
 // The next bytes of the data, into the first of a buffer; none where they do not fit.
-fn read_part(fd: i32, into: &mut [u8], n: usize) -> usize
+fn read_part(data: &mut File, into: &mut [u8], n: usize) -> usize
     ensures { IsPrefixLen result into.new }
 {
     if into.len() < n {
         return 0;
     }
-    io::read_full(fd, &mut into[..n])
+    input::read_on(data, &mut into[..n], 0).count
 }
 
 // One case, read from the data: false where its lengths fit no buffer.
-fn replay(fd: i32) -> bool {
-    let n = read_length(fd);
-    let k = read_length(fd);
+fn replay(rt: &HostRuntime, data: &mut File) -> bool {
+    let n = read_length(data);
+    let k = read_length(data);
     if 9000 < n || output::TRACE_BYTES < k {
         return false;
     }
     let mut file = [0u8; 9000];
     let mut trace = [0u8; output::TRACE_BYTES];
-    let file_end = read_part(fd, &mut file, n);
-    let trace_end = read_part(fd, &mut trace, k);
-    show_case(&file[..file_end], &trace[..trace_end]);
+    let file_end = read_part(data, &mut file, n);
+    let trace_end = read_part(data, &mut trace, k);
+    show_case(rt, &file[..file_end], &trace[..trace_end]);
     true
 }
 
 // The lines of one case: placer's and runner's, its points, its tries, and its touched pairs.
-fn show_case(file: &[u8], trace: &[u8]) {
+fn show_case(rt: &HostRuntime, file: &[u8], trace: &[u8]) {
     let mut out = [0u8; output::OUTPUT_BYTES];
     let table = output::placer_lines(file, &mut out);
-    io::write_all(1, &out[..table]);
+    write(rt, &out[..table]);
     let runs = output::runner_lines(file, trace, &mut out);
-    io::write_all(1, &out[..runs]);
+    write(rt, &out[..runs]);
     if output::TRACE_BYTES < trace.len() {
         return;
     }
     let room = (trace.len() / trace::FRAME + 1) * point::POINT;
     let mut buffer = [UNWRITTEN; BUFFER];
-    show_points(file, trace, &mut buffer, room + point::POINT, true);
+    show_points(rt, file, trace, &mut buffer, room + point::POINT, true);
     let mut short = [UNWRITTEN; BUFFER];
-    show_points(file, trace, &mut short, room - 1, false);
-    show_tries(file);
-    show_pairs(file);
+    show_points(rt, file, trace, &mut short, room - 1, false);
+    show_tries(rt, file);
+    show_pairs(rt, file);
 }
 
 // The points of a case in so many bytes of a buffer.
-fn show_points(file: &[u8], trace: &[u8], buffer: &mut [u8], size: usize, both: bool) {
+fn show_points(
+    rt: &HostRuntime,
+    file: &[u8],
+    trace: &[u8],
+    buffer: &mut [u8],
+    size: usize,
+    both: bool,
+) {
     if buffer.len() < size {
         return;
     }
@@ -103,53 +109,53 @@ fn show_points(file: &[u8], trace: &[u8], buffer: &mut [u8], size: usize, both: 
     let got = monitor::points(file, trace, start, &mut buffer[..size]);
     let plain = got.plain;
     let table = got.table;
-    show(plain.number, plain.first, plain.second);
+    show(rt, plain.number, plain.first, plain.second);
     if both {
-        show(table.number, table.first, table.second);
+        show(rt, table.number, table.first, table.second);
     }
-    show(0, got.count, sum_of(&buffer[..size]));
+    show(rt, 0, got.count, sum_of(&buffer[..size]));
 }
 
 // The chosen tries and how many there are, or the file's refusal; then a line for each try: 00 where it is chosen, FF where
 // it is false at the start values, or the pass, the region and the state that break it.
-fn show_tries(file: &[u8]) {
+fn show_tries(rt: &HostRuntime, file: &[u8]) {
     let mut table = [0u8; output::OUTPUT_BYTES];
     let placed = monitor::place(file, &mut table);
     let told = survey::fates_of(file);
     let answer = placed.answer;
     if answer.number == 0 {
-        show(0, wide16(placed.chosen), told.tries);
+        show(rt, 0, wide16(placed.chosen), told.tries);
     } else {
-        show(answer.number, answer.first, answer.second);
+        show(rt, answer.number, answer.first, answer.second);
     }
     let mut i: usize = 0;
     while i < syntax::TRIES {
         if i < told.tries {
-            show_fate(told, i);
+            show_fate(rt, told, i);
         }
         i += 1;
     }
 }
 
 // How many pairs of region and guard are touched, and the length of the table; 0 of a refused file.
-fn show_pairs(file: &[u8]) {
+fn show_pairs(rt: &HostRuntime, file: &[u8]) {
     let mut table = [0u8; output::OUTPUT_BYTES];
     let placed = monitor::place(file, &mut table);
-    show(0, wide16(placed.pairs), placed.length);
+    show(rt, 0, wide16(placed.pairs), placed.length);
 }
 
 // What becomes of one try.
-fn show_fate(told: Fates, i: usize)
+fn show_fate(rt: &HostRuntime, told: Fates, i: usize)
     requires { i < 16 }
 {
     let state = wide16(told.states[i]);
     let region = wide(told.regions[i]);
     if sets::has(told.chosen, i as u32) {
-        show(0, 0, 0);
+        show(rt, 0, 0, 0);
     } else if told.passes[i] == 0 {
-        show(255, 0, 0);
+        show(rt, 255, 0, 0);
     } else {
-        show(told.passes[i], region, state);
+        show(rt, told.passes[i], region, state);
     }
 }
 
@@ -160,17 +166,22 @@ fn wide16(x: u16) -> usize
 }
 
 // A line of ten digits.
-fn show(number: u8, first: usize, second: usize) {
+fn show(rt: &HostRuntime, number: u8, first: usize, second: usize) {
     let mut out = [0u8; 11];
     let end = lines::put_answer(&mut out, 0, number, first, second);
-    print(&out, end);
+    print(rt, &out, end);
 }
 
 // The first bytes of a buffer, where it has as many.
-fn print(out: &[u8], end: usize) {
+fn print(rt: &HostRuntime, out: &[u8], end: usize) {
     if end <= out.len() {
-        io::write_all(1, &out[..end]);
+        write(rt, &out[..end]);
     }
+}
+
+// What cannot be written is missing from the output.
+fn write(rt: &HostRuntime, bytes: &[u8]) {
+    let _ = rt.write_all(bytes);
 }
 
 // A checksum below 65,521.

@@ -283,8 +283,7 @@ impl<'a> Reader<'a> {
     }
 }
 
-// The next token behind blanks from a byte of a file, by a reader that is opened there: callers have plain parameters,
-// and their proofs no walk.
+// The next token behind blanks from a byte of a file, by a reader that is opened there: callers have plain parameters.
 pub fn read_token(file: &[u8], at: usize) -> Step
     ensures { result ≡ step_at file.now at }
 {

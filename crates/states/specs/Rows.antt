@@ -58,7 +58,7 @@ outcome_number vs none = fault_mark
 outcome_number vs (some as') = number_of vs as'
 
 -- the outcome of every region's body from every state, whether it may run there or not: that of region r from state s
--- at r * mostStates + s
+-- at r * most_states + s
 unfoldable pub Outcomes : Monitor → List ℕ → Type 0
 Outcomes m rows =
     (r s : ℕ) → r < length (regions m) → s < count (vars m)

@@ -1,0 +1,7 @@
+-- `variables::plus` meets its contract: 65,536 is 2 ^ 16.
+use Rattle.meaning.specs.SixteenBits.{wrapped}
+use Rattle.variables.proofs.plus.Goals as goal
+
+pub returns : goal.returns
+unfolding wrapped
+returns c = c.wrapping_add_u16.ensures.value
