@@ -13,7 +13,7 @@ use borrow.Author.Tests.{le-ltb}
 use Rattle.sets.specs.Set.{member}
 use Rattle.machine.specs.Monitor.{Place, idle, waiting, due, Threads, SameThreads, Monitor, Config, Frame, threads}
 use Rattle.machine.specs.Queue.{has}
-use Rattle.machine.specs.Decide.Step.{Outcome, leave, without, is_due, is_waiting, may_be_at, may, next, first_notified}
+use Rattle.machine.specs.Decide.Step.{leave, without, is_due, is_waiting, may_be_at, may, next, first_notified}
 use Rattle.machine.specs.Decide.Step.{ran, waited, rechecked, step}
 use Rattle.machine.specs.Algorithm1.{entry, Holds, Fails}
 use Rattle.machine.specs.Decide.Table.{runs, entry_of, unconditional, broadcast}

@@ -1,22 +1,17 @@
 -- `stepper::start` meets its contract: all idle, and the empty set.
 use Prim.Native.Nat.{ℕ}
 use mathlib.Core.Path.{refl, ap, ◌∙◌}
-use borrow.Author.Rules.{rules}
 use Rattle.sets.specs.Set.{member}
 use Rattle.sets.proofs.SetLaws.{member_none}
 use Rattle.machine.specs.Monitor.{all_idle}
 use Rattle.stepper.proofs.Machines.{alike_of}
-use Rattle.stepper.proofs.start.Statement.{statement}
-use Rattle.stepper.proofs.start.Tie as tie
+use Rattle.stepper.proofs.start.Goals as goal
 
-returns : tie.Need-returns
+pub returns : goal.returns
 unfolding all_idle
 returns c w = record {
   state = refl;
-  threads = c.all-idle.ensures.0;
-  turns = c.all-idle.ensures.1;
+  threads = c.all_idle.ensures.0;
+  turns = c.all_idle.ensures.1;
   notices = λ t h. ap (λ (n : ℕ). member n t) (alike_of w 0) ∙ member_none t;
 }
-
-pub start_spec : {M : Type 1} → statement M
-start_spec = tie.close (tie.spec (λ c κs. search rules) returns)

@@ -1,0 +1,123 @@
+-- `stepper::step` meets its contract, for either machine: the number and the next point of the slices' monitor are those of
+-- the monitor that they hold, and the two parts make the machine's step.
+use Prim.Native.Nat.{ℕ, ◌%◌, ◌<◌}
+use mathlib.Core.Path.{◌≡◌, refl, sym, ap, ◌∙◌, subst}
+use mathlib.Core.Bool.{Bool, true, false}
+use mathlib.Core.List.{[]}
+use native.Mathlib.Nat.{mod-eq_of_lt}
+use Rattle.machine.specs.Monitor.{Monitor, Config, Frame}
+use Rattle.machine.specs.Decide.Step.{Told, is_waiting, ran}
+use Rattle.threads.specs.Held.{Turned, Queued}
+use Rattle.stepper.specs.declared.Frame as code
+use Rattle.stepper.specs.declared.Run.{Run}
+use Rattle.stepper.specs.Shown.{of_machine, Shows, Stays, step_by, frame_of}
+use Rattle.waiters.specs.Slices.{slices}
+use Rattle.stepper.specs.Slices.{newly_at, config_of}
+use Rattle.stepper.specs.Parts.{verdict_of, next_by, next_of}
+use Rattle.stepper.proofs.Machines.{each_machine}
+use Rattle.stepper.proofs.ByHeld.{steps_held, shows_queued}
+use Rattle.stepper.proofs.step.Goals as goal
+use Rattle.stepper.proofs.step.Goals.{Start, After-judge-number, Joined-number-ne-ACCEPTED, then-number-ne-ACCEPTED+else-number-ne-ACCEPTED-2, else-number-ne-ACCEPTED}
+
+-- a thread below 16 is its remainder
+abbrev known : code.Frame → code.Frame
+known f = record { thread = f.thread % 16; region = f.region; flag = f.flag }
+
+same_frame : (f : code.Frame) → f.thread < 16 → frame_of (known f) ≡ frame_of f
+unfolding frame_of
+same_frame f h = ap (λ (t : ℕ). frame_of (record { thread = t; region = f.region; flag = f.flag })) (mod-eq_of_lt h)
+
+number : (c : After-judge-number) (w : Bool) → let a = c.args in
+    Queued a.run.threads → Turned a.run.threads → a.frame.thread < 16
+    → of_machine w c.judge-number.result.plain c.judge-number.result.table
+    ≡ verdict_of (slices a.holds.now [] a.guard_of.now a.begins.now [] a.regions) (config_of w a.run)
+    (frame_of a.frame)
+number c w queued turned h =
+    let a = c.args in
+    c.judge-number.ensures queued turned w
+    ∙ ap
+    (verdict_of (slices a.holds.now [] a.guard_of.now a.begins.now [] a.regions) (config_of w a.run))
+    (same_frame a.frame h)
+
+-- the next point is by the flag: a body ran, or the thread pauses
+module _ (m : Monitor) (told : Told) (c : Config) (f : Frame) where
+  next_ran : f.flag ≡ true → ran m told c f ≡ next_of m told c f
+  unfolding next_of next_by
+  next_ran e = sym (ap (λ (b : Bool). next_by m told c f b (is_waiting (c.threads.place f.thread))) e)
+
+  next_paused :
+      f.flag ≡ false → next_by m told c f false (is_waiting (c.threads.place f.thread)) ≡ next_of m told c f
+  unfolding next_of
+  next_paused e = sym (ap (λ (b : Bool). next_by m told c f b (is_waiting (c.threads.place f.thread))) e)
+
+-- the slices' monitor, whom a machine notifies, and the next point as the frame stands or with its thread's remainder
+abbrev moves : Start → Monitor
+moves s = slices s.args.holds.now s.args.after.now s.args.guard_of.now [] s.args.goes_on.now 0
+
+abbrev telling : Start → Bool → Told
+telling s w = newly_at s.args.holds.now s.args.guard_of.now s.args.entries.now w s.args.run.state
+
+abbrev next_at : Start → Bool → code.Frame → Config
+next_at s w f = next_of (moves s) (telling s w) (config_of w s.args.run) (frame_of f)
+
+shown : (s : Start) (w : Bool) (next : Run) {x : Config} → x ≡ next_at s w (known s.args.frame) → Shows w next x
+    → s.args.frame.thread < 16 → Shows w next (next_at s w s.args.frame)
+shown s w next e h thread =
+    subst (Shows w next)
+    (e ∙ ap (next_of (moves s) (telling s w) (config_of w s.args.run)) (same_frame s.args.frame thread)) h
+
+-- a machine that takes the frame is known at the test whether both refuse
+goes_on : (c : Joined-number-ne-ACCEPTED) → let n = c.judge-number.result in
+    (n.plain ≡ 0 → ⊥) → (n.table ≡ 0 → ⊥) → ⊥
+goes_on c p t = elim c.if-number-ne-ACCEPTED.branch [
+  | then-number-ne-ACCEPTED+else-number-ne-ACCEPTED-2 x ↦ t x.if-number-ne-ACCEPTED-2.false
+  | else-number-ne-ACCEPTED x ↦ p x.if-number-ne-ACCEPTED.false
+]
+
+pub returns-then-number-ne-ACCEPTED-2 : goal.returns-then-number-ne-ACCEPTED-2
+unfolding step_by frame_of config_of Stays
+returns-then-number-ne-ACCEPTED-2 c =
+    record {
+      steps = λ w m d kept e held places entries thread ok reached told shows.
+          let x = c in
+          let a = x.args in
+          let n = x.judge-number.result in
+          steps_held m kept a.holds.now a.after.now a.guard_of.now held a.begins.now a.goes_on.now places
+          w d (frame_of a.frame) a.run thread reached shows ok told a.regions e a.entries.now entries _
+          (number (goal.at.returns-then-number-ne-ACCEPTED-2 c).After-judge-number w (shows_queued m w a.run d reached.lined shows) shows.turns thread)
+          (λ z. absurd (each_machine (λ _ k. k ≡ 0 → ⊥) {plain = n.plain} {table = n.table} c.if-number-ne-ACCEPTED.true c.if-number-ne-ACCEPTED-2.true
+          w z));
+      stays = λ p t. refl;
+    }
+
+pub returns-then-known : goal.returns-then-known
+unfolding step_by frame_of config_of Stays
+returns-then-known c =
+    record {
+      steps = λ w m d kept e held places entries thread ok reached told shows.
+          let x = c in
+          let s = (goal.at.returns-then-known c).Start in
+          let a = s.args in
+          let next = next_ran (moves s) (telling s w) (config_of w a.run) (frame_of (known a.frame)) c.if-known.true
+          in
+          steps_held m kept a.holds.now a.after.now a.guard_of.now held a.begins.now a.goes_on.now places
+          w d (frame_of a.frame) a.run thread reached shows ok told a.regions e a.entries.now entries _
+          (number (goal.at.returns-then-known c).After-judge-number w (shows_queued m w a.run d reached.lined shows) shows.turns thread) (λ z. shown s w c.ran-next.result next (c.ran-next.ensures (shows_queued m w a.run d reached.lined shows) shows.turns w) thread);
+      stays = λ p t. absurd (goes_on (goal.at.returns-then-known c).Joined-number-ne-ACCEPTED p t);
+    }
+
+pub returns-else-known : goal.returns-else-known
+unfolding step_by frame_of config_of Stays
+returns-else-known c =
+    record {
+      steps = λ w m d kept e held places entries thread ok reached told shows.
+          let x = c in
+          let s = (goal.at.returns-else-known c).Start in
+          let a = s.args in
+          let next = next_paused (moves s) (telling s w) (config_of w a.run) (frame_of (known a.frame)) c.if-known.false
+          in
+          steps_held m kept a.holds.now a.after.now a.guard_of.now held a.begins.now a.goes_on.now places
+          w d (frame_of a.frame) a.run thread reached shows ok told a.regions e a.entries.now entries _
+          (number (goal.at.returns-else-known c).After-judge-number w (shows_queued m w a.run d reached.lined shows) shows.turns thread) (λ z. shown s w c.paused-next.result next (c.paused-next.ensures (shows_queued m w a.run d reached.lined shows) shows.turns w (moves s) (telling s w)) thread);
+      stays = λ p t. absurd (goes_on (goal.at.returns-else-known c).Joined-number-ne-ACCEPTED p t);
+    }
