@@ -1,0 +1,12 @@
+use Prim.Native.Nat.{ℕ, ◌-◌, ◌≤◌, ◌<◌}
+use mathlib.Core.Path.{◌≡◌}
+use lib.ListN.{length, get_or}
+use Rattle.threads.specs.Held.{turns_of}
+use Rattle.point.proofs.turn_bytes.Given as goal
+
+abbrev pub invariant-loop-t : goal.invariant-loop-t
+invariant-loop-t l =
+    (l.t ≤ 16) × (length l.bytes ≡ 16) × ((u : ℕ) → u < l.t → get_or l.bytes u 0 ≡ turns_of l.threads u)
+
+abbrev pub decreases-loop-t : goal.decreases-loop-t
+decreases-loop-t l = 16 - l.t
