@@ -68,10 +68,10 @@ module _ (begins : List ℕ) (regions r : ℕ) where
   begun_same t = join_next r _ ∙ rw (t, append-nil)
 
 -- all of them are the monitor's
-pub begun_all : (m : Monitor) (begins goes_on_lem : List ℕ) → m.regions ≤ 16 → HeldPlaces m begins goes_on_lem
+pub begun_all : (m : Monitor) (begins goes_on : List ℕ) → m.regions ≤ 16 → HeldPlaces m begins goes_on
     → begun_by begins m.regions 16 ≡ begun m
 unfolding begun_by begun number_if bit
-begun_all m begins goes_on_lem few held =
+begun_all m begins goes_on few held =
     join_cut m.regions 16 _ _ few
     (λ j l. rw (lt-ltb j m.regions l, held.by_begins j l, is_one (m.begins j)))
     (λ j l _. rw (le-ltb j m.regions l))

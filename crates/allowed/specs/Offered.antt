@@ -6,7 +6,6 @@ use Rattle.sets.specs.Set.{member}
 use Rattle.machine.specs.Monitor.{Place, idle, waiting, due, Monitor, Config, threads}
 use Rattle.machine.specs.Monitor as machine
 use Rattle.machine.specs.Decide.Step.{is_due}
-use Rattle.machine.specs.Held.{Held}
 use Rattle.machine.proofs.Offers.{begun}
 use Rattle.machine.proofs.Points.{PlainPoint}
 use Rattle.machine.proofs.Reached.{Reached}

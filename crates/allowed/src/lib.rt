@@ -40,8 +40,8 @@ struct Spot {
 
 // The regions that begin a method.
 pub fn methods_of(begins: &[u8; machine::REGIONS], regions: usize) -> Methods
-    ensures { (m : Monitor) (goes_on_lem : List ℕ) → m.regions ≡ regions → regions ≤ 16
-        → HeldPlaces m begins.now goes_on_lem → HeldMethods m result }
+    ensures { (m : Monitor) (goes_on : List ℕ) → m.regions ≡ regions → regions ≤ 16
+        → HeldPlaces m begins.now goes_on → HeldMethods m result }
 {
     let mut first = [0u8; machine::REGIONS];
     let mut count: u8 = 0;
