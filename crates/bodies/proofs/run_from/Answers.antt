@@ -1,23 +1,18 @@
 -- `bodies::run_from` meets its contract: what the run leaves in a lane is the body's outcome there.
 use native.Mathlib.Omega.{arith}
-use borrow.Author.Rules.{rules}
 use Rattle.meaning.specs.Decide.Bodies.{outcome}
 use Rattle.meaning.specs.State.{state_at}
 use Rattle.bodies.proofs.Stretches.{stretch_map}
-use Rattle.bodies.proofs.run_from.Statement.{statement}
-use Rattle.bodies.proofs.run_from.Tie as tie
+use Rattle.bodies.proofs.run_from.Goals as goal
 
-returns : tie.Need-returns
+pub returns : goal.returns
 unfolding outcome
 returns c =
-    let done = c.before.before in
-    let ran = done.before.before.before.before.run-body in
+    let done = c in
+    let ran = done.run_body-ran in
     stretch_map (λ j x l h. record {
       tells = λ vs q b low v.
           h.tells vs q b.bounded low
           (ran.ensures vs (state_at vs _) b.ls b.us q.body j l b.codes v b.bounded.ranges b.spelled
           (omega (arith, b.few)));
     }) done.note.ensures
-
-pub run_from_spec : {M : Type 1} → statement M
-run_from_spec = tie.close (tie.spec (λ c κs. tt) (λ c κs. search rules) (λ c. search rules) returns)
