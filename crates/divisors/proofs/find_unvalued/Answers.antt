@@ -1,12 +1,11 @@
 -- `divisors::find_unvalued` answers `unvalued`: where no `mod` stands nothing is found, and at each turn `unvalued` of the
 -- whole file is `unvalued` of the tokens that are left.
-use Prim.Native.Nat.{ℕ, ◌+◌, ◌-◌, ◌≤◌, zero, suc, ◌<◌}
+use Prim.Native.Nat.{ℕ, ◌+◌, zero, suc, ◌<◌}
 use native.Mathlib.Omega.{arith}
 use mathlib.Core.Path.{◌≡◌, refl, sym, ap, ◌∙◌}
 use mathlib.Core.Bool.{Bool, false, ◌&&◌, true}
 use mathlib.Core.List.{List}
 use lib.ListN.{length, drop, get_or}
-use borrow.Author.Rules.{rules}
 use Rattle.syntax.specs.Token.{Lexeme, k_mod, Token, lexemes, key}
 use Rattle.syntax.specs.Tree.{Var}
 use Rattle.syntax.specs.Decide.Lexeme.{is_key}
@@ -14,14 +13,12 @@ use Rattle.syntax.specs.Decide.Reading.{read_atom}
 use Rattle.syntax.specs.Held.Kind.{Words, kind_of}
 use Rattle.meaning.specs.Decide.Check.{low_divisor, unvalued, asks}
 use Rattle.passes.proofs.ByIndex.{token_at, kind_at, places_long, offends, goes_on, ends}
-use Rattle.divisors.specs.Coded.{Coded}
 use Rattle.divisors.proofs.Divisor.{valuing, lexemes_left}
-use Rattle.divisors.proofs.find_unvalued.Statement.{statement}
-use Rattle.divisors.proofs.find_unvalued.Tie as tie
-use borrow.Author.Tests.{ne_eqb, not-true}
+use borrow.Author.Tests.{ne_eqb}
 use Rattle.syntax.proofs.ByKind.{kind_key}
 use Rattle.passes.specs.Pass.{found_of}
 use Rattle.passes.specs.declared.Found.TheVariants.{Nothing}
+use Rattle.divisors.proofs.find_unvalued.Goals as goal
 
 -- where no `mod` stands
 
@@ -49,20 +46,11 @@ module _ {file : List ℕ} {ts : List Token} {kinds values places : List ℕ} (h
 
 -- The loop
 
-abbrev invariant_loop : tie.invariant-loop
-invariant_loop kinds operands places lows count on₀ i₀ on i =
-    (i ≤ length kinds)
-    × ((file : List ℕ) (ts : List Token) (values : List ℕ) (vs : List Var) → Words file ts kinds values places
-    → Coded vs (lexemes ts) kinds operands lows count → unvalued vs false ts ≡ unvalued vs on (drop i ts))
+pub returns-then-not-has_mod : goal.returns-then-not-has_mod
+returns-then-not-has_mod c file ts values vs h coded = nothing h vs (c.has_mod.ensures c.if-not-has_mod.true)
 
-abbrev decreases_loop : tie.decreases-loop
-decreases_loop kinds operands places lows count on₀ i₀ on i = length kinds - i
-
-returns : tie.Need-returns invariant_loop decreases_loop
-returns c file ts values vs h coded = nothing h vs (c.before.has-mod.ensures (not-true _ c.if1.true))
-
-returns_2 : tie.Need-returns-2 invariant_loop decreases_loop
-returns_2 c file ts values vs h coded = absurd (c.if2.true (places_long h))
+pub returns-then-places-kinds : goal.returns-then-places-kinds
+returns-then-places-kinds c file ts values vs h coded = absurd (c.if-places-kinds.true (places_long h))
 
 -- the test of the code is that of the pass
 tested : (vs : List Var) (ts : List Token) (i : ℕ) (on b : Bool) (l : Lexeme)
@@ -71,35 +59,31 @@ tested : (vs : List Var) (ts : List Token) (i : ℕ) (on b : Bool) (l : Lexeme)
 tested vs ts i on b l e =
     e ∙ ap (λ (us : List Lexeme). on && is_key k_mod l && low_divisor vs (read_atom us)) (lexemes_left ts (i + 1))
 
-returns_3 : tie.Need-returns-3 invariant_loop decreases_loop
-returns_3 c file ts values vs h coded =
-    let a = c.before.before.before.before.before.loop in
+pub returns-then-offends : goal.returns-then-offends
+returns-then-offends c file ts values vs h coded =
+    let a = c.loop-i in
     let l = (token_at ts a.i).lexeme in
-    let t = c.before.before.offends.ensures vs (lexemes ts) l coded (kind_at h a.i) in
+    let t = c.offends.ensures vs (lexemes ts) l coded (kind_at h a.i) in
     offends (valuing vs) h false a.on a.i (a.invariant.1 file ts values vs h coded) (omega arith)
-    (sym (tested vs ts a.i a.on _ l t) ∙ c.before.if3.true)
+    (sym (tested vs ts a.i a.on _ l t) ∙ c.if-offends.true)
 
-loop_again : tie.Need-loop-preserved invariant_loop decreases_loop
-loop_again c = (
+pub loop-i-preserved : goal.loop-i-preserved
+loop-i-preserved c = (
   omega arith,
   λ file ts values vs h coded.
-      let a = c.before.before.before.before.before.loop in
+      let a = c.loop-i in
       let l = (token_at ts a.i).lexeme in
       let k = kind_at h a.i in
-      let t = c.before.before.offends.ensures vs (lexemes ts) l coded k in
+      let t = c.offends.ensures vs (lexemes ts) l coded k in
       goes_on (valuing vs) h false a.on a.i (a.invariant.1 file ts values vs h coded) (omega arith)
-      (sym (tested vs ts a.i a.on _ l t) ∙ c.before.if3.false)
-      ∙ ap (λ (b : Bool). unvalued vs b (drop (a.i + 1) ts)) (sym (c.asks.ensures l k)),
+      (sym (tested vs ts a.i a.on _ l t) ∙ c.if-offends.false)
+      ∙ ap (λ (b : Bool). unvalued vs b (drop (a.i + 1) ts)) (sym (c.asks-on.ensures l k)),
 )
 
-returns_4 : tie.Need-returns-4 invariant_loop decreases_loop
-returns_4 c file ts values vs h coded =
-    let a = c.before.loop in
+pub returns : goal.returns
+returns c file ts values vs h coded =
+    let a = c.loop-i in
     ends (valuing vs) h false a.on a.i (a.invariant.1 file ts values vs h coded) (omega arith)
 
-pub find_unvalued_spec : {M : Type 1} → statement M
-find_unvalued_spec =
-    tie.close
-    (tie.spec invariant_loop decreases_loop (λ c κs. tt) returns returns_2 (λ c. (omega arith, λ file ts values vs h coded. refl))
-    (λ c. omega arith) (λ c. omega arith) (λ c κs. omega arith) (λ c. search rules) (λ c. omega arith) returns_3
-    (λ c κs. search rules) (λ c. omega arith) (λ c. omega arith) loop_again returns_4)
+pub loop-i-init : goal.loop-i-init
+loop-i-init = λ c. (omega arith, λ file ts values vs h coded. refl)
