@@ -79,6 +79,8 @@ module _ {vs : List Var} {bounds : Bounds} (b : Bounded vs bounds) (s t x : ℕ)
     together none none both_fault f g e =
         split (ltb x 4096) (λ h. absurd (omega (arith, unshift_in s x (ltb-true x 4096 h))))
         (λ h. unshift_out t x (ltb-false x 4096 h))
+    together none (some ds) x f g e = elim x [ ]
+    together (some cs) none x f g e = elim x [ ]
     together (some cs) (some ds) (both_end k) f g e =
         let n = kins_number k in
         let at-s = number_of_state_at vs s low in

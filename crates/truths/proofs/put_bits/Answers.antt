@@ -1,0 +1,36 @@
+-- `truths::put_bits` meets its contract. The loop's invariant: the bits below j stand, and what stands before them is as
+-- it was.
+use Prim.Native.Nat.{◌+◌}
+use native.Mathlib.Omega.{arith}
+use mathlib.Core.Path.{◌≡◌, refl, ap, ◌∙◌}
+use lib.ListN.{get_or, set, length-set}
+use lib.Seq.{get_or-set_same, get_or-set_other}
+use Rattle.logic.specs.Tests.{bit}
+use Rattle.sets.specs.Set.{member}
+use Rattle.logic.proofs.Lists.{passed}
+use Rattle.truths.proofs.put_bits.Goals as goal
+
+pub loop-j-init : goal.loop-j-init
+loop-j-init c = (omega arith, refl, λ k h. absurd (omega arith), λ n h. refl)
+
+pub loop-j-preserved : goal.loop-j-preserved
+loop-j-preserved c =
+    let i = c.loop-j in
+    let a = c.args in
+    let at = a.from + i.j in
+    let x = c.bit_of.result in (
+      omega arith,
+      simp length-set i.invariant.1,
+      passed (λ k. get_or (set i.row at x) (a.from + k) 0 ≡ bit (member a.known k)) i.j
+          (λ k h. get_or-set_other i.row at (a.from + k) x 0 (λ d. omega arith) ∙ i.invariant.2 k h)
+          (get_or-set_same i.row at x 0 (omega arith) ∙ c.bit_of.ensures ∙ ap bit c.has.ensures),
+      λ n h. get_or-set_other i.row at n x 0 (λ d. omega arith) ∙ i.invariant.3 n h,
+    )
+
+pub shape_of-row : goal.shape_of-row
+shape_of-row c = c.loop-j.invariant.1
+
+pub returns : goal.returns
+returns c =
+    let i = c.loop-j in
+    record { here = λ j h. i.invariant.2 j (omega arith); others = i.invariant.3 }
