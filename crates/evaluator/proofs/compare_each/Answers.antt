@@ -1,0 +1,18 @@
+-- `evaluator::compare_each` meets its contract: each turn stores the test of its lane.
+use Prim.Native.Nat.{◌-◌}
+use native.Mathlib.Omega.{arith}
+use mathlib.Core.Path.{◌≡◌}
+use mathlib.Core.Bool.{false}
+use lib.ListN.{get_or}
+use Rattle.evaluator.specs.Promises.{test_of}
+use Rattle.sixteen.proofs.Fill.{Filled, fill_none, fill_more, all_filled}
+use Rattle.evaluator.proofs.compare_each.Goals as goal
+
+pub loop-j-init : goal.loop-j-init
+loop-j-init = λ c. fill_none false
+
+pub loop-j-preserved : goal.loop-j-preserved
+loop-j-preserved = λ c. fill_more _ c.loop-j.invariant c.loop-j-test.true c.test.ensures
+
+pub returns : goal.returns
+returns = λ c. all_filled c.loop-j.invariant c.loop-j-test.false

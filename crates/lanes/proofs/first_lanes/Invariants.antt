@@ -1,0 +1,20 @@
+use Prim.Native.Nat.{ℕ, ◌-◌, ◌≤◌, ◌<◌}
+use native.Mathlib.Omega.{arith}
+use native.Mathlib.Nat.{zero-add}
+use mathlib.Core.Path.{◌≡◌, refl, ◌∙◌}
+use mathlib.Core.List.{List}
+use lib.ListN.{length}
+use Rattle.syntax.specs.Tree.{Var}
+use Rattle.meaning.specs.State.{count}
+use Rattle.variables.specs.Bounded.{Bounded}
+use Rattle.lanes.specs.Promises.{InLane}
+use Rattle.lanes.proofs.Lane.{lane_is}
+use Rattle.lanes.proofs.first_lanes.Given as goal
+
+abbrev pub invariant-loop-s : goal.invariant-loop-s
+invariant-loop-s l =
+    (l.s ≤ 16) × (length l.lanes ≡ 96)
+    × ((vs : List Var) → Bounded vs l.bounds → (u : ℕ) → u < l.s → u < count vs → InLane vs l.lanes u u)
+
+abbrev pub decreases-loop-s : goal.decreases-loop-s
+decreases-loop-s l = 16 - l.s

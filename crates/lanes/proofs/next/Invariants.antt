@@ -1,0 +1,15 @@
+use Prim.Native.Nat.{◌<◌}
+use native.Mathlib.Omega.{arith}
+use borrow.Author.Tests.{ltb-true}
+use mathlib.Core.Bool.{◌||◌}
+use lib.Dec.{ltb}
+use Rattle.logic.proofs.Bools.{both}
+use Rattle.lanes.proofs.Carrying.{Carrying, carrying_none, ready_next, raised_next, passed_next, carried_all}
+use Rattle.lanes.proofs.next.Given as goal
+
+abbrev pub invariant-loop-k : goal.invariant-loop-k
+invariant-loop-k l =
+    Carrying l.bounds l.initial.values l.values l.changed l.carry l.any l.rest l.initial.k l.k
+
+abbrev pub decreases-loop-k : goal.decreases-loop-k
+decreases-loop-k l = l.k

@@ -1,0 +1,15 @@
+use Prim.Native.Nat.{ℕ, ◌+◌, ◌-◌, ◌*◌, ◌≤◌, ◌<◌}
+use native.Mathlib.Omega.{arith}
+use mathlib.Core.Path.{◌≡◌, refl, ◌∙◌}
+use lib.ListN.{length, get_or, set, length-set}
+use lib.Seq.{get_or-set_same, get_or-set_other}
+use Rattle.lanes.proofs.put_values.Given as goal
+
+abbrev pub invariant-loop-k : goal.invariant-loop-k
+invariant-loop-k l =
+    (l.k ≤ 6) × (length l.all ≡ length l.initial.all) × ((i : ℕ) → i < l.k → (n : ℕ) → n ≡ l.at + i * 16
+    → get_or l.all n 0 ≡ get_or l.values i 0)
+    × ((n : ℕ) → ((i : ℕ) → i < l.k → n ≡ l.at + i * 16 → ⊥) → get_or l.all n 0 ≡ get_or l.initial.all n 0)
+
+abbrev pub decreases-loop-k : goal.decreases-loop-k
+decreases-loop-k l = 6 - l.k

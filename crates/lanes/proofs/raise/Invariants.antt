@@ -1,0 +1,11 @@
+use Prim.Native.Nat.{◌-◌}
+use native.Mathlib.Omega.{arith}
+use Rattle.lanes.proofs.Rows.{Raising, raising_none, raising_more, raising_all, sum_small}
+use Rattle.lanes.proofs.raise.Given as goal
+
+abbrev pub invariant-loop-j : goal.invariant-loop-j
+invariant-loop-j l =
+    Raising l.at l.add l.high l.size l.initial.lanes l.initial.carry l.lanes l.carry l.any l.j
+
+abbrev pub decreases-loop-j : goal.decreases-loop-j
+decreases-loop-j l = 16 - l.j
