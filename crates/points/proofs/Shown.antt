@@ -21,13 +21,13 @@ use Rattle.machine.specs.Monitor as machine
 use Rattle.machine.proofs.Reached.{PlaceWithin}
 use Rattle.meaning.specs.Held.{Biased}
 use Rattle.meaning.specs.Model.{vars, guards, model, holds}
-use Rattle.meaning.specs.State.{state_at, count}
+use Rattle.meaning.specs.State.{state_at}
 use Rattle.meaning.specs.Bits.{each_from}
 use Rattle.meaning.specs.Decide.Table.{for_each}
 use Rattle.meaning.specs.Lines.{place_byte}
 use Rattle.meaning.specs.Points.{value_bytes, place_bytes, turn_bytes, set_bytes, shared_bytes, notice_bytes, notices_at}
 use Rattle.meaning.specs.Points.{plain_part, table_part, turn_part, point_at}
-use Rattle.meaning.proofs.ModelLaws.{holds_below, kept_below}
+use Rattle.meaning.proofs.ModelLaws.{holds_below}
 use Rattle.digits.proofs.ForEach.{for_each_same}
 use Rattle.lines.proofs.Writing.{offset_abs}
 use Rattle.threads.specs.Held.{places_of, turns_of, threads_of, Turned}

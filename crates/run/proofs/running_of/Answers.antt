@@ -2,7 +2,6 @@
 use Prim.Native.Nat.{ℕ}
 use mathlib.Core.Path.{refl, sym, ◌∙◌, subst}
 use mathlib.Core.Bool.{false}
-use borrow.Author.Rules.{rules}
 use Rattle.machine.specs.Monitor.{Run, accepted, stopped}
 use Rattle.meaning.specs.Answer.{answer}
 use Rattle.meaning.specs.Calls.{not_run}
@@ -11,38 +10,32 @@ use Rattle.meaning.specs.State.{count}
 use Rattle.meaning.specs.Decide.Calls.{running_of}
 use Rattle.run.specs.Results.{Runs}
 use Rattle.run.specs.Ended.{StopsAs}
-use Rattle.run.proofs.running_of.Statement.{statement}
-use Rattle.run.proofs.running_of.Tie as tie
+use Rattle.run.proofs.running_of.Goals as goal
 
-returns : tie.Need-returns
+pub returns-then-number-ne0 : goal.returns-then-number-ne0
 unfolding StopsAs running_of
-returns c m w x b own = go x
+returns-then-number-ne0 c m w x b own = go x
   where
-    go : (x : Run) → StopsAs w (count (vars m)) c.before.before.args.stop c.before.before.args.run x
+    go : (x : Run) → StopsAs w (count (vars m)) c.args.stop c.args.run x
         → Runs (running_of m x) c.not_run.result
-    go (accepted d) s = absurd (c.before.if1.true s.0)
+    go (accepted d) s = absurd (c.if-number-ne0.true s.0)
     go (stopped a k) s =
         subst (λ (n : ℕ). Runs (not_run (answer n k 0)) c.not_run.result) s.0
-        (subst (λ (i : ℕ). Runs (not_run (answer c.before.before.args.stop.number i 0)) c.not_run.result) s.1
+        (subst (λ (i : ℕ). Runs (not_run (answer c.args.stop.number i 0)) c.not_run.result) s.1
         c.not_run.ensures)
 
-returns_2 : tie.Need-returns-2
+pub returns : goal.returns
 unfolding StopsAs running_of Runs
-returns_2 c m w x b own = go x
+returns c m w x b own = go x
   where
     go : (x : Run)
-        → StopsAs w (count (vars m)) c.before.before.before.args.stop c.before.before.before.args.run x
+        → StopsAs w (count (vars m)) c.args.stop c.args.run x
         → Runs (running_of m x)
-        (record { answer = c.before.say.result; «record» = c.record_of.result; of_file = false })
+        (record { answer = c.say.result; «record» = c.record_of.result; of_file = false })
     go (accepted d) s =
-        let a = c.before.say.ensures in (
+        let a = c.say.ensures in (
           record { number = a.0; first = a.1; second = a.2 },
           c.record_of.ensures m w d b own s.1 s.2,
           refl,
         )
-    go (stopped a k) s = absurd (s.2 (sym s.0 ∙ c.before.before.if1.false))
-
-pub running_of_spec : {M : Type 1} → statement M
-running_of_spec =
-    tie.close
-    (tie.spec (λ c κs. search rules) returns (λ c κs. search rules) (λ c κs. search rules) returns_2)
+    go (stopped a k) s = absurd (s.2 (sym s.0 ∙ c.if-number-ne0.false))

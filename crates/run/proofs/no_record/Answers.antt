@@ -4,15 +4,14 @@ use native.Mathlib.Omega.{arith}
 use mathlib.Core.Path.{◌≡◌, refl}
 use lib.ListN.{get_or, replicate}
 use Rattle.threads.specs.Held.{place_of}
-use Rattle.run.proofs.no_record.Statement.{statement}
-use Rattle.run.proofs.no_record.Tie as tie
+use Rattle.run.proofs.no_record.Goals as goal
 
 each_at : (n a t : ℕ) → t < n → get_or (replicate n a) t 0 ≡ a
 each_at zero a t h = absurd (omega arith)
 each_at (suc n) a zero h = refl
 each_at (suc n) a (suc t) h = each_at n a t (omega arith)
 
-returns : tie.Need-returns
+pub returns : goal.returns
 unfolding place_of
 returns c = record {
   vars = refl;
@@ -22,6 +21,3 @@ returns c = record {
   notified = refl;
   how_many_lem = refl;
 }
-
-pub no_record_spec : {M : Type 1} → statement M
-no_record_spec = tie.close (tie.spec returns)

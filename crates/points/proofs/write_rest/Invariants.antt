@@ -1,0 +1,22 @@
+use Prim.Native.Nat.{ℕ, ◌+◌, ◌*◌, ◌-◌, ◌≤◌}
+use mathlib.Core.Path.{◌≡◌}
+use mathlib.Core.List.{List}
+use lib.ListN.{length}
+use Rattle.syntax.specs.Tree.{Monitor}
+use Rattle.machine.specs.Monitor.{Frame}
+use Rattle.meaning.specs.Model.{model}
+use Rattle.run.specs.Way.{Way}
+use Rattle.points.specs.Written.{PointsAsked, Listed}
+use Rattle.points.proofs.write_rest.Given as goal
+
+abbrev pub invariant-loop-at : goal.invariant-loop-at
+invariant-loop-at l =
+    (l.at ≡ 7 * l.k) × (l.at ≤ length l.bytes + 7) × (length l.out ≡ length l.initial.out)
+    × ((m : Monitor) (kept : List ℕ) (fs : List Frame) (s : ℕ) (before : List ℕ)
+    → PointsAsked l.bytes s l.bounds l.layout l.holds l.after l.entries before m kept fs → length before ≡ length l.initial.out
+    → Way (model m) s fs l.initial.going 0 → Listed m s fs 1 before l.next l.initial.out
+    → Way (model m) s fs l.going l.k × Listed m s fs (l.k + 1) before l.to l.out)
+
+abbrev pub decreases-loop-at : goal.decreases-loop-at
+decreases-loop-at l =
+    length l.bytes - l.at
