@@ -26,7 +26,7 @@ use runs::runs;
 use selftest::selftest;
 
 const USAGE: &str = "\
-usage: tools/programs [--only NAME] [PLACER RUNNER]     (default: target/bin/placer target/bin/runner)
+usage: tools/programs [--only NAME] [PLACER RUNNER]     (default: crates/placer/out/placer crates/runner/out/runner)
        tools/programs --selftest                        (stand-ins that read or write wrongly must each be found out)";
 
 pub fn programs(root: &Path, arguments: &[&str]) -> io::Result<bool> {
@@ -39,7 +39,7 @@ pub fn programs(root: &Path, arguments: &[&str]) -> io::Result<bool> {
         ["--selftest"] => selftest(root),
         [] => {
             let [placer, runner] =
-                ["placer", "runner"].map(|name| root.join("target/bin").join(name));
+                ["placer", "runner"].map(|name| root.join("crates").join(name).join("out").join(name));
             try_out(root, only, &placer, &runner, "")
         }
         [placer, runner] if !placer.starts_with('-') => {
@@ -90,7 +90,7 @@ fn found(program: &Path) -> io::Result<OsString> {
     match fs::metadata(&path) {
         Ok(about) if about.is_file() && about.permissions().mode() & 0o111 != 0 => Ok(path.into()),
         _ => Err(io::Error::other(format!(
-            "programs: no program {}: 'rt check placer runner' proves and builds both",
+            "programs: no program {}: 'tools/fresh placer runner' proves and builds both",
             path.display()
         ))),
     }
