@@ -84,7 +84,7 @@ module _ {file : List ℕ} {ts : List Token} {kinds values places : List ℕ}
     turn l i b s done (q ∷ qs) h f stands whole small kind adds =
         let r = adds ts done q (regions_ahead qs us) words small h (stands ∙ region_first q qs us) in
         let flag = flag_ahead qs us in
-        let item : Flagged = record { region = q; begins = b; goes_on_lem = more qs } in
+        let item : Flagged = record { region = q; begins = b; goes_on = more qs } in
         let held : Holds (lexemes ts) (done ++ (item ∷ [])) s.layout = rw flag at r.holds in
         let sum = length-append done (item ∷ []) in
         record {

@@ -137,7 +137,7 @@ module _ (ls : List Lexeme) (done : List Flagged) (f : Flagged) (l : Layout) (ro
         begins = l.begins;
         goes_on = l.goes_on;
         firsts = firsts;
-      } guard_at body_at number f.begins f.goes_on_lem)
+      } guard_at body_at number f.begins f.goes_on)
   grown fs are kept here found_Here guards firsts many below has =
       record {
         count = let e = holds.count in let sum = length-append done (f ∷ []) in omega arith;
@@ -165,7 +165,7 @@ module _ (ls : List Lexeme) (done : List Flagged) (f : Flagged) (l : Layout) (ro
             (omega (arith, room.arrays.begins_whole)) (omega (arith, room.arrays.begins_whole))
             holds.begin_flags refl;
         follow_flags =
-            extended done f (λ e x y. x ≡ e.goes_on_lem) l.goes_on l.goes_on f.goes_on_lem f.goes_on_lem l.regions
+            extended done f (λ e x y. x ≡ e.goes_on) l.goes_on l.goes_on f.goes_on f.goes_on l.regions
             holds.count
             (omega (arith, room.arrays.goes_on_whole)) (omega (arith, room.arrays.goes_on_whole))
             holds.follow_flags refl;
@@ -176,7 +176,7 @@ module _ (ls : List Lexeme) (done : List Flagged) (f : Flagged) (l : Layout) (ro
   kept_place r h = get_or-append done (f ∷ []) no_flagged r h
 
   pub with_known : number < l.guards
-      → Holds ls (done ++ (f ∷ [])) (with_region l guard_at body_at number f.begins f.goes_on_lem)
+      → Holds ls (done ++ (f ∷ [])) (with_region l guard_at body_at number f.begins f.goes_on)
   with_known h =
       let sum = length-append done (f ∷ []) in
       let count = holds.guard_count in
@@ -187,7 +187,7 @@ module _ (ls : List Lexeme) (done : List Flagged) (f : Flagged) (l : Layout) (ro
       (λ g k. rw (kept_place _ (holds.first_below g k)) (holds.first_has g k))
 
   pub with_new : number ≡ l.guards
-      → Holds ls (done ++ (f ∷ [])) (with_region (with_guard l) guard_at body_at number f.begins f.goes_on_lem)
+      → Holds ls (done ++ (f ∷ [])) (with_region (with_guard l) guard_at body_at number f.begins f.goes_on)
   with_new h =
       let sum = length-append done (f ∷ []) in
       let count = holds.guard_count in
@@ -277,7 +277,7 @@ module _ (l k : Layout) (n : ℕ) (numbered : Numbered l n k) where
       → l.regions < 16
       → (guard_at body_at : ℕ) → RegionAt ls f.region guard_at body_at → n ≡ place_in f.region.guard (found done)
       → n ≤ l.guards
-      → Holds ls (done ++ (f ∷ [])) (with_region k guard_at body_at n f.begins f.goes_on_lem)
+      → Holds ls (done ++ (f ∷ [])) (with_region k guard_at body_at n f.begins f.goes_on)
   numbered_holds ls done f room holds low guard_at body_at stands place few =
       ⊎_elim
       (λ w. rw w.1 (with_new ls done f l room holds low guard_at body_at n stands place w.0))

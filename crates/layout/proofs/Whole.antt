@@ -72,7 +72,7 @@ more_is [] = refl
 more_is (q ∷ qs) = rw (lt-ltb 1 (suc (suc (length qs))) (omega arith), bit)
 
 goes_on_at : (b : ℕ) (qs : List Region) (i : ℕ) → i < length qs
-    → (get_or (flag_regions b qs) i no_flagged).goes_on_lem ≡ bit (ltb (i + 1) (length qs))
+    → (get_or (flag_regions b qs) i no_flagged).goes_on ≡ bit (ltb (i + 1) (length qs))
 unfolding flag_regions
 goes_on_at b [] i h = absurd (omega arith)
 goes_on_at b (q ∷ qs) zero h = more_is qs
@@ -110,10 +110,10 @@ module _ (ms : List Method) (r : ℕ) (h : r < length (regions_of ms)) where
       ∙ begins_at (all p.1.method.regions) p.0 p.1.within
       ∙ ap bit (sym (begins_in_method p.1))
 
-  goes_on_is : (get_or (flagged ms) r no_flagged).goes_on_lem ≡ bit (goes_on_in ms r)
+  goes_on_is : (get_or (flagged ms) r no_flagged).goes_on ≡ bit (goes_on_in ms r)
   goes_on_is =
       let p = in_method ms r h in
-      ap (λ (f : Flagged). f.goes_on_lem) (flagged_at p.1)
+      ap (λ (f : Flagged). f.goes_on) (flagged_at p.1)
       ∙ goes_on_at 1 (all p.1.method.regions) p.0 p.1.within
       ∙ ap bit (sym (goes_on_in_method p.1))
 

@@ -48,10 +48,10 @@ module _ (file kinds values places : List ℕ) where
 pub record Flagged : Type 0 where
   pub region : Region
   pub begins : ℕ
-  pub goes_on_lem : ℕ
+  pub goes_on : ℕ
 
 abbrev pub no_flagged : Flagged
-no_flagged = record { region = no_region; begins = 0; goes_on_lem = 0 }
+no_flagged = record { region = no_region; begins = 0; goes_on = 0 }
 
 abbrev pub more : List Region → ℕ
 more [] = 0
@@ -60,7 +60,7 @@ more (q ∷ qs) = 1
 -- the regions of a method, the first with a flag, and those of all methods
 unfoldable pub flag_regions : ℕ → List Region → List Flagged
 flag_regions b [] = []
-flag_regions b (q ∷ qs) = record { region = q; begins = b; goes_on_lem = more qs } ∷ flag_regions 0 qs
+flag_regions b (q ∷ qs) = record { region = q; begins = b; goes_on = more qs } ∷ flag_regions 0 qs
 
 unfoldable pub flagged : List Method → List Flagged
 flagged [] = []
@@ -106,7 +106,7 @@ pub record Holds (ls : List Lexeme) (done : List Flagged) (l : Layout) : Type 0 
   pub first_has : (g : ℕ) → g < length (found done)
       → place_in (get_or done (get_or l.firsts g 0) no_flagged).region.guard (found done) ≡ g
   pub begin_flags : (r : ℕ) → r < length done → get_or l.begins r 0 ≡ (get_or done r no_flagged).begins
-  pub follow_flags : (r : ℕ) → r < length done → get_or l.goes_on r 0 ≡ (get_or done r no_flagged).goes_on_lem
+  pub follow_flags : (r : ℕ) → r < length done → get_or l.goes_on r 0 ≡ (get_or done r no_flagged).goes_on
 
 -- the next region has a guard of its own
 abbrev pub with_guard : Layout → Layout
@@ -162,7 +162,7 @@ module _ (file kinds values places : List ℕ) where
       → length ts ≤ most_tokens
       → Holds (lexemes ts) done l → drop at (lexemes ts) ≡ spell_region q ++ us
       → Reached (lexemes ts)
-      (done ++ (record { region = q; begins = begins; goes_on_lem = flag_at (map kind_of us) 0 } ∷ [])) us s
+      (done ++ (record { region = q; begins = begins; goes_on = flag_at (map kind_of us) 0 } ∷ [])) us s
 
   abbrev pub AddsMethod : Layout → ℕ → Spot → Type 0
   AddsMethod l at s =

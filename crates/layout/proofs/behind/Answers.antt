@@ -7,24 +7,21 @@ use Rattle.syntax.specs.Decide.Lexeme.{mark_number}
 use Rattle.syntax.specs.Held.Kind.{kind_of, no_kind}
 use Rattle.layout.specs.Places.{to_condition, past, behind_at}
 use Rattle.layout.proofs.Closes.{close_within, semicolon_kind}
-use Rattle.layout.proofs.behind.Statement.{statement}
-use Rattle.layout.proofs.behind.Tie as tie
+use Rattle.layout.proofs.behind.Goals as goal
+use Rattle.layout.proofs.behind.Goals.{After-closing}
 
-within : (c : tie.After-closing) → c.closing.result ≤ length c.before.before.args.kinds.now + to_condition
+within : (c : After-closing) → c.closing.result ≤ length c.args.kinds.now + to_condition
 unfolding kind_of mark_number
 within c =
-    let a = c.before.before.args in
+    let a = c.args in
     let ks = a.kinds.now in
     let n = length ks + to_condition in
     let low = close_within no_kind semicolon_kind (a.at + to_condition) ks n (omega arith) (omega arith) in
     omega (arith, c.closing.ensures, low)
 
-add_result : tie.Need-overflow-add-result
-add_result c = omega (arith, within c)
+pub overflow_add-result : goal.overflow_add-result
+overflow_add-result c = omega (arith, within (goal.at.overflow_add-result c).After-closing)
 
-returns : tie.Need-returns
+pub returns : goal.returns
 unfolding behind_at kind_of mark_number
-returns c = (ap (λ (n : ℕ). n + past) c.closing.ensures, omega (arith, within c))
-
-pub behind_spec : {M : Type 1} → statement M
-behind_spec = tie.close (tie.spec (λ c. omega arith) (λ c κs. tt) add_result returns)
+returns c = (ap (λ (n : ℕ). n + past) c.closing.ensures, omega (arith, within (goal.at.returns c).After-closing))
