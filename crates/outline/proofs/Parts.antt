@@ -5,7 +5,7 @@ use native.Mathlib.Omega.{arith}
 use mathlib.Core.Path.{◌≡◌, refl, sym, ap, ◌∙◌}
 use mathlib.Core.List.{List, [], ◌∷◌, ◌++◌, append_assoc}
 use lib.ListN.{length, length-append}
-use Rattle.syntax.specs.Token.{Lexeme, name, key, mark, lbrace, rbrace, lparen, rparen, semicolon, Token, lexemes}
+use Rattle.syntax.specs.Token.{Lexeme, key, mark, lbrace, rbrace, lparen, rparen, semicolon, Token, lexemes}
 use Rattle.syntax.specs.Token.{Keyword, k_monitor, k_var, k_keep, k_method, k_waituntil, k_try}
 use Rattle.syntax.specs.Decide.Lexeme.{mark_number}
 use Rattle.syntax.specs.Held.Kind.{kind_of, no_kind, Words}

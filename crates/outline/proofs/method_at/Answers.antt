@@ -1,0 +1,12 @@
+-- `outline::method_at` meets its contract.
+use Rattle.syntax.specs.Decide.Lexeme.{keyword_number}
+use Rattle.syntax.specs.Held.Kind.{kind_of}
+use Rattle.outline.proofs.Formed.{method_formed}
+use Rattle.outline.proofs.method_at.Goals as goal
+
+pub returns : goal.returns
+unfolding kind_of keyword_number
+returns c =
+    let a = c.args in
+    method_formed a.kinds.now a.places.now a.values.now a.k _ _ _ c.nth-at.ensures.0
+    c.name_at-name.ensures c.count_before.ensures

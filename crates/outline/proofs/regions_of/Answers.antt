@@ -1,0 +1,26 @@
+-- `outline::regions_of` meets its contract. The invariant: the regions passed are there, and the slots behind them
+-- are empty.
+use native.Mathlib.Omega.{arith}
+use borrow.Author.Tests.{ltb-true, ltb-false}
+use Rattle.machine.specs.Limits.{most_regions}
+use Rattle.outline.specs.Outlined.{no_region}
+use Rattle.outline.proofs.Filling.{begins, turn, ends}
+use Rattle.outline.proofs.regions_of.Goals as goal
+
+pub loop-k-init : goal.loop-k-init
+loop-k-init c = begins most_regions _ no_region _ _ (cc)
+
+pub loop-k-preserved : goal.loop-k-preserved
+loop-k-preserved c =
+    let l = c.loop-k in
+    turn most_regions _ no_region _ l.found l.k c.region_at.result l.invariant (omega arith)
+    (omega (arith, ltb-true)) c.region_at.ensures
+
+pub returns-else-k-n : goal.returns-else-k-n
+returns-else-k-n c =
+    let l = c.loop-k in
+    ends most_regions _ no_region _ l.found l.k l.invariant (λ j p q. omega (arith, ltb-false))
+
+pub returns-after-loop-k : goal.returns-after-loop-k
+returns-after-loop-k c =
+    let l = c.loop-k in ends most_regions _ no_region _ l.found l.k l.invariant (λ j p q. omega arith)
