@@ -1,0 +1,71 @@
+-- `breaking::first_broken` meets its contract. The loop's invariant: no region below r breaks, by the slices.
+use Prim.Native.Nat.{ℕ, ◌+◌, ◌-◌, ◌*◌, ◌<◌}
+use native.Mathlib.Omega.{arith}
+use mathlib.Core.Path.{◌≡◌, sym, ap, ◌∙◌}
+use lib.ListN.{get_or, take, drop}
+use Rattle.meaning.specs.State.{count}
+use Rattle.meaning.specs.Model.{vars}
+use Rattle.breaking.specs.Broken.{breaks_by}
+use Rattle.logic.proofs.Lists.{passed}
+use Rattle.states.proofs.Regions.{part_at}
+use Rattle.breaking.proofs.Breaking.{never, stops}
+use Rattle.breaking.proofs.first_broken.Goals as goal
+use Rattle.breaking.proofs.first_broken.Goals.{After-first_in_row-s}
+use Rattle.breaking.proofs.first_broken.Invariants.{Quiet}
+
+pub loop-r-init : goal.loop-r-init
+loop-r-init c = (omega arith, λ j h. absurd (omega arith))
+
+-- region r at a state, by the slices and by the row that was lent
+at_row : (c : After-first_in_row-s) (s : ℕ) → s < 4096 →
+    let r = c.loop-r.r in
+    let a = c.args in
+    breaks_by a.kept.now a.holds.now (get_or a.guard_of r 0) s (get_or a.after.now (r * 4096 + s) 0)
+    ≡ breaks_by a.kept.now a.holds.now (get_or a.guard_of r 0) s
+    (get_or (take (r * 4096 + 4096 - r * 4096) (drop (r * 4096) a.after.now)) s 0)
+at_row c s h =
+    let r = c.loop-r.r in
+    let a = c.args in
+    ap (breaks_by a.kept.now a.holds.now (get_or a.guard_of r 0) s)
+    (sym (part_at a.after.now r (r * 4096 + 4096 - r * 4096) s (omega arith) h))
+
+pub returns-then-s-states : goal.returns-then-s-states
+returns-then-s-states c m b counted small numbers l₁ l₂ l₃ k h o =
+    let f = c in
+    let i = f.loop-r in
+    let low : f.first_in_row-s.result < count (vars m) = omega (arith, b.states) in
+    stops m _ o _ _ _ b.good b.few_states k h numbers i.r f.first_in_row-s.result (omega arith) low
+    (at_row (goal.at.returns-then-s-states c).After-first_in_row-s _ (omega (arith, b.few_states)) ∙ f.first_in_row-s.ensures.passes c.if-s-states.true)
+    (λ s l. at_row (goal.at.returns-then-s-states c).After-first_in_row-s s (omega (arith, b.few_states)) ∙ f.first_in_row-s.ensures.lower s l)
+    (λ j l s below. i.invariant.1 j l s (omega (arith, b.states)) (omega (arith, b.few_states)))
+
+pub loop-r-preserved : goal.loop-r-preserved
+loop-r-preserved c =
+    let f = c in
+    let i = f.loop-r in
+    let a = f.args in (
+      omega arith,
+      passed (Quiet a.kept.now a.holds.now a.after.now a.guard_of a.bounds.states) i.r i.invariant.1
+          (λ s below h. at_row (goal.at.loop-r-preserved c).After-first_in_row-s s h ∙ f.first_in_row-s.ensures.lower s (omega arith)),
+    )
+
+pub returns : goal.returns
+returns c m b counted small numbers l₁ l₂ l₃ k h o =
+    never m _ o _ _ _ b.good b.few_states k h numbers
+    (λ j low s below.
+    c.loop-r.invariant.1 j (omega arith) s (omega (arith, b.states)) (omega (arith, b.few_states)))
+
+pub returns-then-kept-lt-STATES : goal.returns-then-kept-lt-STATES
+returns-then-kept-lt-STATES = λ c m b counted small numbers l₁ l₂ l₃ k h o. absurd (omega arith)
+
+pub returns-then-holds-lt-STATES : goal.returns-then-holds-lt-STATES
+returns-then-holds-lt-STATES = λ c m b counted small numbers l₁ l₂ l₃ k h o. absurd (omega arith)
+
+pub returns-then-after-lt-AFTER : goal.returns-then-after-lt-AFTER
+returns-then-after-lt-AFTER = λ c m b counted small numbers l₁ l₂ l₃ k h o. absurd (omega arith)
+
+pub returns-then-count-gt-REGIONS : goal.returns-then-count-gt-REGIONS
+returns-then-count-gt-REGIONS = λ c m b counted small numbers l₁ l₂ l₃ k h o. absurd (omega arith)
+
+pub returns-then-states-gt-STATE_END : goal.returns-then-states-gt-STATE_END
+returns-then-states-gt-STATE_END = λ c m b counted small numbers l₁ l₂ l₃ k h o. absurd (omega (arith, b.states, b.few_states))
