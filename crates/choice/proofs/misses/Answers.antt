@@ -7,17 +7,13 @@ use lib.Dec.{eqb}
 use borrow.Author.Tests.{eqb-true, eqb-false}
 use Rattle.logic.proofs.Bools.{split}
 use Rattle.choice.proofs.Members.{none_left, some_left}
-use Rattle.choice.proofs.misses.Statement.{statement}
-use Rattle.choice.proofs.misses.Tie as tie
+use Rattle.choice.proofs.misses.Goals as goal
 
-returns : tie.Need-returns
+pub returns : goal.returns
 returns c =
-    let a = c.before.args in
+    let a = c.args in
     let rest = c.minus.result in
     let fits : rest < 2 ^ 16 = omega arith in
     split (eqb rest 0)
     (λ h. ap not h ∙ sym (none_left a.set a.other rest fits c.minus.ensures (eqb-true rest 0 h)))
     (λ h. ap not h ∙ sym (some_left a.set a.other rest fits c.minus.ensures (eqb-false rest 0 h)))
-
-pub misses_spec : {M : Type 1} → statement M
-misses_spec = tie.close (tie.spec (λ c κs. tt) returns)

@@ -7,16 +7,15 @@ use borrow.Author.Tests.{ne_eqb, eq-eqb}
 use Rattle.logic.proofs.Bools.{split_eq}
 use Rattle.choice.specs.Slots.{slot_of}
 use Rattle.choice.proofs.Binding.{set_here, same_slot, mark_on, mark_off}
-use Rattle.choice.proofs.mark.Statement.{statement}
-use Rattle.choice.proofs.mark.Tie as tie
+use Rattle.choice.proofs.mark.Goals as goal
 
-returns : tie.Need-returns
-returns c u low = sym (mark_off _ _ _ _ (ne_eqb u c.before.args.i (λ e. omega arith)))
+pub returns-then-i-ge-TRIES : goal.returns-then-i-ge-TRIES
+returns-then-i-ge-TRIES c u low = sym (mark_off _ _ _ _ (ne_eqb u c.args.i (λ e. omega arith)))
 
-returns_2 : tie.Need-returns-2
+pub returns : goal.returns
 unfolding slot_of
-returns_2 c u low =
-    let a = c.before.before.args in
+returns c u low =
+    let a = c.args in
     split_eq u a.i
     (λ (e : u ≡ a.i).
     same_slot (c.without.ensures u ∙ rw (eq-eqb u a.i e)) (set_here a.choice.passes a.i u a.pass e (search rules))
@@ -27,9 +26,3 @@ returns_2 c u low =
     (get_or-set_other a.choice.regions a.i u a.region 0 n)
     (get_or-set_other a.choice.states a.i u a.state 0 n)
     ∙ sym (mark_off _ _ _ _ (ne_eqb u a.i n)))
-
-pub mark_spec : {M : Type 1} → statement M
-mark_spec =
-    tie.close
-    (tie.spec returns (λ c. search rules) (λ c κs. search rules) (λ c. search rules) (λ c. search rules)
-    (λ c. search rules) (λ c. search rules) returns_2)

@@ -1,0 +1,39 @@
+-- `choice::binds` meets its contract: four look-ups, one behind the other.
+use Prim.Native.Nat.{ℕ}
+use mathlib.Core.Bool.{Bool}
+use mathlib.Core.Path.{◌≡◌, sym, ap, ◌∙◌}
+use borrow.Author.Tests.{eq-eqb, ne_eqb, lt-ltb, le-ltb}
+use Rattle.sets.specs.Set.{member}
+use Rattle.choice.specs.Slots.{lacks}
+use Rattle.choice.proofs.Binding.{unbound_set, unbound_keep, unbound_range, bound}
+use Rattle.choice.proofs.binds.Goals as goal
+
+-- what the state's tries lack of the set
+missing : (set : ℕ) {b : Bool} {of x : ℕ} → b ≡ lacks of set → of ≡ x → b ≡ lacks x set
+missing set e is = e ∙ ap (λ (y : ℕ). lacks y set) is
+
+pub returns-then-misses : goal.returns-then-misses
+returns-then-misses c =
+    let a = c.args in
+    sym (unbound_set a.keep.now a.holds.now a.tried.now a.guard a.set a.s a.to
+    (sym (missing _ c.misses.ensures c.number_at.ensures) ∙ c.if-misses.true))
+
+pub returns-then-byte_at-ne1 : goal.returns-then-byte_at-ne1
+returns-then-byte_at-ne1 c =
+    let a = c.args in
+    sym (unbound_keep a.keep.now a.holds.now a.tried.now a.guard a.set a.s a.to
+    (ne_eqb _ 1 (λ e. c.if-byte_at-ne1.true (c.byte_at.ensures ∙ e))))
+
+pub returns-then-to-ge-STATE_END : goal.returns-then-to-ge-STATE_END
+returns-then-to-ge-STATE_END c =
+    let a = c.args in
+    sym (unbound_range a.keep.now a.holds.now a.tried.now a.guard a.set a.s a.to
+    (le-ltb a.to 4096 c.if-to-ge-STATE_END.true))
+
+pub returns : goal.returns
+returns c =
+    let a = c.args in
+    c.has.ensures ∙ ap (λ (x : ℕ). member x a.guard) c.number_at-2.ensures
+    ∙ sym (bound a.keep.now a.holds.now a.tried.now a.guard a.set a.s a.to
+    (sym (missing _ c.misses.ensures c.number_at.ensures) ∙ c.if-misses.false)
+    (eq-eqb _ 1 (sym c.byte_at.ensures ∙ c.if-byte_at-ne1.false)) (lt-ltb a.to 4096 c.if-to-ge-STATE_END.false))
