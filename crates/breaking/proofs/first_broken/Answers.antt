@@ -1,0 +1,64 @@
+-- `breaking::first_broken` meets its contract. The loop's invariant: no region below r breaks, by the slices.
+use Prim.Native.Nat.{ℕ, ◌+◌, ◌-◌, ◌*◌, ◌<◌}
+use native.Mathlib.Omega.{arith}
+use mathlib.Core.Path.{◌≡◌, sym, ap, ◌∙◌}
+use mathlib.Core.List.{List}
+use lib.ListN.{get_or, take, drop}
+use Rattle.meaning.specs.State.{count}
+use Rattle.meaning.specs.Model.{vars}
+use Rattle.breaking.specs.Broken.{breaks_by}
+use Rattle.logic.proofs.Lists.{passed}
+use Rattle.states.proofs.Regions.{part_at}
+use Rattle.breaking.proofs.Breaking.{never, stops}
+use Rattle.breaking.proofs.first_broken.Goals as goal
+use Rattle.breaking.proofs.first_broken.Invariants.{Quiet}
+
+pub loop-r-init : goal.loop-r-init
+loop-r-init c = (omega arith, λ j h. absurd (omega arith))
+
+-- region r at a state, by the slices and by the row that was lent
+at_row : (kept holds after : List ℕ) (guard r s : ℕ) → s < 4096 →
+    breaks_by kept holds guard s (get_or after (r * 4096 + s) 0)
+    ≡ breaks_by kept holds guard s (get_or (take (r * 4096 + 4096 - r * 4096) (drop (r * 4096) after)) s 0)
+at_row kept holds after guard r s h =
+    ap (breaks_by kept holds guard s) (sym (part_at after r (r * 4096 + 4096 - r * 4096) s (omega arith) h))
+
+pub returns-then-s-states : goal.returns-then-s-states
+returns-then-s-states c m b counted small numbers l₁ l₂ l₃ k h o =
+    let i = c.loop-r in
+    let a = c.args in
+    let low : c.first_in_row-s.result < count (vars m) = omega (arith, b.states) in
+    stops m _ o _ _ _ b.good b.few_states k h numbers i.r c.first_in_row-s.result (omega arith) low
+    (at_row a.kept.now a.holds.now a.after.now (get_or a.guard_of i.r 0) i.r _ (omega (arith, b.few_states)) ∙ c.first_in_row-s.ensures.passes c.if-s-states.true)
+    (λ s l. at_row a.kept.now a.holds.now a.after.now (get_or a.guard_of i.r 0) i.r s (omega (arith, b.few_states)) ∙ c.first_in_row-s.ensures.lower s l)
+    (λ j l s below. i.invariant.1 j l s (omega (arith, b.states)) (omega (arith, b.few_states)))
+
+pub loop-r-preserved : goal.loop-r-preserved
+loop-r-preserved c =
+    let i = c.loop-r in
+    let a = c.args in (
+      omega arith,
+      passed (Quiet a.kept.now a.holds.now a.after.now a.guard_of a.bounds.states) i.r i.invariant.1
+          (λ s below h. at_row a.kept.now a.holds.now a.after.now (get_or a.guard_of i.r 0) i.r s h ∙ c.first_in_row-s.ensures.lower s (omega arith)),
+    )
+
+pub returns : goal.returns
+returns c m b counted small numbers l₁ l₂ l₃ k h o =
+    never m _ o _ _ _ b.good b.few_states k h numbers
+    (λ j low s below.
+    c.loop-r.invariant.1 j (omega arith) s (omega (arith, b.states)) (omega (arith, b.few_states)))
+
+pub returns-then-kept-lt-STATES : goal.returns-then-kept-lt-STATES
+returns-then-kept-lt-STATES = λ c m b counted small numbers l₁ l₂ l₃ k h o. absurd (omega arith)
+
+pub returns-then-holds-lt-STATES : goal.returns-then-holds-lt-STATES
+returns-then-holds-lt-STATES = λ c m b counted small numbers l₁ l₂ l₃ k h o. absurd (omega arith)
+
+pub returns-then-after-lt-AFTER : goal.returns-then-after-lt-AFTER
+returns-then-after-lt-AFTER = λ c m b counted small numbers l₁ l₂ l₃ k h o. absurd (omega arith)
+
+pub returns-then-count-gt-REGIONS : goal.returns-then-count-gt-REGIONS
+returns-then-count-gt-REGIONS = λ c m b counted small numbers l₁ l₂ l₃ k h o. absurd (omega arith)
+
+pub returns-then-states-gt-STATE_END : goal.returns-then-states-gt-STATE_END
+returns-then-states-gt-STATE_END = λ c m b counted small numbers l₁ l₂ l₃ k h o. absurd (omega (arith, b.states, b.few_states))
