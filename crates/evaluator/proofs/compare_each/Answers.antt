@@ -1,11 +1,6 @@
 -- `evaluator::compare_each` meets its contract: each turn stores the test of its lane.
-use Prim.Native.Nat.{◌-◌}
-use native.Mathlib.Omega.{arith}
-use mathlib.Core.Path.{◌≡◌}
 use mathlib.Core.Bool.{false}
-use lib.ListN.{get_or}
-use Rattle.evaluator.specs.Promises.{test_of}
-use Rattle.sixteen.proofs.Fill.{Filled, fill_none, fill_more, all_filled}
+use Rattle.sixteen.proofs.Fill.{fill_none, fill_more, all_filled}
 use Rattle.evaluator.proofs.compare_each.Goals as goal
 
 pub loop-j-init : goal.loop-j-init

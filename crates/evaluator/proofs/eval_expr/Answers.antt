@@ -1,15 +1,14 @@
 -- `evaluator::eval_expr` meets its contract. The invariant: what is read from the term on is the whole expression.
 -- The measure is the count of tokens left: a sign is one, so it falls.
-use Prim.Native.Nat.{◌-◌}
 use native.Mathlib.Omega.{arith}
 use mathlib.Core.Path.{◌≡◌, sym, ◌∙◌}
-use lib.ListN.{length, get_or}
+use lib.ListN.{get_or}
 use Rattle.syntax.specs.Held.Kind.{kind_of, no_kind}
 use Rattle.syntax.specs.Decide.Lexeme.{mark_number, keyword_number}
 use Rattle.syntax.specs.Token.{mark}
 use Rattle.syntax.specs.Tree.{sign_mark}
 use Rattle.evaluator.specs.Promises.{sign_of}
-use Rattle.evaluator.proofs.Readings.{past_sign, Open, open_first, open_last, open_more}
+use Rattle.evaluator.proofs.Readings.{past_sign, open_first, open_last, open_more}
 use Rattle.evaluator.proofs.eval_expr.Goals as goal
 use Rattle.evaluator.proofs.eval_expr.Goals.{then-kind-eq-PLUS, else-kind-eq-PLUS+then-kind-eq-MINUS, Joined-kind-eq-PLUS}
 

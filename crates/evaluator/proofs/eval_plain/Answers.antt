@@ -1,15 +1,13 @@
 -- `evaluator::eval_plain` meets its contract. The invariant: what is read from the atom on is the whole expression. The
 -- measure is the count of tokens left: a sign is one, so it falls.
-use Prim.Native.Nat.{◌-◌}
 use native.Mathlib.Omega.{arith}
 use mathlib.Core.Path.{◌≡◌, sym, ◌∙◌}
-use lib.ListN.{length}
 use Rattle.syntax.specs.Held.Kind.{kind_of}
 use Rattle.syntax.specs.Decide.Lexeme.{mark_number, keyword_number}
 use Rattle.syntax.specs.Token.{mark}
 use Rattle.syntax.specs.Tree.{sign_mark}
 use Rattle.evaluator.specs.Promises.{sign_of}
-use Rattle.evaluator.proofs.Readings.{past_sign, sign_no_mod, Open, open_first, open_last, open_more}
+use Rattle.evaluator.proofs.Readings.{past_sign, sign_no_mod, open_first, open_last, open_more}
 use Rattle.evaluator.proofs.eval_plain.Goals as goal
 use Rattle.evaluator.proofs.eval_plain.Goals.{then-kind-eq-PLUS, else-kind-eq-PLUS+then-kind-eq-MINUS, Joined-kind-eq-PLUS}
 

@@ -1,10 +1,6 @@
 -- `evaluator::merged` meets its contract: each turn stores the number that its lane's truth chooses.
-use Prim.Native.Nat.{◌+◌, ◌-◌}
 use native.Mathlib.Omega.{arith}
-use mathlib.Core.Path.{◌≡◌}
-use mathlib.Core.Bool.{false, cond}
-use lib.ListN.{get_or}
-use Rattle.sixteen.proofs.Fill.{Filled, fill_none, fill_more, all_filled}
+use Rattle.sixteen.proofs.Fill.{fill_none, fill_more, all_filled}
 use Rattle.evaluator.proofs.merged.Goals as goal
 use Rattle.evaluator.proofs.merged.Goals.{then-on-j, else-on-j}
 

@@ -1,10 +1,8 @@
 -- `evaluator::moved` meets its contract: each turn stores the number of its lane, of which the caller shows that it
 -- fits.
-use Prim.Native.Nat.{◌+◌, ◌-◌}
 use native.Mathlib.Omega.{arith}
-use mathlib.Core.Path.{◌≡◌, refl}
-use lib.ListN.{get_or}
-use Rattle.sixteen.proofs.Fill.{Filled, fill_none, fill_more, all_filled}
+use mathlib.Core.Path.{refl}
+use Rattle.sixteen.proofs.Fill.{fill_none, fill_more, all_filled}
 use Rattle.evaluator.proofs.moved.Goals as goal
 
 pub loop-j-init : goal.loop-j-init

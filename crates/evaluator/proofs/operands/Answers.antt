@@ -1,12 +1,10 @@
 -- `evaluator::operands` meets its contract: of a slot each turn stores the value of its lane, and else all lanes have
 -- the number.
-use Prim.Native.Nat.{◌+◌, ◌*◌, ◌-◌, ◌≤◌}
-use native.Mathlib.Omega.{arith}
-use mathlib.Core.Path.{◌≡◌, sym, ◌∙◌}
-use lib.ListN.{get_or, get_or-replicate}
+use mathlib.Core.Path.{sym, ◌∙◌}
+use lib.ListN.{get_or-replicate}
 use borrow.Author.Tests.{lt-ltb, le-ltb}
 use Rattle.evaluator.specs.Promises.{operand}
-use Rattle.sixteen.proofs.Fill.{Filled, fill_none, fill_more, all_filled}
+use Rattle.sixteen.proofs.Fill.{fill_none, fill_more, all_filled}
 use Rattle.evaluator.proofs.Lanes.{lane_at}
 use Rattle.evaluator.proofs.operands.Goals as goal
 

@@ -1,11 +1,7 @@
 use Prim.Native.Nat.{◌+◌, ◌*◌, ◌-◌, ◌≤◌}
-use native.Mathlib.Omega.{arith}
-use mathlib.Core.Path.{◌≡◌, sym, ◌∙◌}
-use lib.ListN.{get_or, get_or-replicate}
-use borrow.Author.Tests.{lt-ltb, le-ltb}
-use Rattle.evaluator.specs.Promises.{operand}
-use Rattle.sixteen.proofs.Fill.{Filled, fill_none, fill_more, all_filled}
-use Rattle.evaluator.proofs.Lanes.{lane_at}
+use mathlib.Core.Path.{◌≡◌}
+use lib.ListN.{get_or}
+use Rattle.sixteen.proofs.Fill.{Filled}
 use Rattle.evaluator.proofs.operands.Given as goal
 
 abbrev pub invariant-loop-j : goal.invariant-loop-j

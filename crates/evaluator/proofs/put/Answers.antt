@@ -1,9 +1,7 @@
 -- `evaluator::put` meets its contract: each turn stores the number of its lane in the slot there, and changes no other
 -- lane.
-use Prim.Native.Nat.{◌-◌, ◌%◌}
 use native.Mathlib.Omega.{arith}
-use lib.ListN.{get_or}
-use Rattle.evaluator.proofs.Lanes.{Put, put_none, put_more}
+use Rattle.evaluator.proofs.Lanes.{put_none, put_more}
 use Rattle.evaluator.proofs.put.Goals as goal
 
 pub loop-j-preserved : goal.loop-j-preserved

@@ -1,7 +1,6 @@
 use Prim.Native.Nat.{◌-◌, ◌%◌}
-use native.Mathlib.Omega.{arith}
 use lib.ListN.{get_or}
-use Rattle.evaluator.proofs.Lanes.{Put, put_none, put_more}
+use Rattle.evaluator.proofs.Lanes.{Put}
 use Rattle.evaluator.proofs.put.Given as goal
 
 abbrev pub invariant-loop-j : goal.invariant-loop-j

@@ -1,15 +1,11 @@
 -- `lanes::first_lanes` meets its contract. The loop's invariant: the values of the states before s stand in their
 -- lanes.
-use Prim.Native.Nat.{ℕ, ◌-◌, ◌≤◌, ◌<◌}
+use Prim.Native.Nat.{ℕ, ◌<◌}
 use native.Mathlib.Omega.{arith}
 use native.Mathlib.Nat.{zero-add}
-use mathlib.Core.Path.{◌≡◌, refl, ◌∙◌}
-use mathlib.Core.List.{List}
+use mathlib.Core.Path.{refl, ◌∙◌}
 use borrow.Author.Count.{below_more}
-use lib.ListN.{length}
-use Rattle.syntax.specs.Tree.{Var}
 use Rattle.meaning.specs.State.{count}
-use Rattle.variables.specs.Bounded.{Bounded}
 use Rattle.lanes.specs.Promises.{InLane}
 use Rattle.lanes.proofs.Lane.{lane_is}
 use Rattle.lanes.proofs.first_lanes.Goals as goal

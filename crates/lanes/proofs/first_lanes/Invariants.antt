@@ -1,14 +1,11 @@
 use Prim.Native.Nat.{ℕ, ◌-◌, ◌≤◌, ◌<◌}
-use native.Mathlib.Omega.{arith}
-use native.Mathlib.Nat.{zero-add}
-use mathlib.Core.Path.{◌≡◌, refl, ◌∙◌}
+use mathlib.Core.Path.{◌≡◌}
 use mathlib.Core.List.{List}
 use lib.ListN.{length}
 use Rattle.syntax.specs.Tree.{Var}
 use Rattle.meaning.specs.State.{count}
 use Rattle.variables.specs.Bounded.{Bounded}
 use Rattle.lanes.specs.Promises.{InLane}
-use Rattle.lanes.proofs.Lane.{lane_is}
 use Rattle.lanes.proofs.first_lanes.Given as goal
 
 abbrev pub invariant-loop-s : goal.invariant-loop-s

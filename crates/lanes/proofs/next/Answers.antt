@@ -6,7 +6,7 @@ use borrow.Author.Tests.{ltb-true}
 use mathlib.Core.Bool.{◌||◌}
 use lib.Dec.{ltb}
 use Rattle.logic.proofs.Bools.{both}
-use Rattle.lanes.proofs.Carrying.{Carrying, carrying_none, ready_next, raised_next, passed_next, carried_all}
+use Rattle.lanes.proofs.Carrying.{carrying_none, ready_next, raised_next, passed_next, carried_all}
 use Rattle.lanes.proofs.next.Goals as goal
 use Rattle.lanes.proofs.next.Goals.{In-loop-k}
 

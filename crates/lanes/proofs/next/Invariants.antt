@@ -1,10 +1,4 @@
-use Prim.Native.Nat.{◌<◌}
-use native.Mathlib.Omega.{arith}
-use borrow.Author.Tests.{ltb-true}
-use mathlib.Core.Bool.{◌||◌}
-use lib.Dec.{ltb}
-use Rattle.logic.proofs.Bools.{both}
-use Rattle.lanes.proofs.Carrying.{Carrying, carrying_none, ready_next, raised_next, passed_next, carried_all}
+use Rattle.lanes.proofs.Carrying.{Carrying}
 use Rattle.lanes.proofs.next.Given as goal
 
 abbrev pub invariant-loop-k : goal.invariant-loop-k

@@ -1,7 +1,6 @@
 -- `lanes::raise` meets its contract: each turn raises the value of its lane.
-use Prim.Native.Nat.{◌-◌}
 use native.Mathlib.Omega.{arith}
-use Rattle.lanes.proofs.Rows.{Raising, raising_none, raising_more, raising_all, sum_small}
+use Rattle.lanes.proofs.Rows.{raising_none, raising_more, raising_all, sum_small}
 use Rattle.lanes.proofs.raise.Goals as goal
 
 pub loop-j-init : goal.loop-j-init

@@ -1,6 +1,5 @@
 use Prim.Native.Nat.{◌-◌}
-use native.Mathlib.Omega.{arith}
-use Rattle.lanes.proofs.Rows.{Raising, raising_none, raising_more, raising_all, sum_small}
+use Rattle.lanes.proofs.Rows.{Raising}
 use Rattle.lanes.proofs.raise.Given as goal
 
 abbrev pub invariant-loop-j : goal.invariant-loop-j
