@@ -33,10 +33,9 @@ holds_at_start c {m} {ls} f n =
 -- 8 is judged before anything is filled
 pub returns-then-not-holds_at : goal.returns-then-not-holds_at
 returns-then-not-holds_at c =
-    let t = c in
     record {
       filled = λ m ls f n l₁ l₂ l₃.
-          filled_8 m _ _ _ _ _ (holds_at_start (goal.at.returns-then-not-holds_at c).After-holds_at f n) t.if-not-holds_at.true
+          filled_8 m _ _ _ _ _ (holds_at_start (goal.at.returns-then-not-holds_at c).After-holds_at f n) c.if-not-holds_at.true
           (said c.with_choice.ensures.0 c.say.ensures);
       leaves = left_all _ _ _ _;
     }
@@ -53,24 +52,18 @@ left n kept₀ holds₀ after₀ kept holds after ends long =
 -- without tries no slice is asked for
 pub returns-then-tries-eq0 : goal.returns-then-tries-eq0
 returns-then-tries-eq0 c =
-    let g = c in
-    let t = g in
-    let h = t in
     record {
       filled = λ m ls f n l₁ l₂ l₃.
-          filled_on m _ _ _ _ _ (holds_at_start (goal.at.returns-then-tries-eq0 c).After-holds_at f n) t.if-not-holds_at.false
-          (g.fill_states.ensures.settles m ls f n l₁ l₂ l₃ (λ some. absurd (omega (arith, t.if-tries-eq0.true))));
-      leaves = left _ _ _ _ _ _ _ g.fill_states.ensures.fact.0 g.fill_states.ensures.fact.1;
+          filled_on m _ _ _ _ _ (holds_at_start (goal.at.returns-then-tries-eq0 c).After-holds_at f n) c.if-not-holds_at.false
+          (c.fill_states.ensures.settles m ls f n l₁ l₂ l₃ (λ some. absurd (omega (arith, c.if-tries-eq0.true))));
+      leaves = left _ _ _ _ _ _ _ c.fill_states.ensures.fact.0 c.fill_states.ensures.fact.1;
     }
 
 pub returns : goal.returns
 returns c =
-    let g = c in
-    let t = g in
-    let h = t in
     record {
       filled = λ m ls f n l₁ l₂ l₃.
-          filled_on m _ _ _ _ _ (holds_at_start (goal.at.returns c).After-holds_at f n) t.if-not-holds_at.false
-          (g.fill_states-2.ensures.settles m ls f n l₁ l₂ l₃ (λ some. omega arith));
-      leaves = left _ _ _ _ _ _ _ g.fill_states-2.ensures.fact.0 g.fill_states-2.ensures.fact.1;
+          filled_on m _ _ _ _ _ (holds_at_start (goal.at.returns c).After-holds_at f n) c.if-not-holds_at.false
+          (c.fill_states-2.ensures.settles m ls f n l₁ l₂ l₃ (λ some. omega arith));
+      leaves = left _ _ _ _ _ _ _ c.fill_states-2.ensures.fact.0 c.fill_states-2.ensures.fact.1;
     }
