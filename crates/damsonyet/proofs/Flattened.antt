@@ -57,7 +57,7 @@ module _ (y : code.Running) (r : Ran) (f : Flattens y r) where
             ∙ ap held_byte (get_or-replicate 16 t idle idle l) ∙ byte_is idle (λ q e. absurd (no_due e));
         turns = λ t l. turn_at _ n.turns t l ∙ get_or-replicate 16 t 0 0 l;
         notified = f.notified ∙ n.notified;
-        how_many_lem = f.how_many_lem ∙ n.how_many_lem;
+        how_many_is = f.how_many_is ∙ n.how_many_is;
       }
     where
       no_due : {q : ℕ} → ◌≡◌ {A = Place} idle (due q) → ⊥
@@ -73,7 +73,7 @@ module _ (y : code.Running) (r : Ran) (f : Flattens y r) where
         places = λ t l. byte_at _ h.places t l ∙ byte_is (get_or rec.places t idle) (low t);
         turns = λ t l. turn_at _ h.turns t l;
         notified = f.notified ∙ h.notified;
-        how_many_lem = f.how_many_lem ∙ h.how_many_lem;
+        how_many_is = f.how_many_is ∙ h.how_many_is;
       }
 
   -- a run

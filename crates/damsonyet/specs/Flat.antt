@@ -30,7 +30,7 @@ pub record Records (rec : Record) (r : Ran) : Type 0 where
   pub places : (t : ℕ) → t < 16 → get_or r.places t 0 ≡ place_byte (get_or rec.places t idle)
   pub turns : (t : ℕ) → t < 16 → get_or r.turns t 0 ≡ get_or rec.turns t 0
   pub notified : r.notified ≡ rec.notified
-  pub how_many_lem : r.how_many ≡ rec.how_many
+  pub how_many_is : r.how_many ≡ rec.how_many
 
 -- the record that stands beside a refusal: no values, all idle, every turn 0, none notified (R 16.17)
 pub record NoRecord (r : Ran) : Type 0 where
@@ -39,7 +39,7 @@ pub record NoRecord (r : Ran) : Type 0 where
   pub places : (t : ℕ) → t < 16 → get_or r.places t 0 ≡ place_byte idle
   pub turns : (t : ℕ) → t < 16 → get_or r.turns t 0 ≡ 0
   pub notified : r.notified ≡ 0
-  pub how_many_lem : r.how_many ≡ 0
+  pub how_many_is : r.how_many ≡ 0
 
 -- what a run gives, and whether its refusal is the file's (R 10.5, 16.17)
 unfoldable pub RanAs : Running → Ran → Type 0
@@ -79,5 +79,5 @@ pub record Flattens (x : code.Running) (r : Ran) : Type 0 where
   pub places : (t : ℕ) → t < 16 → get_or r.places t 0 ≡ held_byte (places_of x.record.threads t)
   pub turns : (t : ℕ) → t < 16 → get_or r.turns t 0 ≡ turns_of x.record.threads t
   pub notified : r.notified ≡ x.record.notified
-  pub how_many_lem : r.how_many ≡ x.record.how_many
+  pub how_many_is : r.how_many ≡ x.record.how_many
   pub of_file : r.of_file ≡ x.of_file

@@ -111,7 +111,7 @@ module _ (file : List ℕ) (m : Monitor) (e : check file ≡ accepted m) (seed c
   is_load c =
       record {
         by_draws = by_draws;
-        at_most_lem = loads_most (model m) loaded;
+        at_most = loads_most (model m) loaded;
         records = frame_records c;
         no_recheck = no_recheck;
         accepts = accepts c;

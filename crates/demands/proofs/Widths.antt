@@ -35,8 +35,8 @@ use Rattle.meaning.proofs.ModelLaws.{element_below}
 use Rattle.meaning.specs.Trace.{lines_of}
 use Rattle.meaning.proofs.Frames.{lines_seven}
 use Rattle.meaning.specs.Accepted.{Accepted}
-use Rattle.meaning.specs.Refusal.{Past2, Refusal, too_long, no_token, too_many, no_file, ends_early, past_limit_lem}
-use Rattle.meaning.specs.Refusal.{wrong_name, ill_ranged_lem, unvalued, start_not_kept, broken, Unvalued}
+use Rattle.meaning.specs.Refusal.{Past2, Refusal, too_long, no_token, too_many, no_file, ends_early, is_past_limit}
+use Rattle.meaning.specs.Refusal.{wrong_name, is_ill_ranged, unvalued, start_not_kept, broken, Unvalued}
 use Rattle.meaning.proofs.Verdicts.{refusal_number, accepted_iff}
 use Rattle.meaning.proofs.Sizes.{sizes_of, sizes}
 use Rattle.meaning.proofs.ModelLaws.{startable_iff}
@@ -67,9 +67,9 @@ refusal_places {file} (no_token {k = k} h s) = let p = (none_place file k ((toke
 refusal_places (too_many {k = k} p f) = (offends_place p Crowded k f, omega arith)
 refusal_places (no_file {k = k} p f) = (offends_place p.past NoFile k f, omega arith)
 refusal_places (ends_early p v n) = let short = p.past.short in (omega arith, omega arith)
-refusal_places (past_limit_lem {k = k} p f) = (offends_place p.past.past PastLimit k f, omega arith)
+refusal_places (is_past_limit {k = k} p f) = (offends_place p.past.past PastLimit k f, omega arith)
 refusal_places (wrong_name {k = k} p f) = (offends_place p.past.past.past Misnamed k f, omega arith)
-refusal_places (ill_ranged_lem p t s) =
+refusal_places (is_ill_ranged p t s) =
     (token_place p.past.past.past.past s.front s.back s.token _ s.whole s.place, omega arith)
 refusal_places (unvalued {m = m} {k = k} p f) = (offends_place p.past.past.past.past.past (Unvalued m) k f, omega arith)
 refusal_places (start_not_kept p h s) =
@@ -88,9 +88,9 @@ refusal_digits (no_token h s) = omega arith
 refusal_digits (too_many p f) = omega arith
 refusal_digits (no_file p f) = omega arith
 refusal_digits (ends_early p v n) = omega arith
-refusal_digits (past_limit_lem p f) = omega arith
+refusal_digits (is_past_limit p f) = omega arith
 refusal_digits (wrong_name p f) = omega arith
-refusal_digits (ill_ranged_lem p t s) = omega arith
+refusal_digits (is_ill_ranged p t s) = omega arith
 refusal_digits (unvalued p f) = omega arith
 refusal_digits (start_not_kept p f s) = omega arith
 refusal_digits (broken p t b) = omega arith

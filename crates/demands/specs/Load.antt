@@ -46,7 +46,7 @@ pub record IsLoad (file : List ℕ) (m : Monitor) (seed count wanted : ℕ) (fs 
   -- they are what the draws take, and nothing else is (R 17.6, 17.7, 17.8, 17.9, 17.10)
   pub by_draws : (gs : List Frame) → LoadIs m seed count wanted gs ↔ (gs ≡ fs)
   -- no more than are wanted, each with numbers that a line can hold, and none is a recheck (R 8.6, 17.6, 17.10)
-  pub at_most_lem : length fs ≤ wanted
+  pub at_most : length fs ≤ wanted
   pub records : FrameRecords fs
   pub no_recheck : (k : ℕ) → Recheck fs k → ⊥
   -- "Every trace so made is accepted by both machines" (R 17.15)

@@ -8,11 +8,11 @@ use Rattle.meaning.specs.Load.{frame_size, made_of}
 
 -- what is asked: the slices hold a checked monitor, the start is kept, the threads are 1 to 16, and the buffer has room for the
 -- frames that are wanted
-pub record MakeAsked (n wanted state : ℕ) (holds after guard_of begins goes_on_lem : List ℕ) (regions : ℕ) (out : List ℕ)
+pub record MakeAsked (n wanted state : ℕ) (holds after guard_of begins going_on : List ℕ) (regions : ℕ) (out : List ℕ)
     (m : Monitor) (kept : List ℕ) : Type 0 where
   pub count : m.regions ≡ regions
   pub held : Held m kept holds after guard_of
-  pub places : HeldPlaces m begins goes_on_lem
+  pub places : HeldPlaces m begins going_on
   pub checked : Checked m
   pub start : m.kept state ≡ true
   pub some : 0 < n

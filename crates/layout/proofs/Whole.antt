@@ -143,7 +143,7 @@ module _ (m : Monitor) (ls : List Lexeme) (l : Layout) (holds : Holds ls (flagge
   laid us keep =
       let count = count_is in
       record {
-        behind_keep_lem = us;
+        after_keep = us;
         keep_stands = keep;
         region_count = holds.count ∙ count;
         guard_count = holds.guard_count ∙ ap length found_is;

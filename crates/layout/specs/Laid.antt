@@ -31,8 +31,8 @@ pub record RegionAt (ls : List Lexeme) (r : Region) (guard_at body_at : ℕ) : T
   pub body_stands : drop body_at ls ≡ spell_block r.body ++ (mark rbrace ∷ behind_body)
 
 pub record Laid (m : Monitor) (ls : List Lexeme) (l : Layout) : Type 0 where
-  pub behind_keep_lem : List Lexeme
-  pub keep_stands : drop l.keep ls ≡ spell_cond m.keep ++ (mark semicolon ∷ behind_keep_lem)
+  pub after_keep : List Lexeme
+  pub keep_stands : drop l.keep ls ≡ spell_cond m.keep ++ (mark semicolon ∷ after_keep)
   pub region_count : l.regions ≡ length (regions m)
   pub guard_count : l.guards ≡ length (guards m)
   pub regions_stand : (r : ℕ) → r < length (regions m)

@@ -151,7 +151,7 @@ module _ (m : Monitor) {p : Threads} (l : Lined m p) (g : ℕ) where
   line_ahead t ahead behind e = record {
     exactly = λ u. (to u, from u);
     in_turn = x.0;
-    how_many_lem = sym (ap (λ (k : List ℕ). place_in k t) e
+    how_many_is = sym (ap (λ (k : List ℕ). place_in k t) e
         ∙ place_splits ahead behind t (once_before ahead behind t (subst Once e line_once)));
   }
     where

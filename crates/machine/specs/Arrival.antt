@@ -103,7 +103,7 @@ module _ (m : Monitor) where
     pub exactly : (u : ℕ) → (has us u ≡ true) ↔ (Waits m p g u × (turn p u < turn p t))
     pub in_turn : Rising (turn p) us
     -- "k others ahead on its guard": as many as stand ahead of it in the line
-    pub how_many_lem : length us ≡ place_in (line m p g) t
+    pub how_many_is : length us ≡ place_in (line m p g) t
 
 module _ (m : Monitor) (notices : Notices) where
   -- the rules lead from one point to another, and on the way the threads of a list resume on guard g, in its order, and

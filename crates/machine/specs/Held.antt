@@ -27,9 +27,9 @@ pub record Held (m : Monitor) (kept holds after guard_of : List ℕ) : Type 0 wh
   pub by_guard : (r : ℕ) → r < m.regions → get_or guard_of r 0 ≡ m.guard_of r
 
 -- which regions begin a method, and which have another behind them in it
-pub record HeldPlaces (m : Monitor) (begins goes_on_lem : List ℕ) : Type 0 where
+pub record HeldPlaces (m : Monitor) (begins going_on : List ℕ) : Type 0 where
   pub by_begins : (r : ℕ) → r < m.regions → get_or begins r 0 ≡ bit (m.begins r)
-  pub by_follows : (r : ℕ) → r < m.regions → m.follows r ≡ follows_by r (get_or goes_on_lem r 0)
+  pub by_follows : (r : ℕ) → r < m.regions → m.follows r ≡ follows_by r (get_or going_on r 0)
 
 -- for each region a set of guards such that its body leaves every guard outside the set as it was
 unfoldable pub HeldTouched : Monitor → List ℕ → Type 0

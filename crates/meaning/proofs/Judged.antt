@@ -16,7 +16,7 @@ use Rattle.meaning.specs.Refusal.{FirstBroken, FirstIllRanged, Unvalued}
 -- the verdicts of a tree, by its tokens
 pub data Judged (ts : List Token) (m : Monitor) : Verdict → Type 0 where
   sound : Sound m → Judged ts m (accepted m)
-  ill_ranged_lem : {i : ℕ} → FirstIllRanged (all m.vars) i
+  is_ill_ranged : {i : ℕ} → FirstIllRanged (all m.vars) i
       → Judged ts m (refused (answer 7 (get_or (places_of k_var ts) i 0) 0))
   unvalued :
       {k : ℕ} → GoodRanges (all m.vars) → count (all m.vars) ≤ 4096 → FirstOffends (Unvalued m) ts k

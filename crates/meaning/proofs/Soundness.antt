@@ -28,7 +28,7 @@ use Rattle.meaning.proofs.RangeLaws.{ill_ranged_first, ill_ranged_good, good_or_
 use Rattle.meaning.specs.Refusal.{FirstBroken}
 use Rattle.meaning.proofs.Searching.{NoneBelow, passes_at, Quiet, FirstIn, quiet_or_first, none_where, some_where}
 use Rattle.meaning.proofs.Unvalued.{unvalued_first, unvalued_none}
-use Rattle.meaning.proofs.Judged.{Judged, sound, ill_ranged_lem, start_not_kept}
+use Rattle.meaning.proofs.Judged.{Judged, sound, is_ill_ranged, start_not_kept}
 use Rattle.meaning.proofs.Judged as judged
 
 -- 9, by values
@@ -154,7 +154,7 @@ module _ (ts : List Token) (m : Monitor) (spelt : lexemes ts ≡ spell m) where
       ((unvalued_none m s.ranges ts spelt).1 s.valued) s.start
       (none_where (vars m) (breaks (vars m) (kept_at m)) (regions_of (all m.methods))
       (λ j q e. quiet_keeps m s.ranges q (λ as'. s.keeps j q as' e)))
-  says_judged (ill_ranged_lem {i} t) = says_7 (get_or (places_of k_var ts) i 0) (ill_ranged_first (places_of k_var ts) t)
+  says_judged (is_ill_ranged {i} t) = says_7 (get_or (places_of k_var ts) i 0) (ill_ranged_first (places_of k_var ts) t)
   says_judged (judged.unvalued {k} good few f) =
       says_15 (ill_ranged_good (places_of k_var ts) good few) k ((unvalued_first m good ts spelt k).1 f)
   says_judged (start_not_kept good few valued f) =
@@ -197,7 +197,7 @@ module _ (ts : List Token) (m : Monitor) (spelt : lexemes ts ≡ spell m) where
   grounds : Grounds
   grounds =
       ⊎_elim (λ g. by_values g.1 g.2)
-      (λ t. (refused (answer 7 (get_or (places_of k_var ts) t.0 0) 0), ill_ranged_lem t.2))
+      (λ t. (refused (answer 7 (get_or (places_of k_var ts) t.0 0) 0), is_ill_ranged t.2))
       (good_or_ill (vars m) (places_of k_var ts))
 
   pub check_meaning_iff : (v : Verdict) → (check_meaning ts m ≡ v) ↔ Judged ts m v
@@ -205,7 +205,7 @@ module _ (ts : List Token) (m : Monitor) (spelt : lexemes ts ≡ spell m) where
 
   sound_of : {v : Verdict} (m' : Monitor) → Judged ts m v → v ≡ accepted m' → (m ≡ m') × Sound m
   sound_of m' (sound s) e = (cc, s)
-  sound_of m' (ill_ranged_lem t) e = different (cc)
+  sound_of m' (is_ill_ranged t) e = different (cc)
   sound_of m' (judged.unvalued good few f) e = different (cc)
   sound_of m' (start_not_kept good few valued f) e = different (cc)
   sound_of m' (judged.broken good few valued t b) e = different (cc)

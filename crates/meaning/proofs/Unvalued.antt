@@ -14,7 +14,7 @@ use Rattle.syntax.specs.Token.{Lexeme, name, key, number, mark, lbrace, rbrace, 
 use Rattle.syntax.specs.Token.{becomes, minus, bang, and_and, or_or, k_monitor, k_keep, k_method, k_try}
 use Rattle.syntax.specs.Token.{k_waituntil, k_if, k_else, k_true, k_false, k_mod, Token, lexemes}
 use Rattle.syntax.specs.Decide.Lexeme.{is_key, is_mark, keyword_number, mark_number}
-use Rattle.syntax.specs.Decide.Reading.{got, begins, rest}
+use Rattle.syntax.specs.Decide.Reading.{got, rest}
 use Rattle.syntax.specs.Decide.Reading.{read_atom}
 use Rattle.syntax.specs.Tree.{Int, plain, negated, Atom, literal, variable, Sign, added, taken, Term, alone, remainder}
 use Rattle.syntax.specs.Tree.{Signed, Expr, Comparison, eq, ne, lt, le, gt, ge, Cond, only, or, Conj, just, and, Simple}

@@ -40,7 +40,7 @@ use Rattle.meaning.proofs.Soundness.{check_meaning_iff}
 use Rattle.meaning.proofs.Unvalued.{unvalued_first, unvalued_none}
 use Rattle.meaning.specs.Accepted.{Accepted}
 use Rattle.meaning.specs.Refusal.{Past2, Past3, Past4, Past5, Past6, Past7, Past15, Refusal, broken, ends_early}
-use Rattle.meaning.specs.Refusal.{ill_ranged_lem, no_file, no_token, past_limit_lem, start_not_kept, too_long, too_many}
+use Rattle.meaning.specs.Refusal.{is_ill_ranged, no_file, no_token, is_past_limit, start_not_kept, too_long, too_many}
 use Rattle.meaning.specs.Refusal.{wrong_name, unvalued}
 use Rattle.meaning.specs.Before.{up_to}
 
@@ -51,9 +51,9 @@ refusal_number (no_token h s) = omega arith
 refusal_number (too_many p f) = omega arith
 refusal_number (no_file p f) = omega arith
 refusal_number (ends_early p v n) = omega arith
-refusal_number (past_limit_lem p f) = omega arith
+refusal_number (is_past_limit p f) = omega arith
 refusal_number (wrong_name p f) = omega arith
-refusal_number (ill_ranged_lem p t s) = omega arith
+refusal_number (is_ill_ranged p t s) = omega arith
 refusal_number (unvalued p f) = omega arith
 refusal_number (start_not_kept p f s) = omega arith
 refusal_number (broken p t b) = omega arith
@@ -206,7 +206,7 @@ module _ {file : List ℕ} {ts : List Token} {m : Monitor} (p : Past6 file ts m)
         names = p.names;
         sound = s;
       }
-  of_judged (judged.ill_ranged_lem t) = ill_ranged_lem p t (var_at t)
+  of_judged (judged.is_ill_ranged t) = is_ill_ranged p t (var_at t)
   of_judged (judged.unvalued good few f) = unvalued (past_7 good few) f
   of_judged (judged.start_not_kept good few valued f) =
       start_not_kept (record { past = past_7 good few; valued = valued }) f (keep_place ts m spelt)
@@ -245,10 +245,10 @@ says file (refused a) r = refusal r
     refusal (too_many {k = k} p f) = says_3 k p f
     refusal (no_file {k = k} p f) = says_no_file p k f
     refusal (ends_early p v n) = says_early p v n
-    refusal (past_limit_lem {k = k} p f) = says_5 k p f
+    refusal (is_past_limit {k = k} p f) = says_5 k p f
     refusal (wrong_name {k = k} p f) = says_6 k p f
-    refusal (ill_ranged_lem p t s) =
-        says_judged p (judged.ill_ranged_lem t) ∙ ap {B = Verdict} (λ j. refused (answer 7 j 0)) (one_place (var_at p t) s)
+    refusal (is_ill_ranged p t s) =
+        says_judged p (judged.is_ill_ranged t) ∙ ap {B = Verdict} (λ j. refused (answer 7 j 0)) (one_place (var_at p t) s)
     refusal (unvalued p f) = says_judged p.past (judged.unvalued p.ranges p.few f)
     refusal (start_not_kept {ts} {m} p f s) =
         let q = p.past in
@@ -267,7 +267,7 @@ past_15_late {ts = ts} {m = m} p {a} e =
   where
     go : {v : Verdict} → Judged ts m v → v ≡ refused a → (a.number ≡ 8) ⊎ (a.number ≡ 9)
     go (sound s) h = different (cc)
-    go (judged.ill_ranged_lem t) h =
+    go (judged.is_ill_ranged t) h =
         let none_is = ill_ranged_good (places_of k_var ts) p.past.ranges p.past.few in
         let some_is = ill_ranged_first (places_of k_var ts) t in
         different (cc)
@@ -290,7 +290,7 @@ past_8_late {ts = ts} {m = m} p on {a} e =
 
     go : {v : Verdict} → Judged ts m v → v ≡ refused a → a.number ≡ 9
     go (sound s) h = different (cc)
-    go (judged.ill_ranged_lem {i} t) h = late (inl (cc))
+    go (judged.is_ill_ranged {i} t) h = late (inl (cc))
     go (judged.unvalued good few f) h = late (inr (cc))
     go (judged.start_not_kept good few valued f) h = clash on f
     go (judged.broken good few valued t b) h = cc
@@ -324,7 +324,7 @@ module _ (file : List ℕ) where
       )
 
       limit : (o : Option ℕ) → past_limit 0 0 0 0 ts ≡ o → Grounds
-      limit (some k) e = (refused (answer 5 k 0), past_limit_lem p ((past_first ts k).0 e))
+      limit (some k) e = (refused (answer 5 k 0), is_past_limit p ((past_first ts k).0 e))
       limit none e = name (misnamed (number 0) [] [] ts) refl (record { past = p; counts = (past_none ts).0 e })
 
   by_tokens : (ts : List Token) → Past2 file ts → Grounds

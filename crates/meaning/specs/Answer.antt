@@ -1,6 +1,5 @@
 -- Answers, and the verdict of a file ("The refusals").
 use Rattle.std.specs.Prelude.{ℕ}
-use Rattle.syntax.specs.Token.{number}
 use Rattle.syntax.specs.Tree.{Monitor}
 
 -- "An answer is the number (0 for accepted) and two places, 0 where unused" (R 10.1, 10.2, 10.4)

@@ -7,7 +7,7 @@ use Rattle.machine.specs.Rules.{Notices, PlainNotices, TableNotices}
 use Rattle.machine.specs.Decide.Table.{entry_of}
 use Rattle.meaning.specs.State.{count, state_at}
 use Rattle.meaning.specs.Kept.{kept_at}
-use Rattle.meaning.specs.Answer.{Answer, answer}
+use Rattle.meaning.specs.Answer.{Answer}
 use Rattle.meaning.specs.Bits.{each_from, bits, ones}
 use Rattle.meaning.specs.Model.{vars, model}
 

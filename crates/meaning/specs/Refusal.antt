@@ -110,13 +110,13 @@ pub data Refusal (file : List ℕ) : Answer → Type 0 where
       {ts : List Token} → Past3 file ts → Viable (lexemes ts) → (InGrammar (lexemes ts) → ⊥)
       → Refusal file (answer 4 (length file) 0)
   -- "first `var` past 6, `method` past 8 or `waituntil` past 16", "first `try` past sixteen" (R 6.18)
-  past_limit_lem : {ts : List Token} {m : Monitor} {k : ℕ} → Past4 file ts m → FirstOffends PastLimit ts k
+  is_past_limit : {ts : List Token} {m : Monitor} {k : ℕ} → Past4 file ts m → FirstOffends PastLimit ts k
       → Refusal file (answer 5 k 0)
   -- "first word that declares a variable or method twice among its kind, or uses a variable not declared" (R 6.19)
   wrong_name : {ts : List Token} {m : Monitor} {k : ℕ} → Past5 file ts m → FirstOffends Misnamed ts k
       → Refusal file (answer 6 k 0)
   -- "byte of `var`": the token behind the variables before the first ill-ranged one (R 6.26)
-  ill_ranged_lem :
+  is_ill_ranged :
       {ts : List Token} {m : Monitor} {i k : ℕ} → Past6 file ts m → (t : FirstIllRanged (all m.vars) i)
       → KeywordAt ts (up_to m t.before) k_var k → Refusal file (answer 7 k 0)
   -- "the byte of the first `mod` in keep, a try or a guard that has no value in some state of the ranges" (R 6.36)

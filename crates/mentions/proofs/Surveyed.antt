@@ -78,7 +78,7 @@ module _ {m : Monitor} {ls : List Lexeme} {kinds values : List ℕ} {n : ℕ} {l
       → Touches l.guards n r.guards (get_or assigned q 0) (get_or r.touched q 0)) where
     pub mentioned : Mentioned m r
     mentioned = record {
-      keep = condition_covers m.keep l.keep r.keep known.laid.behind_keep_lem known.laid.keep_stands keep;
+      keep = condition_covers m.keep l.keep r.keep known.laid.after_keep known.laid.keep_stands keep;
       guards = λ g h. covers (vars m) known.few_vars _ _ (guard_slots r.guards named g h);
       tries = λ i h. try_covers i (get_or r.tries i 0) h
           (tries i (omega (arith, known.tries_laid.count)) (omega (arith, known.few_tries)));

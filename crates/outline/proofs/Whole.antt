@@ -182,8 +182,8 @@ module _ {file : List ℕ} {ts : List Token} {kinds values places : List ℕ} {b
         each_try = try_at_lem;
         each_method = method_at;
         each_region = region_at;
-        no_variable_lem = λ k h. made.each_variable.behind k (omega (arith, bounded.counted));
+        no_more_variables = λ k h. made.each_variable.behind k (omega (arith, bounded.counted));
         no_try = λ k h. made.each_try.behind k (omega (arith, tries_are));
-        no_method_lem = λ k h. made.each_method.behind k (omega (arith, methods_are));
-        no_region_lem = λ k h. made.each_region.behind k (omega (arith, laid.region_count));
+        no_more_methods = λ k h. made.each_method.behind k (omega (arith, methods_are));
+        no_more_regions = λ k h. made.each_region.behind k (omega (arith, laid.region_count));
       }

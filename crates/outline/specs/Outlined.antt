@@ -79,10 +79,10 @@ module _ (ts : List Token) (m : Monitor) where
         (after : List Region) → all m.methods ≡ methods ++ (x ∷ later) → all x.regions ≡ before ++ (q ∷ after)
         → RegionIs methods x before q (get_or r.region (length (regions_of methods) + length before) no_region)
     -- the slots behind them are empty (R 16.3)
-    pub no_variable_lem : (k : ℕ) → length (all m.vars) ≤ k → get_or r.variable k no_variable ≡ no_variable
+    pub no_more_variables : (k : ℕ) → length (all m.vars) ≤ k → get_or r.variable k no_variable ≡ no_variable
     pub no_try : (k : ℕ) → length m.tries ≤ k → get_or r.tried k no_span ≡ no_span
-    pub no_method_lem : (k : ℕ) → length (all m.methods) ≤ k → get_or r.method k no_method ≡ no_method
-    pub no_region_lem : (k : ℕ) → length (model.regions m) ≤ k → get_or r.region k no_region ≡ no_region
+    pub no_more_methods : (k : ℕ) → length (all m.methods) ≤ k → get_or r.method k no_method ≡ no_method
+    pub no_more_regions : (k : ℕ) → length (model.regions m) ≤ k → get_or r.region k no_region ≡ no_region
 
 -- of a file that is refused otherwise than with 8 or 9: nothing (R 16.2)
 pub record NoOutline (r : Outline) : Type 0 where

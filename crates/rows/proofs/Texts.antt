@@ -41,12 +41,12 @@ module _ {m : Monitor} {ls : List Lexeme} {kinds values : List ℕ} {b : Bounds}
   keeping =
       record {
         ls = ls;
-        us = mark semicolon ∷ f.laid.behind_keep_lem;
+        us = mark semicolon ∷ f.laid.after_keep;
         codes = f.codes;
         bounded = f.bounded;
         few = f.few;
         spelled = f.laid.keep_stands;
-        ends = ends_kept f.laid.behind_keep_lem;
+        ends = ends_kept f.laid.after_keep;
         covers = named.keep;
       }
 

@@ -120,7 +120,7 @@ recorded m w c end vs vars_held set many own s l small counted values sized =
       places = places_shown end.threads c l s.threads;
       turns = turns_shown end.threads c l s.threads s.turns;
       notified = same.0;
-      how_many_lem = sized ∙ size_ones 16 set small ∙ same.1;
+      how_many_is = sized ∙ size_ones 16 set small ∙ same.1;
     }
 
 -- ---- the start of a run

@@ -19,7 +19,7 @@ pub record Records (rec : calls.Record) (r : code.Record) : Type 0 where
   pub places : map (λ t. place_of t.place) r.threads ≡ rec.places
   pub turns : map (λ t. t.turn) r.threads ≡ rec.turns
   pub notified : r.notified ≡ rec.notified
-  pub how_many_lem : r.how_many ≡ rec.how_many
+  pub how_many_is : r.how_many ≡ rec.how_many
 
 -- the record that stands beside a refusal: no values, all idle, every turn 0, none notified
 pub record NoRecord (r : code.Record) : Type 0 where
@@ -28,7 +28,7 @@ pub record NoRecord (r : code.Record) : Type 0 where
   pub places : map (λ t. place_of t.place) r.threads ≡ replicate 16 machine.idle
   pub turns : map (λ t. t.turn) r.threads ≡ replicate 16 0
   pub notified : r.notified ≡ 0
-  pub how_many_lem : r.how_many ≡ 0
+  pub how_many_is : r.how_many ≡ 0
 
 unfoldable pub Runs : calls.Running → Running → Type 0
 Runs (ran rec) r = Says r.answer (answer 0 0 0) × Records rec r.record × (r.of_file ≡ false)

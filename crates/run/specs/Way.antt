@@ -14,11 +14,11 @@ use Rattle.run.specs.declared.frames.Going.{Going}
 use Rattle.run.specs.declared.frames.Passed.{Passed}
 
 -- what is asked of the slices: they hold a checked monitor with its table, the start is kept, and the bytes are frames
-pub record Asked (bytes : List ℕ) (state : ℕ) (holds after guard_of begins goes_on_lem entries : List ℕ) (regions : ℕ)
+pub record Asked (bytes : List ℕ) (state : ℕ) (holds after guard_of begins going_on entries : List ℕ) (regions : ℕ)
     (m : Monitor) (kept : List ℕ) (fs : List Frame) : Type 0 where
   pub count : m.regions ≡ regions
   pub held : Held m kept holds after guard_of
-  pub places : HeldPlaces m begins goes_on_lem
+  pub places : HeldPlaces m begins going_on
   pub table : HeldEntries m entries
   pub checked : Checked m
   pub start : m.kept state ≡ true

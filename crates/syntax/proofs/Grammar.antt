@@ -199,14 +199,14 @@ signed_front t us = go t.sign
     go taken = refl
 
 -- what goes on with an expression: a sign, or `mod`
-goes_on_lem : Lexeme → Bool
-goes_on_lem l = is_sign l || is_key k_mod l
+going_on : Lexeme → Bool
+going_on l = is_sign l || is_key k_mod l
 
 abbrev no_more : Follow
-no_more us = begins goes_on_lem us ≡ false
+no_more us = begins going_on us ≡ false
 
 neither_follows : (us : List Lexeme) → no_more us → (begins is_sign us ≡ false) × no_mod us
-unfolding begins goes_on_lem
+unfolding begins going_on
 neither_follows [] h = (refl, refl)
 neither_follows (l ∷ us) h = neither (is_sign l) (is_key k_mod l) h
 
@@ -243,8 +243,8 @@ comparisons = spelled
       | ge ↦ (inr (inr (inr (inr (inr tt)))), refl)
     ])
 
-comparison_no_more : (o : Comparison) → goes_on_lem (mark (comparison_mark o)) ≡ false
-unfolding goes_on_lem is_sign is_mark is_key comparison_mark mark_number
+comparison_no_more : (o : Comparison) → going_on (mark (comparison_mark o)) ≡ false
+unfolding going_on is_sign is_mark is_key comparison_mark mark_number
 comparison_no_more = elim [ eq ↦ refl | ne ↦ refl | lt ↦ refl | le ↦ refl | gt ↦ refl | ge ↦ refl ]
 
 -- an expression begins with a name, a number or a minus
@@ -284,7 +284,7 @@ true_spellable : AllSpellable (key k_true ∷ [])
 true_spellable = (key_spellable k_true, tt)
 
 mutual
-  unfolding read_cond read_conj read_simple spell_cond spell_conj spell_simple spell_constant begins is_mark is_key mark_number keyword_number goes_on_lem is_sign
+  unfolding read_cond read_conj read_simple spell_cond spell_conj spell_simple spell_constant begins is_mark is_key mark_number keyword_number going_on is_sign
 
   conds : (k n : ℕ) → 3 * n + 1 ≤ k → Phrase (of spell_cond) after_cond n (read_cond k) (read_cond (suc k))
   conds zero n h = absurd (omega arith)
@@ -382,7 +382,7 @@ if_spellable = (
 )
 
 mutual
-  unfolding read_block read_stmt spell_block spell_stmt begins is_mark is_key mark_number keyword_number goes_on_lem is_sign
+  unfolding read_block read_stmt spell_block spell_stmt begins is_mark is_key mark_number keyword_number going_on is_sign
 
   blocks : (k n : ℕ) → 3 * n + 1 ≤ k → Phrase (of spell_block) at_brace n (read_block k) (read_block (suc k))
   blocks zero n h = absurd (omega arith)
@@ -419,7 +419,7 @@ mutual
 -- Regions, methods, variables and the file
 
 regions : (k n : ℕ) → 3 * n + 1 ≤ k → {F : Follow} → Phrase (of spell_region) F n (read_region k) (read_region (suc k))
-unfolding read_region spell_region begins is_mark is_key mark_number goes_on_lem is_sign
+unfolding read_region spell_region begins is_mark is_key mark_number going_on is_sign
 regions k n h = spelled
     (skips (the_key k_waituntil)
     (skips (the_mark lparen) (meets (conds k n h) (λ c. skips (the_mark rparen) (skips (the_mark lbrace)
@@ -436,7 +436,7 @@ methods k n h = spelled
     exact (λ m. ((m.title, (m.regions, tt)), refl))
 
 tries : (k n : ℕ) → 3 * n + 1 ≤ k → {F : Follow} → Phrase (of spell_try) F n (read_try k) (read_try (suc k))
-unfolding read_try spell_try begins is_mark is_key mark_number goes_on_lem is_sign
+unfolding read_try spell_try begins is_mark is_key mark_number going_on is_sign
 tries k n h = spelled
     (skips (the_key k_try) (meets (conds k n h) (λ c. skips (the_mark semicolon) (gives c))
     (λ _ _ _ _. (refl, refl, refl))))
@@ -483,7 +483,7 @@ ends = record {
     still (some a) (l ∷ ls) (x ∷ xs) f e = cc
 
 monitors : (k n : ℕ) → 3 * n + 1 ≤ k → Phrase (of spell) at_end_lem n (read_monitor k) (read_monitor (suc k))
-unfolding read_monitor spell spell_var spell_try spell_method begins is_key is_mark keyword_number mark_number goes_on_lem is_sign each
+unfolding read_monitor spell spell_var spell_try spell_method begins is_key is_mark keyword_number mark_number going_on is_sign each
 monitors k n h = spelled
     (skips (the_key k_monitor) (thens names λ x. skips (the_mark lbrace)
     (meets (somes spell_var (is_key k_var) (λ _ _. refl) k n (omega arith) vars) (λ vs. skips (the_key k_keep)

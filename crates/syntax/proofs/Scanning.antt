@@ -19,8 +19,7 @@ use Rattle.syntax.specs.Token.{Mark, Keyword, Lexeme, name, key, number, mark, T
 use Rattle.syntax.specs.Decide.Scan.{word_of, Scan, nothing, found, at_most, mark_of, scan, Tokens, tokens, none_at}
 use Rattle.syntax.specs.Decide.Scan.{prepend, tokens_from, tokenize}
 use Rattle.syntax.specs.Spelling.{Every, Run, Word, Digits, Listed, TokenShape, Spells, Longest, BeginsNone}
-use Rattle.syntax.specs.Spelling.{no_token, long_word, long_number, Cover, NoTokenAt, a_mark, a_number, a_word}
-use Rattle.syntax.specs.Spelling.{done, here, marked, named, reserved, skip, token, valued}
+use Rattle.syntax.specs.Spelling.{no_token, long_word, long_number, Cover, NoTokenAt}
 use Rattle.logic.proofs.Bools.{split, clash, both, either, neither}
 
 -- the places of tokens rise, from a first that they may have

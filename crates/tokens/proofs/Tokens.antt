@@ -254,7 +254,7 @@ module _ (file kinds₀ values₀ places₀ kinds values places : List ℕ) (n a
           answer = sym (in_bounds file short ∙ ap scanned_as whole ∙ ap scanned.Tokens h.count);
           coded = λ ts _ q. let same : h.held ≡ ts = cc in rw same at h.coded;
           written = n;
-          how_many_lem = refl;
+          how_many_is = refl;
           kept = h.kept;
         }
 
@@ -267,7 +267,7 @@ module _ (file kinds₀ values₀ places₀ kinds values places : List ℕ) (n a
           answer = sym (in_bounds file short ∙ ap scanned_as whole);
           coded = λ ts _ q. let z : ◌≡◌ {A = ℕ} 0 1 = cc in absurd (omega arith);
           written = n;
-          how_many_lem = omega (arith, h.behind);
+          how_many_is = omega (arith, h.behind);
           kept = h.kept;
         }
 
@@ -280,6 +280,6 @@ scans_long file kinds values places h =
       answer = sym long;
       coded = λ ts q _. let z : ◌≡◌ {A = ℕ} 0 1 = cc in absurd (omega arith);
       written = 0;
-      how_many_lem = refl;
+      how_many_is = refl;
       kept = same 0;
     }

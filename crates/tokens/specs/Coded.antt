@@ -73,5 +73,5 @@ pub record Scans (file : List ℕ) (r : Scanned) (kinds₀ values₀ places₀ k
   pub coded : (ts : List Token) → scanned_of file ≡ scanned.Tokens (length ts) → tokenize file ≡ tokens ts
       → Coded ts kinds values places
   pub written : ℕ
-  pub how_many_lem : TokensWritten r written
+  pub how_many_is : TokensWritten r written
   pub kept : SameBehind written kinds₀ values₀ places₀ kinds values places

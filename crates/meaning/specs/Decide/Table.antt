@@ -1,12 +1,9 @@
 -- The table's bytes, computed. `proofs/TableLines` shows that they are the lines of the entries that stand, in order.
 use Rattle.std.specs.Prelude.{ℕ, zero, suc, ◌+◌, List, [], ◌∷◌, ◌++◌}
-use Rattle.std.proofs.Math.Option.{none}
-use Rattle.syntax.specs.Tree.{Monitor}
 use Rattle.machine.specs.Monitor as machine
 use Rattle.machine.specs.Algorithm1.{Entry, entry}
 use Rattle.machine.specs.Decide.Table.{entry_of}
 use Rattle.machine.specs.Algorithm1 as table
-use Rattle.meaning.specs.Model.{guards, regions}
 use Rattle.meaning.specs.Hex.{hex2, hex_bool}
 
 -- "region, guard, 01 unconditional or 00 conditional, 01 broadcast or 00 signal, two digits each"

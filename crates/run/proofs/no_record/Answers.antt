@@ -19,5 +19,5 @@ returns c = record {
   places = refl;
   turns = refl;
   notified = refl;
-  how_many_lem = refl;
+  how_many_is = refl;
 }

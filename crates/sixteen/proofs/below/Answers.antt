@@ -1,11 +1,7 @@
 -- `sixteen::below` meets its contract: each turn stores the test of its lane.
-use Prim.Native.Nat.{◌-◌}
-use native.Mathlib.Omega.{arith}
-use mathlib.Core.Path.{◌≡◌, refl}
+use mathlib.Core.Path.{refl}
 use mathlib.Core.Bool.{false}
-use lib.ListN.{get_or}
-use lib.Dec.{ltb}
-use Rattle.sixteen.proofs.Fill.{Filled, fill_none, fill_more, all_filled}
+use Rattle.sixteen.proofs.Fill.{fill_none, fill_more, all_filled}
 use Rattle.sixteen.proofs.below.Goals as goal
 
 pub loop-j-init : goal.loop-j-init

@@ -1,10 +1,9 @@
 use Prim.Native.Nat.{◌-◌}
-use native.Mathlib.Omega.{arith}
-use mathlib.Core.Path.{◌≡◌, refl}
+use mathlib.Core.Path.{◌≡◌}
 use mathlib.Core.Bool.{false}
 use lib.ListN.{get_or}
 use lib.Dec.{ltb}
-use Rattle.sixteen.proofs.Fill.{Filled, fill_none, fill_more, all_filled}
+use Rattle.sixteen.proofs.Fill.{Filled}
 use Rattle.sixteen.proofs.below.Given as goal
 
 abbrev pub invariant-loop-j : goal.invariant-loop-j

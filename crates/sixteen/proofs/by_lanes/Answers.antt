@@ -1,11 +1,7 @@
 -- `sixteen::by_lanes` meets its contract: each turn stores the remainder of its lane, and what lacks is where the divisor is
 -- not above 0.
-use Prim.Native.Nat.{◌-◌}
-use native.Mathlib.Omega.{arith}
-use mathlib.Core.Path.{◌≡◌}
-use lib.ListN.{get_or, get_or-replicate}
-use Rattle.sixteen.specs.Rest.{remainder_of}
-use Rattle.sixteen.proofs.Fill.{Filled, fill_none, fill_more, all_filled}
+use lib.ListN.{get_or-replicate}
+use Rattle.sixteen.proofs.Fill.{fill_none, fill_more, all_filled}
 use Rattle.sixteen.proofs.by_lanes.Goals as goal
 
 pub loop-j-preserved : goal.loop-j-preserved

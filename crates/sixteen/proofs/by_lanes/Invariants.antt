@@ -1,9 +1,8 @@
 use Prim.Native.Nat.{◌-◌}
-use native.Mathlib.Omega.{arith}
 use mathlib.Core.Path.{◌≡◌}
-use lib.ListN.{get_or, get_or-replicate}
+use lib.ListN.{get_or}
 use Rattle.sixteen.specs.Rest.{remainder_of}
-use Rattle.sixteen.proofs.Fill.{Filled, fill_none, fill_more, all_filled}
+use Rattle.sixteen.proofs.Fill.{Filled}
 use Rattle.sixteen.proofs.by_lanes.Given as goal
 
 abbrev pub invariant-loop-j : goal.invariant-loop-j

@@ -1,12 +1,6 @@
 -- `sixteen::by_large` meets its contract: each turn stores the remainder of its lane, by a comparison.
-use Prim.Native.Nat.{◌-◌, ◌%◌}
-use native.Mathlib.Omega.{arith}
-use mathlib.Core.Path.{◌≡◌}
-use mathlib.Core.Logic.{⊎_elim}
-use lib.ListN.{get_or}
 use borrow.Author.Tests.{lt-ltb, le-ltb}
-use Rattle.sixteen.specs.Rest.{rest}
-use Rattle.sixteen.proofs.Fill.{Filled, fill_none, fill_more, all_filled}
+use Rattle.sixteen.proofs.Fill.{fill_none, fill_more, all_filled}
 use Rattle.sixteen.proofs.Division.{large}
 use Rattle.sixteen.proofs.by_large.Goals as goal
 use Rattle.sixteen.proofs.by_large.Goals.{then-x-lt128, else-x-lt128}

@@ -1,12 +1,8 @@
 use Prim.Native.Nat.{◌-◌, ◌%◌}
-use native.Mathlib.Omega.{arith}
 use mathlib.Core.Path.{◌≡◌}
-use mathlib.Core.Logic.{⊎_elim}
 use lib.ListN.{get_or}
-use borrow.Author.Tests.{lt-ltb, le-ltb}
 use Rattle.sixteen.specs.Rest.{rest}
-use Rattle.sixteen.proofs.Fill.{Filled, fill_none, fill_more, all_filled}
-use Rattle.sixteen.proofs.Division.{large}
+use Rattle.sixteen.proofs.Fill.{Filled}
 use Rattle.sixteen.proofs.by_large.Given as goal
 
 abbrev pub invariant-loop-j : goal.invariant-loop-j

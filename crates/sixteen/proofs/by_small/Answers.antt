@@ -1,11 +1,9 @@
 -- `sixteen::by_small` meets its contract: each turn stores the remainder of its lane, by a multiplication.
-use Prim.Native.Nat.{◌-◌, ◌%◌}
 use native.Mathlib.Omega.{arith}
 use native.Mathlib.Nat.{div-le_self}
-use mathlib.Core.Path.{◌≡◌, refl}
-use lib.ListN.{get_or}
+use mathlib.Core.Path.{refl}
 use Rattle.sixteen.specs.Rest.{rest}
-use Rattle.sixteen.proofs.Fill.{Filled, fill_none, fill_more, all_filled}
+use Rattle.sixteen.proofs.Fill.{fill_none, fill_more, all_filled}
 use Rattle.sixteen.proofs.Division.{mod_most}
 use Rattle.sixteen.proofs.by_small.Goals as goal
 

@@ -1,11 +1,8 @@
 use Prim.Native.Nat.{◌-◌, ◌%◌}
-use native.Mathlib.Omega.{arith}
-use native.Mathlib.Nat.{div-le_self}
-use mathlib.Core.Path.{◌≡◌, refl}
+use mathlib.Core.Path.{◌≡◌}
 use lib.ListN.{get_or}
 use Rattle.sixteen.specs.Rest.{rest}
-use Rattle.sixteen.proofs.Fill.{Filled, fill_none, fill_more, all_filled}
-use Rattle.sixteen.proofs.Division.{mod_most}
+use Rattle.sixteen.proofs.Fill.{Filled}
 use Rattle.sixteen.proofs.by_small.Given as goal
 
 abbrev pub invariant-loop-j : goal.invariant-loop-j

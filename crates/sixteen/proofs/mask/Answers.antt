@@ -1,9 +1,7 @@
 -- `sixteen::mask` meets its contract: each turn adds its lane to the set where it is true.
-use Prim.Native.Nat.{◌-◌}
 use native.Mathlib.Omega.{arith}
-use mathlib.Core.Logic.{⊎_elim}
 use borrow.Author.Tests.{lt-ltb}
-use Rattle.sixteen.proofs.Fill.{Gathered, gather_none, gather_true, gather_false}
+use Rattle.sixteen.proofs.Fill.{gather_none, gather_true, gather_false}
 use Rattle.sixteen.proofs.mask.Goals as goal
 use Rattle.sixteen.proofs.mask.Goals.{then-lanes-j, else-lanes-j}
 

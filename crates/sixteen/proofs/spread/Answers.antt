@@ -1,10 +1,6 @@
 -- `sixteen::spread` meets its contract: each turn stores whether its lane is a member.
-use Prim.Native.Nat.{◌-◌}
-use native.Mathlib.Omega.{arith}
-use mathlib.Core.Path.{◌≡◌}
 use mathlib.Core.Bool.{false}
-use Rattle.sets.specs.Set.{member}
-use Rattle.sixteen.proofs.Fill.{Filled, fill_none, fill_more, all_filled}
+use Rattle.sixteen.proofs.Fill.{fill_none, fill_more, all_filled}
 use Rattle.sixteen.proofs.spread.Goals as goal
 
 pub loop-j-preserved : goal.loop-j-preserved

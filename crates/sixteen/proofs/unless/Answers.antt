@@ -1,10 +1,7 @@
 -- `sixteen::unless` meets its contract: each turn stores the truth of its lane.
-use Prim.Native.Nat.{◌-◌}
-use native.Mathlib.Omega.{arith}
-use mathlib.Core.Path.{◌≡◌, refl}
-use mathlib.Core.Bool.{false, not, ◌&&◌}
-use lib.ListN.{get_or}
-use Rattle.sixteen.proofs.Fill.{Filled, fill_none, fill_more, all_filled}
+use mathlib.Core.Path.{refl}
+use mathlib.Core.Bool.{false}
+use Rattle.sixteen.proofs.Fill.{fill_none, fill_more, all_filled}
 use Rattle.sixteen.proofs.unless.Goals as goal
 
 pub loop-j-init : goal.loop-j-init
