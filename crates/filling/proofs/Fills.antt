@@ -45,11 +45,6 @@ pub said : {a b : Answer} {n k i : ℕ} → a ≡ b → (b.number ≡ n) × (b.f
 said {n = n} {k} {i} e t =
     subst (λ (x : Answer). (x.number ≡ n) × (x.first ≡ k) × (x.second ≡ i)) (sym e) t
 
--- a test that fails
-pub failed : {b : Bool} → not b ≡ false → b ≡ true
-failed {b = true} h = refl
-failed {b = false} h = clash refl h
-
 -- the answer for refusal 9, read backwards
 stopped : (o : Option (ℕ × ℕ)) {x : Broken} {k n : ℕ} → BrokenAs x o → x ≡ At k n → o ≡ some (k, n)
 unfolding BrokenAs

@@ -32,28 +32,23 @@ slice_bounds-put_rows-end c = sym (whole (goal.at.slice_bounds-put_rows-end c).A
 
 pub put_rows-requires : goal.put_rows-requires
 put_rows-requires c =
-    let turn = c in
     let n = near (goal.at.put_rows-requires c).In-loop-s in
     let w = whole (goal.at.put_rows-requires c).After-shifts_from in
-    let start = turn in
-    omega (arith, turn.loop-s.invariant.2, start.if-after-lt-AFTER.false, start.if-count-gt-REGIONS.false)
+    omega (arith, c.loop-s.invariant.2, c.if-after-lt-AFTER.false, c.if-count-gt-REGIONS.false)
 
 pub loop-s-preserved : goal.loop-s-preserved
 loop-s-preserved c =
-    let put = c in
-    let ran = put in
-    let turn = ran in
-    let i = turn.loop-s in
+    let i = c.loop-s in
     let next = c.next-next in
     let n = near (goal.at.loop-s-preserved c).In-loop-s in (
       omega arith,
       omega arith,
-      put.put_rows.auto.after ∙ i.invariant.2,
+      c.put_rows.auto.after ∙ i.invariant.2,
       whole (goal.at.loop-s-preserved c).After-shifts_from,
       λ m f.
           let sofar = i.invariant.4 m f in
           sofar_more f next.result.values next.result.changed sofar
-          (ran.shifts_from.ensures m f sofar.values sofar.served) put.put_rows.ensures
+          (c.shifts_from.ensures m f sofar.values sofar.served) c.put_rows.ensures
           (next.ensures.sixteen (vars m) i.s f.bounded sofar.values) next.ensures.by_index,
     )
 

@@ -13,13 +13,12 @@ loop-j-init c = (omega arith, stretch_none _)
 
 pub loop-j-preserved : goal.loop-j-preserved
 loop-j-preserved c =
-    let g = c in
-    let to = g.numbers-to.result in
-    let s = g.args.s + g.loop-j.j in
-    let long = g.loop-j.invariant.1.long in (
+    let to = c.numbers-to.result in
+    let s = c.args.s + c.loop-j.j in
+    let long = c.loop-j.invariant.1.long in (
       omega arith,
-      stretch_more c.shift_of.result g.loop-j.invariant.1 (omega arith)
-          (subst (λ b. ShiftOf b (get_or to g.loop-j.j 0) s c.shift_of.result) c.has.ensures
+      stretch_more c.shift_of.result c.loop-j.invariant.1 (omega arith)
+          (subst (λ b. ShiftOf b (get_or to c.loop-j.j 0) s c.shift_of.result) c.has.ensures
           c.shift_of.ensures),
     )
 

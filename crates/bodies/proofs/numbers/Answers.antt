@@ -17,19 +17,17 @@ loop-k-init c = (omega arith, omega arith, λ j l. get_or-replicate {A = ℕ} 16
 
 pub returns-then-bounds-k : goal.returns-then-bounds-k
 returns-then-bounds-k c j l =
-    let g = c in
-    let a = g.args in
+    let a = c.args in
     number_from a.bounds (lane a.lanes.now j)
-    (λ _. g.loop-k.invariant.2 j l ∙ ap (number_in wrapped _ _ _) (omega (arith, c.if-bounds-k.true, g.loop-k.invariant.1)))
+    (λ _. c.loop-k.invariant.2 j l ∙ ap (number_in wrapped _ _ _) (omega (arith, c.if-bounds-k.true, c.loop-k.invariant.1)))
 
 pub with_shares-more-requires : goal.with_shares-more-requires
 with_shares-more-requires c = let i = c.loop-k in omega arith
 
 pub loop-k-preserved : goal.loop-k-preserved
 loop-k-preserved c =
-    let g = c in
-    let a = g.args in
-    let k = g.loop-k.k in
+    let a = c.args in
+    let k = c.loop-k.k in
     let low = get_or a.bounds.lows k 0 in
     let weight = get_or a.bounds.weights k 0 in
     let inside = c.if-bounds-k.false in (
@@ -37,14 +35,13 @@ loop-k-preserved c =
       omega arith,
       λ j l.
           c.with_shares-more.ensures j l
-          ∙ ap₂ (λ (x y : ℕ). wrapped (x + share wrapped y low weight)) (g.loop-k.invariant.2 j l)
+          ∙ ap₂ (λ (x y : ℕ). wrapped (x + share wrapped y low weight)) (c.loop-k.invariant.2 j l)
           (sym (lane_at a.lanes.now j k (omega arith)))
           ∙ sym (number_more wrapped a.bounds.lows a.bounds.weights (lane a.lanes.now j) k),
     )
 
 pub returns : goal.returns
 returns c j l =
-    let g = c in
-    let a = g.args in
+    let a = c.args in
     number_from a.bounds (lane a.lanes.now j)
-    (λ few. g.loop-k.invariant.2 j l ∙ ap (number_in wrapped _ _ _) (omega (arith, few, c.loop-k-test.false, g.loop-k.invariant.1)))
+    (λ few. c.loop-k.invariant.2 j l ∙ ap (number_in wrapped _ _ _) (omega (arith, few, c.loop-k-test.false, c.loop-k.invariant.1)))

@@ -9,9 +9,8 @@ loop-r-init c = (omega arith, refl, rows_none _ _ _)
 
 pub loop-r-preserved : goal.loop-r-preserved
 loop-r-preserved c =
-    let g = c in
     let row = c.put_row in
-    (omega arith, row.auto.after ∙ g.loop-r.invariant.1, rows_more (omega arith) g.loop-r.invariant.2 row.ensures)
+    (omega arith, row.auto.after ∙ c.loop-r.invariant.1, rows_more (omega arith) c.loop-r.invariant.2 row.ensures)
 
 pub returns : goal.returns
 returns c =

@@ -8,11 +8,10 @@ use Rattle.bodies.proofs.run_from.Goals as goal
 pub returns : goal.returns
 unfolding outcome
 returns c =
-    let done = c in
-    let ran = done.run_body-ran in
+    let ran = c.run_body-ran in
     stretch_map (λ j x l h. record {
       tells = λ vs q b low v.
           h.tells vs q b.bounded low
           (ran.ensures vs (state_at vs _) b.ls b.us q.body j l b.codes v b.bounded.ranges b.spelled
           (omega (arith, b.few)));
-    }) done.note.ensures
+    }) c.note.ensures

@@ -38,9 +38,8 @@ turn : (c : At) →
     g.loop-r.shifts c.if-anew.shifts 16
 unfolding AllServe
 turn c =
-    let g = c in
-    let a = g.args in
-    let r = g.loop-r.r in
+    let a = c.args in
+    let r = c.loop-r.r in
     elim c.if-anew.branch [
       | then-anew w ↦ rw w.shifts-is (stretch_map
           {Right = Ran a.kinds.now a.values.now a.bounds a.lanes w.wide-at.result a.s}
@@ -51,7 +50,7 @@ turn c =
         long = refl;
         here = λ j l m given low.
             let still = c.anew.ensures w.if-anew.false in
-            rw (g.loop-r.invariant.2 (r * 16 + j) (omega arith))
+            rw (c.loop-r.invariant.2 (r * 16 + j) (omega arith))
             ((given.2 (omega (arith, eqb-false, still.0)) r (omega (arith, given.0.counted)) still.1).each j l low);
         before = λ i h. refl;
         behind = λ i h. refl;

@@ -8,10 +8,9 @@ use Rattle.bodies.proofs.with_shares.Goals as goal
 
 pub loop-j-preserved : goal.loop-j-preserved
 loop-j-preserved c =
-    let g = c in
-    fill_more c.plus.result g.loop-j.invariant c.loop-j-test.true
+    fill_more c.plus.result c.loop-j.invariant c.loop-j-test.true
     (c.plus.ensures
-    ∙ ap (λ (x : ℕ). wrapped (get_or g.args.sums g.loop-j.j 0 + x)) c.share_of-share.ensures)
+    ∙ ap (λ (x : ℕ). wrapped (get_or c.args.sums c.loop-j.j 0 + x)) c.share_of-share.ensures)
 
 pub loop-j-init : goal.loop-j-init
 loop-j-init = λ c. fill_none 0

@@ -13,15 +13,13 @@ returns-then-here-ne1 c =
 
 pub returns-then-not-has : goal.returns-then-not-has
 returns-then-not-has c =
-    let h = c in
-    let a = h.args in
-    let off : member a.held a.guard ≡ false = sym h.has.ensures ∙ c.if-not-has.true in
-    rw (eq-eqb a.here 1 h.if-here-ne1.false, off) (sym (and-false (fails_by a.kept.now a.to)))
+    let a = c.args in
+    let off : member a.held a.guard ≡ false = sym c.has.ensures ∙ c.if-not-has.true in
+    rw (eq-eqb a.here 1 c.if-here-ne1.false, off) (sym (and-false (fails_by a.kept.now a.to)))
 
 pub returns : goal.returns
 returns c =
-    let h = c in
-    let a = h.args in
-    let on : member a.held a.guard ≡ true = sym h.has.ensures ∙ c.if-not-has.false in
-    rw (eq-eqb a.here 1 h.if-here-ne1.false, on)
+    let a = c.args in
+    let on : member a.held a.guard ≡ true = sym c.has.ensures ∙ c.if-not-has.false in
+    rw (eq-eqb a.here 1 c.if-here-ne1.false, on)
     (c.fails.ensures ∙ sym (and-true (fails_by a.kept.now a.to)))

@@ -31,22 +31,20 @@ at_row c s h =
 
 pub returns-then-s-states : goal.returns-then-s-states
 returns-then-s-states c m b counted small numbers l₁ l₂ l₃ k h o =
-    let f = c in
-    let i = f.loop-r in
-    let low : f.first_in_row-s.result < count (vars m) = omega (arith, b.states) in
-    stops m _ o _ _ _ b.good b.few_states k h numbers i.r f.first_in_row-s.result (omega arith) low
-    (at_row (goal.at.returns-then-s-states c).After-first_in_row-s _ (omega (arith, b.few_states)) ∙ f.first_in_row-s.ensures.passes c.if-s-states.true)
-    (λ s l. at_row (goal.at.returns-then-s-states c).After-first_in_row-s s (omega (arith, b.few_states)) ∙ f.first_in_row-s.ensures.lower s l)
+    let i = c.loop-r in
+    let low : c.first_in_row-s.result < count (vars m) = omega (arith, b.states) in
+    stops m _ o _ _ _ b.good b.few_states k h numbers i.r c.first_in_row-s.result (omega arith) low
+    (at_row (goal.at.returns-then-s-states c).After-first_in_row-s _ (omega (arith, b.few_states)) ∙ c.first_in_row-s.ensures.passes c.if-s-states.true)
+    (λ s l. at_row (goal.at.returns-then-s-states c).After-first_in_row-s s (omega (arith, b.few_states)) ∙ c.first_in_row-s.ensures.lower s l)
     (λ j l s below. i.invariant.1 j l s (omega (arith, b.states)) (omega (arith, b.few_states)))
 
 pub loop-r-preserved : goal.loop-r-preserved
 loop-r-preserved c =
-    let f = c in
-    let i = f.loop-r in
-    let a = f.args in (
+    let i = c.loop-r in
+    let a = c.args in (
       omega arith,
       passed (Quiet a.kept.now a.holds.now a.after.now a.guard_of a.bounds.states) i.r i.invariant.1
-          (λ s below h. at_row (goal.at.loop-r-preserved c).After-first_in_row-s s h ∙ f.first_in_row-s.ensures.lower s (omega arith)),
+          (λ s below h. at_row (goal.at.loop-r-preserved c).After-first_in_row-s s h ∙ c.first_in_row-s.ensures.lower s (omega arith)),
     )
 
 pub returns : goal.returns

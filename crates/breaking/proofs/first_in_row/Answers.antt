@@ -22,8 +22,7 @@ asked c = sym c.breaks_at.ensures
 
 pub returns-then-breaks_at : goal.returns-then-breaks_at
 returns-then-breaks_at c =
-    let b = c in
-    let i = b.loop-s in
+    let i = c.loop-s in
     record {
       within = omega arith;
       passes = λ _. asked (goal.at.returns-then-breaks_at c).After-breaks_at ∙ c.if-breaks_at.true;
@@ -32,8 +31,7 @@ returns-then-breaks_at c =
 
 pub loop-s-preserved : goal.loop-s-preserved
 loop-s-preserved c =
-    let b = c in
-    let i = b.loop-s in (
+    let i = c.loop-s in (
       omega arith,
       passed (λ k. _ ≡ false) i.s i.invariant.1 (asked (goal.at.loop-s-preserved c).After-breaks_at ∙ c.if-breaks_at.false),
     )

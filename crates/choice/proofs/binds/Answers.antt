@@ -37,10 +37,8 @@ returns-then-to-ge-STATE_END c =
 
 pub returns : goal.returns
 returns c =
-    let e = c in
-    let k = e in
     let a = c.args in
     c.has.ensures ∙ ap (λ (x : ℕ). member x a.guard) c.number_at-2.ensures
     ∙ sym (bound a.keep.now a.holds.now a.tried.now a.guard a.set a.s a.to
-    (sym (missing (goal.at.returns c).After-misses) ∙ k.if-misses.false)
-    (eq-eqb _ 1 (sym k.byte_at.ensures ∙ k.if-byte_at-ne1.false)) (lt-ltb a.to 4096 e.if-to-ge-STATE_END.false))
+    (sym (missing (goal.at.returns c).After-misses) ∙ c.if-misses.false)
+    (eq-eqb _ 1 (sym c.byte_at.ensures ∙ c.if-byte_at-ne1.false)) (lt-ltb a.to 4096 c.if-to-ge-STATE_END.false))

@@ -22,22 +22,20 @@ returns-then-tries-gt-TRIES c m held = absurd (omega (arith, held.few_tries))
 
 pub loop-k-init : goal.loop-k-init
 loop-k-init c =
-    let e = c in
-    let a = e.args in (
+    let a = c.args in (
       omega arith,
-      omega (arith, e.undropped-choice.ensures.0),
-      λ m held. stage_first m held e.below.result e.undropped-choice.result
-          (λ u low. e.below.ensures u low
-          ∙ ap (λ (x : ℕ). member x u && ltb u a.tries) e.number_at.ensures) e.undropped-choice.ensures.1,
+      omega (arith, c.undropped-choice.ensures.0),
+      λ m held. stage_first m held c.below.result c.undropped-choice.result
+          (λ u low. c.below.ensures u low
+          ∙ ap (λ (x : ℕ). member x u && ltb u a.tries) c.number_at.ensures) c.undropped-choice.ensures.1,
     )
 
 pub returns-then-next-set : goal.returns-then-next-set
 returns-then-next-set c m held =
-    let d = c in
-    let i = d.loop-k in
+    let i = c.loop-k in
     let t = i.invariant.2 m held in
     stage_last m i.k i.choice
-    (stage_still m held i.k i.choice d.drop_pass-next.result (omega (arith, held.tries_counted)) t _ refl d.drop_pass-next.ensures c.if-next-set.true)
+    (stage_still m held i.k i.choice c.drop_pass-next.result (omega (arith, held.tries_counted)) t _ refl c.drop_pass-next.ensures c.if-next-set.true)
     i.invariant.1 (omega (arith, held.tries_counted)) t
 
 pub loop-k-preserved : goal.loop-k-preserved
@@ -45,10 +43,9 @@ loop-k-preserved c = (
   omega arith,
   omega arith,
   λ m held.
-      let d = c in
-      let i = d.loop-k in
-      stage_next m held i.k i.choice d.drop_pass-next.result (omega (arith, held.tries_counted)) (i.invariant.2 m held) _ refl
-      d.drop_pass-next.ensures,
+      let i = c.loop-k in
+      stage_next m held i.k i.choice c.drop_pass-next.result (omega (arith, held.tries_counted)) (i.invariant.2 m held) _ refl
+      c.drop_pass-next.ensures,
 )
 
 pub returns : goal.returns

@@ -39,8 +39,7 @@ here_done c =
 
 pub loop-i-preserved : goal.loop-i-preserved
 loop-i-preserved c =
-    let h = c in
-    let i = h.loop-i in
+    let i = c.loop-i in
     let others = others_stay (goal.at.loop-i-preserved c).Joined-has in (
       omega arith,
       λ u low. split_eq u i.i (λ (e : u ≡ i.i). rw e (here_done (goal.at.loop-i-preserved c).Joined-has))

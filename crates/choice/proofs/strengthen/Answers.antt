@@ -54,9 +54,8 @@ others c u n =
 pub loop-s-preserved : goal.loop-s-preserved
 unfolding bit
 loop-s-preserved c =
-    let m = c in
-    let i = m.loop-s in
-    let a = m.args in (
+    let i = c.loop-s in
+    let a = c.args in (
       omega arith,
       elim c.if-misses.branch [
         | then-misses w ↦ rw w.kept-is (simp length-set i.invariant.1)

@@ -7,20 +7,13 @@ use Rattle.evaluator.proofs.assign_mod.Goals as goal
 
 pub store-stored-requires : goal.store-stored-requires
 store-stored-requires c =
-    let sum = c in
-    let start = sum in
     record {
-      vars_len = start.requires.vars_len;
-      near = near_more sum.eval_expr-sum.ensures.near (omega (arith, sum.eval_expr-sum.ensures, start.requires.placed));
+      vars_len = c.requires.vars_len;
+      near = near_more c.eval_expr-sum.ensures.near (omega (arith, c.eval_expr-sum.ensures, c.requires.placed));
     }
 
 pub returns : goal.returns
 returns c =
-    let store = c in
-    let value = store in
-    let sum = value in
-    let third = sum in
-    let start = third in
-    stmt_assign start.requires.fact start.requires.at_in_bounds third.after-second.ensures third.after-third.ensures
-    sum.eval_expr-sum.ensures value.after-next.ensures value.value_at-assigned.ensures store.store-stored.ensures
+    stmt_assign c.requires.fact c.requires.at_in_bounds c.after-second.ensures c.after-third.ensures
+    c.eval_expr-sum.ensures c.after-next.ensures c.value_at-assigned.ensures c.store-stored.ensures
     c.faulted-ok.ensures

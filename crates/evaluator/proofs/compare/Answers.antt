@@ -20,60 +20,51 @@ returns-then-kind-eq-ABOVE c = λ j l. simp (
 pub returns-then-kind-eq-AT_MOST : goal.returns-then-kind-eq-AT_MOST
 unfolding test_of kind_of mark_number keyword_number
 returns-then-kind-eq-AT_MOST c = λ j l.
-    let at = c in
     simp (
       c.other.ensures j l,
       c.below-then-kind-eq-AT_MOST.ensures j l,
-      ne_eqb _ _ at.if-kind-eq-BELOW.false,
-      ne_eqb _ _ at.if-kind-eq-ABOVE.false,
-      eq-eqb _ _ at.if-kind-eq-AT_MOST.true,
+      ne_eqb _ _ c.if-kind-eq-BELOW.false,
+      ne_eqb _ _ c.if-kind-eq-ABOVE.false,
+      eq-eqb _ _ c.if-kind-eq-AT_MOST.true,
     )
 
 pub returns-then-kind-eq-AT_LEAST : goal.returns-then-kind-eq-AT_LEAST
 unfolding test_of kind_of mark_number keyword_number
 returns-then-kind-eq-AT_LEAST c = λ j l.
-    let at = c in
-    let past = at in
     simp (
       c.other-then-kind-eq-AT_LEAST.ensures j l,
       c.below-then-kind-eq-AT_LEAST.ensures j l,
-      ne_eqb _ _ past.if-kind-eq-BELOW.false,
-      ne_eqb _ _ past.if-kind-eq-ABOVE.false,
-      ne_eqb _ _ past.if-kind-eq-AT_MOST.false,
-      eq-eqb _ _ at.if-kind-eq-AT_LEAST.true,
+      ne_eqb _ _ c.if-kind-eq-BELOW.false,
+      ne_eqb _ _ c.if-kind-eq-ABOVE.false,
+      ne_eqb _ _ c.if-kind-eq-AT_MOST.false,
+      eq-eqb _ _ c.if-kind-eq-AT_LEAST.true,
     )
 
 pub returns-then-kind-eq-DIFFERS : goal.returns-then-kind-eq-DIFFERS
 unfolding test_of kind_of mark_number keyword_number
 returns-then-kind-eq-DIFFERS c = λ j l.
-    let differ = c in
-    let at = differ in
-    let past = at in
     simp (
-      differ.union-differ.ensures j l,
-      differ.below-3.ensures j l,
-      differ.below-2.ensures j l,
-      ne_eqb _ _ past.if-kind-eq-BELOW.false,
-      ne_eqb _ _ past.if-kind-eq-ABOVE.false,
-      ne_eqb _ _ past.if-kind-eq-AT_MOST.false,
-      ne_eqb _ _ at.if-kind-eq-AT_LEAST.false,
+      c.union-differ.ensures j l,
+      c.below-3.ensures j l,
+      c.below-2.ensures j l,
+      ne_eqb _ _ c.if-kind-eq-BELOW.false,
+      ne_eqb _ _ c.if-kind-eq-ABOVE.false,
+      ne_eqb _ _ c.if-kind-eq-AT_MOST.false,
+      ne_eqb _ _ c.if-kind-eq-AT_LEAST.false,
       eq-eqb _ _ c.if-kind-eq-DIFFERS.true,
     )
 
 pub returns : goal.returns
 unfolding test_of kind_of mark_number keyword_number
 returns c = λ j l.
-    let differ = c in
-    let at = differ in
-    let past = at in
     simp (
       c.other-2.ensures j l,
-      differ.union-differ.ensures j l,
-      differ.below-3.ensures j l,
-      differ.below-2.ensures j l,
-      ne_eqb _ _ past.if-kind-eq-BELOW.false,
-      ne_eqb _ _ past.if-kind-eq-ABOVE.false,
-      ne_eqb _ _ past.if-kind-eq-AT_MOST.false,
-      ne_eqb _ _ at.if-kind-eq-AT_LEAST.false,
+      c.union-differ.ensures j l,
+      c.below-3.ensures j l,
+      c.below-2.ensures j l,
+      ne_eqb _ _ c.if-kind-eq-BELOW.false,
+      ne_eqb _ _ c.if-kind-eq-ABOVE.false,
+      ne_eqb _ _ c.if-kind-eq-AT_MOST.false,
+      ne_eqb _ _ c.if-kind-eq-AT_LEAST.false,
       ne_eqb _ _ c.if-kind-eq-DIFFERS.false,
     )

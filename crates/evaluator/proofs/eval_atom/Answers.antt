@@ -7,42 +7,32 @@ use Rattle.evaluator.proofs.eval_atom.Goals as goal
 
 pub moved-requires : goal.moved-requires
 moved-requires c =
-    let one = c in
-    let start = one in
-    let parts = one.read_atom-atom.ensures.parts in
-    joined_fits (near_more start.requires.near (omega (arith, start.requires.placed)))
-    (one.operands-one.ensures.small parts.plus_small) parts.minus_small true
+    let parts = c.read_atom-atom.ensures.parts in
+    joined_fits (near_more c.requires.near (omega (arith, c.requires.placed)))
+    (c.operands-one.ensures.small parts.plus_small) parts.minus_small true
 
 pub returns-then-taken : goal.returns-then-taken
 returns-then-taken c =
-    let kind = c in
-    let one = kind in
-    let start = one in
     record {
-      kind = kind.kind_at-kind.ensures;
+      kind = c.kind_at-kind.ensures;
       alone = λ no_mod.
-          term_alone 0 one.read_atom-atom.ensures start.requires.near (omega (arith, start.requires.placed))
-          (λ e. no_mod (kind.kind_at-kind.ensures ∙ e)) one.operands-one.ensures
+          term_alone 0 c.read_atom-atom.ensures c.requires.near (omega (arith, c.requires.placed))
+          (λ e. no_mod (c.kind_at-kind.ensures ∙ e)) c.operands-one.ensures
           (joined_is true c.if-taken.true c.moved.ensures);
     }
 
 pub moved-requires-2 : goal.moved-requires-2
 moved-requires-2 c =
-    let one = c in
-    let start = one in
-    let parts = one.read_atom-atom.ensures.parts in
-    joined_fits (near_more start.requires.near (omega (arith, start.requires.placed)))
-    (one.operands-one.ensures.small parts.plus_small) parts.minus_small false
+    let parts = c.read_atom-atom.ensures.parts in
+    joined_fits (near_more c.requires.near (omega (arith, c.requires.placed)))
+    (c.operands-one.ensures.small parts.plus_small) parts.minus_small false
 
 pub returns : goal.returns
 returns c =
-    let kind = c in
-    let one = kind in
-    let start = one in
     record {
-      kind = kind.kind_at-kind.ensures;
+      kind = c.kind_at-kind.ensures;
       alone = λ no_mod.
-          term_alone 0 one.read_atom-atom.ensures start.requires.near (omega (arith, start.requires.placed))
-          (λ e. no_mod (kind.kind_at-kind.ensures ∙ e)) one.operands-one.ensures
+          term_alone 0 c.read_atom-atom.ensures c.requires.near (omega (arith, c.requires.placed))
+          (λ e. no_mod (c.kind_at-kind.ensures ∙ e)) c.operands-one.ensures
           (joined_is false c.if-taken.false c.moved-2.ensures);
     }

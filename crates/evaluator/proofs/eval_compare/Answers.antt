@@ -12,18 +12,14 @@ after-next-requires c = (c.eval_plain-one.ensures.alone c.if-kind-eq-KEY_MOD.fal
 
 pub eval_plain-two-requires : goal.eval_plain-two-requires
 eval_plain-two-requires c =
-    let start = c in
-    record { within = c.after-next.ensures.to; short = start.requires.short }
+    record { within = c.after-next.ensures.to; short = c.requires.short }
 
 pub returns : goal.returns
 unfolding kind_of mark_number keyword_number
 returns c =
-    let other = c in
-    let two = other in
-    let next = two in
-    let one = next.eval_plain-one.ensures in
-    compare_reads (one.alone next.if-kind-eq-KEY_MOD.false) one.kind next.after-next.ensures
-    (two.eval_plain-two.ensures.alone other.if-two-eq-KEY_MOD.false) c.compare-holds.ensures (λ u. rw (member_none u))
+    let one = c.eval_plain-one.ensures in
+    compare_reads (one.alone c.if-kind-eq-KEY_MOD.false) one.kind c.after-next.ensures
+    (c.eval_plain-two.ensures.alone c.if-two-eq-KEY_MOD.false) c.compare-holds.ensures (λ u. rw (member_none u))
 
 pub returns-then-kind-eq-KEY_MOD : goal.returns-then-kind-eq-KEY_MOD
 returns-then-kind-eq-KEY_MOD = λ c. c.compare_mod-with.ensures

@@ -20,10 +20,9 @@ eval_term-sum-requires c =
 pub returns-else-kind-eq-MINUS : goal.returns-else-kind-eq-MINUS
 unfolding kind_of mark_number keyword_number
 returns-else-kind-eq-MINUS c =
-    let kind = c in
-    open_last kind.loop-lacks.invariant kind.eval_term-sum.ensures
-    (λ e. c.if-kind-eq-PLUS.false (kind.kind_at-kind.ensures ∙ e))
-    (λ e. c.if-kind-eq-MINUS.false (kind.kind_at-kind.ensures ∙ e))
+    open_last c.loop-lacks.invariant c.eval_term-sum.ensures
+    (λ e. c.if-kind-eq-PLUS.false (c.kind_at-kind.ensures ∙ e))
+    (λ e. c.if-kind-eq-MINUS.false (c.kind_at-kind.ensures ∙ e))
 
 -- the sign behind a term
 sign : (c : Joined-kind-eq-PLUS)
@@ -39,18 +38,15 @@ sign c =
 
 pub loop-lacks-smaller : goal.loop-lacks-smaller
 loop-lacks-smaller c =
-    let joined = c in
     omega (
       arith,
-      past_sign (sign_of joined.if-kind-eq-PLUS.taken) c.after-place.ensures (sign (goal.at.loop-lacks-smaller c).Joined-kind-eq-PLUS),
-      joined.eval_term-sum.ensures,
+      past_sign (sign_of c.if-kind-eq-PLUS.taken) c.after-place.ensures (sign (goal.at.loop-lacks-smaller c).Joined-kind-eq-PLUS),
+      c.eval_term-sum.ensures,
     )
 
 pub loop-lacks-preserved : goal.loop-lacks-preserved
 loop-lacks-preserved c =
-    let joined = c in
-    let term = joined in
-    open_more term.loop-lacks.invariant term.eval_term-sum.ensures joined.if-kind-eq-PLUS.taken (sign (goal.at.loop-lacks-preserved c).Joined-kind-eq-PLUS)
+    open_more c.loop-lacks.invariant c.eval_term-sum.ensures c.if-kind-eq-PLUS.taken (sign (goal.at.loop-lacks-preserved c).Joined-kind-eq-PLUS)
     c.after-place.ensures
 
 pub loop-lacks-init : goal.loop-lacks-init

@@ -19,12 +19,11 @@ eval_atom-sum-requires c =
 pub returns-else-kind-eq-MINUS : goal.returns-else-kind-eq-MINUS
 unfolding kind_of mark_number keyword_number
 returns-else-kind-eq-MINUS c =
-    let sum = c in
-    let atom = sum.eval_atom-sum.ensures in
+    let atom = c.eval_atom-sum.ensures in
     record {
       kind = atom.kind;
       alone = λ no_mod.
-          open_last sum.loop-taken.invariant (atom.alone no_mod) (λ e. c.if-kind-eq-PLUS.false (atom.kind ∙ e))
+          open_last c.loop-taken.invariant (atom.alone no_mod) (λ e. c.if-kind-eq-PLUS.false (atom.kind ∙ e))
           (λ e. c.if-kind-eq-MINUS.false (atom.kind ∙ e));
     }
 
@@ -39,26 +38,22 @@ sign c = elim c.if-kind-eq-PLUS.branch [
 
 pub after-place-requires : goal.after-place-requires
 after-place-requires c =
-    let joined = c in
-    (joined.eval_atom-sum.ensures.alone (sign_no_mod (sign_of joined.if-kind-eq-PLUS.taken) (sign (goal.at.after-place-requires c).Joined-kind-eq-PLUS))).to
+    (c.eval_atom-sum.ensures.alone (sign_no_mod (sign_of c.if-kind-eq-PLUS.taken) (sign (goal.at.after-place-requires c).Joined-kind-eq-PLUS))).to
 
 pub loop-taken-smaller : goal.loop-taken-smaller
 loop-taken-smaller c =
-    let joined = c in
-    let atom = joined.eval_atom-sum.ensures in
+    let atom = c.eval_atom-sum.ensures in
     omega (
       arith,
-      past_sign (sign_of joined.if-kind-eq-PLUS.taken) c.after-place.ensures (sym atom.kind ∙ sign (goal.at.loop-taken-smaller c).Joined-kind-eq-PLUS),
-      atom.alone (sign_no_mod (sign_of joined.if-kind-eq-PLUS.taken) (sign (goal.at.loop-taken-smaller c).Joined-kind-eq-PLUS)),
+      past_sign (sign_of c.if-kind-eq-PLUS.taken) c.after-place.ensures (sym atom.kind ∙ sign (goal.at.loop-taken-smaller c).Joined-kind-eq-PLUS),
+      atom.alone (sign_no_mod (sign_of c.if-kind-eq-PLUS.taken) (sign (goal.at.loop-taken-smaller c).Joined-kind-eq-PLUS)),
     )
 
 pub loop-taken-preserved : goal.loop-taken-preserved
 loop-taken-preserved c =
-    let joined = c in
-    let sum = joined in
-    let atom = sum.eval_atom-sum.ensures in
-    open_more sum.loop-taken.invariant (atom.alone (sign_no_mod (sign_of joined.if-kind-eq-PLUS.taken) (sign (goal.at.loop-taken-preserved c).Joined-kind-eq-PLUS)))
-    joined.if-kind-eq-PLUS.taken (sym atom.kind ∙ sign (goal.at.loop-taken-preserved c).Joined-kind-eq-PLUS) c.after-place.ensures
+    let atom = c.eval_atom-sum.ensures in
+    open_more c.loop-taken.invariant (atom.alone (sign_no_mod (sign_of c.if-kind-eq-PLUS.taken) (sign (goal.at.loop-taken-preserved c).Joined-kind-eq-PLUS)))
+    c.if-kind-eq-PLUS.taken (sym atom.kind ∙ sign (goal.at.loop-taken-preserved c).Joined-kind-eq-PLUS) c.after-place.ensures
 
 pub loop-taken-init : goal.loop-taken-init
 loop-taken-init = λ c. open_first c.requires.within

@@ -24,6 +24,5 @@ returns-then-kinds-at c = λ vs as' ls us t j l codes biased e ends short.
 pub returns : goal.returns
 unfolding truth
 returns c = λ vs as' ls us t j l codes biased e ends short.
-    let cond = c in
-    let value = (cond.eval_cond-cond.ensures.reads j l vs as' ls us t codes biased e (condition_ends us ends)).0 in
+    let value = (c.eval_cond-cond.ensures.reads j l vs as' ls us t codes biased e (condition_ends us ends)).0 in
     rw (c.minus.ensures j, c.mask.ensures j l, value) (sym (is_true_lem _ _))

@@ -8,24 +8,21 @@ use Rattle.evaluator.proofs.read_atom.Goals as goal
 
 pub returns-then-kind-eq-NAME : goal.returns-then-kind-eq-NAME
 returns-then-kind-eq-NAME c =
-    let next = c in
-    atom_name (sym next.kind_at-kind.ensures ∙ c.if-kind-eq-NAME.true) next.after-next.ensures
+    atom_name (sym c.kind_at-kind.ensures ∙ c.if-kind-eq-NAME.true) c.after-next.ensures
     c.value_at-slot.ensures
 
 pub returns-then-kind-eq-MINUS : goal.returns-then-kind-eq-MINUS
 unfolding kind_of mark_number keyword_number
 returns-then-kind-eq-MINUS c =
     let minus = c.value_at-minus in
-    let next = c in
-    atom_minus (sym next.kind_at-kind.ensures ∙ c.if-kind-eq-MINUS.true) next.after-next.ensures
+    atom_minus (sym c.kind_at-kind.ensures ∙ c.if-kind-eq-MINUS.true) c.after-next.ensures
     c.after.ensures
     (omega (arith, minus.type_inv)) minus.ensures
 
 pub returns : goal.returns
 unfolding kind_of mark_number keyword_number
 returns c =
-    let next = c in
-    let kind = next.kind_at-kind.ensures in
+    let kind = c.kind_at-kind.ensures in
     atom_number (λ e. c.if-kind-eq-NAME.false (kind ∙ e)) (λ e. c.if-kind-eq-MINUS.false (kind ∙ e))
-    next.after-next.ensures
+    c.after-next.ensures
     (omega (arith, c.value_at-plus.type_inv)) c.value_at-plus.ensures

@@ -16,16 +16,14 @@ returns-then-kind-eq-ABOVE c = simp (ne_eqb _ _ c.if-kind-eq-BELOW.false, eq-eqb
 pub returns-then-kind-eq-AT_MOST : goal.returns-then-kind-eq-AT_MOST
 unfolding test_of kind_of mark_number keyword_number
 returns-then-kind-eq-AT_MOST c =
-    let past = c in
-    simp (ne_eqb _ _ past.if-kind-eq-BELOW.false, ne_eqb _ _ past.if-kind-eq-ABOVE.false, eq-eqb _ _ c.if-kind-eq-AT_MOST.true)
+    simp (ne_eqb _ _ c.if-kind-eq-BELOW.false, ne_eqb _ _ c.if-kind-eq-ABOVE.false, eq-eqb _ _ c.if-kind-eq-AT_MOST.true)
 
 pub returns-then-kind-eq-AT_LEAST : goal.returns-then-kind-eq-AT_LEAST
 unfolding test_of kind_of mark_number keyword_number
 returns-then-kind-eq-AT_LEAST c =
-    let past = c in
     simp (
-      ne_eqb _ _ past.if-kind-eq-BELOW.false,
-      ne_eqb _ _ past.if-kind-eq-ABOVE.false,
+      ne_eqb _ _ c.if-kind-eq-BELOW.false,
+      ne_eqb _ _ c.if-kind-eq-ABOVE.false,
       ne_eqb _ _ c.if-kind-eq-AT_MOST.false,
       eq-eqb _ _ c.if-kind-eq-AT_LEAST.true,
     )
@@ -33,10 +31,9 @@ returns-then-kind-eq-AT_LEAST c =
 pub returns-then-kind-eq-DIFFERS : goal.returns-then-kind-eq-DIFFERS
 unfolding test_of kind_of mark_number keyword_number
 returns-then-kind-eq-DIFFERS c =
-    let past = c in
     simp (
-      ne_eqb _ _ past.if-kind-eq-BELOW.false,
-      ne_eqb _ _ past.if-kind-eq-ABOVE.false,
+      ne_eqb _ _ c.if-kind-eq-BELOW.false,
+      ne_eqb _ _ c.if-kind-eq-ABOVE.false,
       ne_eqb _ _ c.if-kind-eq-AT_MOST.false,
       ne_eqb _ _ c.if-kind-eq-AT_LEAST.false,
       eq-eqb _ _ c.if-kind-eq-DIFFERS.true,
@@ -45,10 +42,9 @@ returns-then-kind-eq-DIFFERS c =
 pub returns : goal.returns
 unfolding test_of kind_of mark_number keyword_number
 returns c =
-    let past = c in
     simp (
-      ne_eqb _ _ past.if-kind-eq-BELOW.false,
-      ne_eqb _ _ past.if-kind-eq-ABOVE.false,
+      ne_eqb _ _ c.if-kind-eq-BELOW.false,
+      ne_eqb _ _ c.if-kind-eq-ABOVE.false,
       ne_eqb _ _ c.if-kind-eq-AT_MOST.false,
       ne_eqb _ _ c.if-kind-eq-AT_LEAST.false,
       ne_eqb _ _ c.if-kind-eq-DIFFERS.false,

@@ -16,12 +16,11 @@ other_false false b h e = absurd (false≢true e)
 
 pub returns-then-both-eq0 : goal.returns-then-both-eq0
 returns-then-both-eq0 c e =
-    let t = c in
     let none : c.both.result ≡ 0 = omega arith in (
-      t.if-first.false,
+      c.if-first.false,
       record {
         lacks =
-            λ k h. other_false (member t.args.named k) (member t.args.changed k)
+            λ k h. other_false (member c.args.named k) (member c.args.changed k)
             (sym (c.both.ensures k) ∙ rw none (member_none k)) h;
       },
     )

@@ -6,9 +6,7 @@ use Rattle.lanes.proofs.holds_at.Goals as goal
 
 pub returns : goal.returns
 returns c vs as' ls us d codes b e ends few =
-    let h = c in
-    let put = h in
     c.has.ensures
-    ∙ h.holds.ensures vs as' ls us d 0 (omega arith) codes
-    (rw (lane_is _ put.args.vars 0 b.slots
-    (λ k l n p. put.put_values.ensures.here k l n (omega arith))) b) e ends few
+    ∙ c.holds.ensures vs as' ls us d 0 (omega arith) codes
+    (rw (lane_is _ c.args.vars 0 b.slots
+    (λ k l n p. c.put_values.ensures.here k l n (omega arith))) b) e ends few

@@ -23,20 +23,15 @@ overflow_sub-k c = positive c
 
 pub raise-any-requires : goal.raise-any-requires
 raise-any-requires c =
-    let s = c in
-    let i = s in
     rw c.row_at-at.ensures
-    (ready_next i.loop-k.invariant (positive (goal.at.raise-any-requires c).In-loop-k) s.size_of-size.ensures
-    s.share-part.ensures)
+    (ready_next c.loop-k.invariant (positive (goal.at.raise-any-requires c).In-loop-k) c.size_of-size.ensures
+    c.share-part.ensures)
 
 pub loop-k-preserved-then-part-any : goal.loop-k-preserved-then-part-any
 loop-k-preserved-then-part-any c =
     let raised = c.raise-any in
-    let r = c in
-    let s = r in
-    let i = s in
-    raised_next i.loop-k.invariant (positive (goal.at.loop-k-preserved-then-part-any c).In-loop-k) s.size_of-size.ensures
-    s.share-part.ensures raised.auto.lanes raised.auto.carry (rw r.row_at-at.ensures at raised.ensures)
+    raised_next c.loop-k.invariant (positive (goal.at.loop-k-preserved-then-part-any c).In-loop-k) c.size_of-size.ensures
+    c.share-part.ensures raised.auto.lanes raised.auto.carry (rw c.row_at-at.ensures at raised.ensures)
     c.with-changed.ensures
 
 pub loop-k-smaller-then-part-any : goal.loop-k-smaller-then-part-any
@@ -48,10 +43,8 @@ loop-k-smaller c = falls_down _ (positive (goal.at.loop-k-smaller c).In-loop-k)
 
 pub loop-k-preserved : goal.loop-k-preserved
 loop-k-preserved c =
-    let s = c in
-    let i = s in
-    passed_next i.loop-k.invariant (positive (goal.at.loop-k-preserved c).In-loop-k) s.size_of-size.ensures
-    s.share-part.ensures c.if-part-any.false
+    passed_next c.loop-k.invariant (positive (goal.at.loop-k-preserved c).In-loop-k) c.size_of-size.ensures
+    c.share-part.ensures c.if-part-any.false
 
 pub returns : goal.returns
 returns c =

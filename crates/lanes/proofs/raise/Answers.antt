@@ -8,13 +8,11 @@ loop-j-init c = raising_none
 
 pub overflow_add-sum-in-loop-j-2 : goal.overflow_add-sum-in-loop-j-2
 overflow_add-sum-in-loop-j-2 c =
-    let i = c in
-    omega (arith, sum_small i.requires i.loop-j.invariant c.loop-j-test.true)
+    omega (arith, sum_small c.requires c.loop-j.invariant c.loop-j-test.true)
 
 pub loop-j-preserved : goal.loop-j-preserved
 loop-j-preserved c =
-    let i = c in
-    raising_more i.requires i.loop-j.invariant c.loop-j-test.true
+    raising_more c.requires c.loop-j.invariant c.loop-j-test.true
     c.settle.result
     c.carry_of.result c.settle.ensures c.carry_of.ensures
 

@@ -6,20 +6,16 @@ use Rattle.rows.proofs.fill_rows.Goals as goal
 
 pub returns : goal.returns
 returns c m ls f named l₁ l₂ l₃ l₄ =
-    let last = c in
-    let tries = last in
-    let sets = tries in
-    let row = sets in
     record {
-      by_keep = row.fill_row.ensures (vars m) m.keep (keeping f named) l₁;
+      by_keep = c.fill_row.ensures (vars m) m.keep (keeping f named) l₁;
       by_holds =
           holds_of m _
-          (sets.fill_sets.ensures (vars m) (guards m) (guarding f named sets.guard_texts.ensures) (λ _. l₂));
+          (c.fill_sets.ensures (vars m) (guards m) (guarding f named c.guard_texts.ensures) (λ _. l₂));
       by_tries =
-          tries.fill_sets-2.ensures (vars m) m.tries (trying f named tries.try_texts.ensures)
-          (λ some. l₃ (omega (arith, tries.try_texts.ensures.counted)));
+          c.fill_sets-2.ensures (vars m) m.tries (trying f named c.try_texts.ensures)
+          (λ some. l₃ (omega (arith, c.try_texts.ensures.counted)));
       outcomes =
-          last.fill_after.ensures m ls f.codes f.bounded f.few f.laid.region_count
+          c.fill_after.ensures m ls f.codes f.bounded f.few f.laid.region_count
           (omega (arith, f.laid.region_count, f.few_regions)) (bodies_of f named) named.bodies l₄;
     }
 
