@@ -1,8 +1,10 @@
-// Reading into a lent buffer until it is full, the input ends or a read fails. Which bytes are read no contract can say;
-// proved is how many stand at the buffer's start, and that those before a place are kept.
+// Reading into a lent buffer until it is full, the input ends or a read fails. What a file or a terminal gives no
+// contract can say; proved is how many bytes stand at the buffer's start, that those before a place are kept, and that the
+// others are what the reader gave, to its end unless the buffer is full.
 #![tactic(auto)]
 
-ghost use Rattle.std.specs.Prelude.{◌≤◌, min, ◌≡◌, length};
+ghost use Rattle.std.specs.Prelude.{◌≤◌, ◌<◌, min, ◌≡◌, length, take, drop, IsNone};
+ghost use Rattle.std.specs.Io.KnownBytes.{Consumes, IsAtEnd};
 ghost use Rattle.std.proofs.Math.Seq.{paste};
 ghost use Rattle.io.specs.Counts.{IsPrefixLen};
 ghost use Rattle.input.specs.Kept.{Keeps};
@@ -21,6 +23,9 @@ pub struct Got {
 pub fn read_on<R: Read>(reader: &mut R, buf: &mut [u8], from: usize) -> Got
     ensures prefix_len { IsPrefixLen result.count buf.new }
     ensures keeps { Keeps from buf.old result.count buf.new }
+    ensures bytes { Consumes (R.remaining reader.old) (R.remaining reader.new)
+        (drop from (take result.count buf.new)) }
+    ensures ended { IsNone result.failed → result.count < length buf.new → IsAtEnd (R.remaining reader.new) }
 {
     let mut done = least(from, buf.len());
     while done < buf.len() {
@@ -42,8 +47,10 @@ pub fn read_on<R: Read>(reader: &mut R, buf: &mut [u8], from: usize) -> Got
 // One read behind the first `at` bytes of the buffer; where it fails or the input has ended, no more are counted.
 fn read_part<R: Read>(reader: &mut R, buf: &mut [u8], at: usize) -> Got
     requires { at ≤ length buf.old }
-    ensures { (result.count ≤ length buf.new)
+    ensures part { (result.count ≤ length buf.new)
         × Keeps at buf.old result.count buf.new }
+    ensures bytes { Consumes (R.remaining reader.old) (R.remaining reader.new) (drop at (take result.count buf.new)) }
+    ensures ended { IsNone result.failed → result.count ≤ at → at < length buf.old → IsAtEnd (R.remaining reader.new) }
 {
     match reader.read(&mut buf[at..]) {
         Ok(more) => Got {
