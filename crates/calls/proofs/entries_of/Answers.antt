@@ -3,7 +3,6 @@
 use Prim.Native.Nat.{ℕ}
 use mathlib.Core.Path.{sym, ◌∙◌}
 use mathlib.Core.List.{List}
-use borrow.Author.Rules.{rules}
 use Rattle.syntax.specs.Tree.{Monitor}
 use Rattle.machine.specs.Held.{HeldTouched}
 use Rattle.meaning.specs.Accepted.{GoodRanges}
@@ -13,21 +12,17 @@ use Rattle.mentions.specs.Mentioned.{TouchedSets}
 use Rattle.entries.proofs.Monitors.{entries_held}
 use Rattle.demands.proofs.Demand2.{checked}
 use Rattle.calls.specs.Results.{EntriesOf}
-use Rattle.calls.proofs.entries_of.Statement.{statement}
-use Rattle.calls.proofs.entries_of.Tie as tie
+use Rattle.calls.proofs.entries_of.Goals as goal
 
 leaves : (m : Monitor) (sets : List ℕ) → GoodRanges (vars m) → TouchedSets m sets → HeldTouched (model m) sets
 unfolding HeldTouched model
 leaves m sets good t r g s low below none runs =
     untouched_after m good r g s (sym (t.members r g low below) ∙ none) runs
 
-returns : tie.Need-returns
+pub returns : goal.returns
 unfolding EntriesOf model
 returns c file loads m e =
     let x = loads.monitored m e in
     entries_held (model m) _ _ _ _ _ _ _ _ x.held (leaves m _ x.bounded.good x.touched)
     (checked file m e).keeps (sym x.bounded.states) (sym x.region_count) (sym x.guard_count)
-    c.fill-entries.ensures
-
-pub entries_of_spec : {M : Type 1} → statement M
-entries_of_spec = tie.close (tie.spec (λ c κs. search rules) returns)
+    c.fill_entries.ensures

@@ -1,0 +1,32 @@
+-- `calls::both_loaded` meets its contract: a number that is not 0 is a refusal, else the file's monitor runs over the
+-- slices that hold it; and demand 3 of the two results.
+use mathlib.Core.Path.{refl}
+use mathlib.Core.Bool.{Bool, true, false}
+use Rattle.stepper.specs.Shown.{of_machine}
+use Rattle.run.specs.Results.{Runs, machine_of}
+use Rattle.meaning.specs.Decide.Calls.{running}
+use Rattle.demands.proofs.Demand2.{checked}
+use Rattle.calls.specs.Results.{EntriesOf}
+use Rattle.calls.proofs.Loaded.{not_loaded, ran_loaded}
+use Rattle.calls.proofs.Same.{both_agree}
+use Rattle.calls.proofs.both_loaded.Goals as goal
+
+pub returns-then-verdict-ne0 : goal.returns-then-verdict-ne0
+returns-then-verdict-ne0 c file loads =
+    both_agree file _ _ _ _
+    (not_loaded file _ _ _ _ loads.verdict c.if-verdict-ne0.true c.no_record.ensures refl)
+    (not_loaded file _ _ _ _ loads.verdict c.if-verdict-ne0.true c.no_record.ensures refl)
+
+pub returns : goal.returns
+unfolding EntriesOf machine_of of_machine
+returns c file loads =
+    let e = c in
+    let entries = e.entries_of-entries.ensures file loads in
+    let a = e.args in
+    let ran : (w : Bool) → Runs (running file a.bytes.now a.start (machine_of w))
+    (of_machine w c.run_from.result.plain c.run_from.result.table) =
+    λ w. ran_loaded file _ _ _ _ _ loads.verdict e.if-verdict-ne0.false
+    (λ m h.
+    let x = loads.monitored m h in
+    c.run_from.ensures m x.bounded x.region_count x.held x.held_places (entries m h) (checked file m h) w) in
+    both_agree file _ _ _ _ (ran false) (ran true)

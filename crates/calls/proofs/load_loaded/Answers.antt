@@ -1,0 +1,47 @@
+-- `calls::load_loaded` meets its contract: the file's refusal or 10 with nothing written, or the frames over the slices that
+-- hold the file's monitor.
+use native.Mathlib.Omega.{arith}
+use mathlib.Core.Path.{sym, ap, ◌∙◌}
+use Rattle.meaning.specs.Model.{model}
+use Rattle.demands.specs.Load.{CountFits}
+use Rattle.demands.proofs.Demand2.{checked}
+use Rattle.calls.proofs.Loaded.{monitor_of, start_at}
+use Rattle.calls.proofs.Making.{no_monitor, too_short, made, zero_said, start_of_accepted, start_kept}
+use Rattle.calls.proofs.load_loaded.Goals as goal
+
+pub returns-then-verdict-ne0 : goal.returns-then-verdict-ne0
+returns-then-verdict-ne0 c file kept loads fits =
+    let n = c.not_made.ensures in
+    no_monitor file _ _ _ _ _ fits _ loads.verdict c.if-verdict-ne0.true n.0 n.1
+
+pub returns-then-out-wanted : goal.returns-then-out-wanted
+returns-then-out-wanted c file kept loads fits =
+    let d = c in
+    let n = c.not_made-then-out-wanted.ensures in
+    let s = c.say.ensures in
+    let (m, e) = monitor_of file _ loads.verdict d.if-verdict-ne0.false in
+    too_short file _ _ _ _ _ fits m e d.if-out-wanted.true _ (record { number = s.0; first = s.1; second = s.2 }) n.0
+    n.1
+
+pub returns : goal.returns
+unfolding CountFits model
+returns c file kept loads fits =
+    let w = c in
+    let q = w in
+    let d = q in
+    let (m, e) = monitor_of file _ loads.verdict d.if-verdict-ne0.false in
+    let l = loads.monitored m e in
+    let state = start_at loads d.if-verdict-ne0.false _ q.number_of.ensures.is ∙ start_of_accepted file m e in
+    let low = d.if-out-wanted.false in
+    made file _ _ _ _ _ fits m e low (zero_said file _ m e loads.verdict) _ _ state
+    (w.make_frames-count.ensures (model m) kept
+    (record {
+      count = sym l.region_count;
+      held = l.held;
+      places = l.held_places;
+      checked = checked file m e;
+      start = ap (model m).kept state ∙ start_kept file m e;
+      some = fits.0;
+      few = fits.1;
+      room = omega arith;
+    }))

@@ -1,0 +1,74 @@
+-- `calls::points_loaded` meets its contract: the file's refusal, 10, 11 or 12 with nothing written, or the points over the
+-- slices that hold the file's monitor.
+use native.Mathlib.Omega.{arith}
+use mathlib.Core.Path.{refl, sym}
+use Rattle.meaning.specs.Model.{model}
+use Rattle.demands.proofs.Demand2.{checked}
+use Rattle.trace.proofs.FramesAt.{frames_end}
+use Rattle.run.proofs.Records.{admitted}
+use Rattle.calls.specs.Results.{EntriesOf}
+use Rattle.calls.proofs.Loaded.{monitor_of}
+use Rattle.calls.proofs.Pointed.{no_monitor, too_short, long_enough, refused_early, listed}
+use Rattle.calls.proofs.points_loaded.Goals as goal
+
+pub returns-then-verdict-ne0 : goal.returns-then-verdict-ne0
+returns-then-verdict-ne0 c file loads =
+    let n = c.no_points.ensures in
+    no_monitor file _ _ _ _ _ loads.verdict c.if-verdict-ne0.true n.0 n.1 n.2
+
+pub returns-then-out-bytes : goal.returns-then-out-bytes
+returns-then-out-bytes c file loads =
+    let d = c in
+    let n = c.no_points-then-out-bytes.ensures in
+    let s = c.say.ensures in
+    let (m, e) = monitor_of file _ loads.verdict d.if-verdict-ne0.false in
+    too_short file _ _ _ _ m e d.if-out-bytes.true _ (record { number = s.0; first = s.1; second = s.2 }) n.0 n.1
+    n.2
+
+pub returns-then-early-ne0 : goal.returns-then-early-ne0
+returns-then-early-ne0 c file loads =
+    let t = c in
+    let x = t in
+    let d = x in
+    let n = c.no_points-then-early-ne0.ensures in
+    let (m, e) = monitor_of file _ loads.verdict d.if-verdict-ne0.false in
+    let l = loads.monitored m e in
+    long_enough file _ _ _ _ m e d.if-out-bytes.false _
+    (refused_early file _ _ _ _ m _ (x.admit-early.ensures.admits m _ _ _ l.bounded l.held) t.if-early-ne0.true n.0 n.1
+    n.2)
+
+pub returns : goal.returns
+unfolding EntriesOf model
+returns c file loads =
+    let w = c in
+    let f = w in
+    let t = f in
+    let x = t in
+    let d = x in
+    let (m, e) = monitor_of file _ loads.verdict d.if-verdict-ne0.false in
+    let l = loads.monitored m e in
+    let a = admitted (x.admit-early.ensures.admits m _ _ _ l.bounded l.held) t.if-early-ne0.false in
+    let whole = (frames_end a.2).whole in
+    let low = d.if-out-bytes.false in
+    long_enough file _ _ _ _ m e low _
+    (listed file _ _ _ _ m a.1 a.0 a.2 w.write_points-written.result _
+    (w.write_points-written.ensures m _ a.0
+    (record {
+      asked = record {
+        count = sym l.region_count;
+        held = l.held;
+        places = l.held_places;
+        table = f.entries_of-entries.ensures file loads m e;
+        checked = checked file m e;
+        start = a.1;
+        read = a.2;
+      };
+      bounded = l.bounded;
+      guard_count = l.guard_count;
+      room = omega arith;
+    }))
+    c.say-2.ensures c.say-3.ensures refl)
+
+pub overflow_cast-start : goal.overflow_cast-start
+overflow_cast-start = λ c. let low = c.admit-early.ensures.start_lt_most_states c.if-early-ne0.false in
+    record { fits = omega arith }
