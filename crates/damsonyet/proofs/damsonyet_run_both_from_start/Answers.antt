@@ -1,0 +1,5 @@
+-- `damsonyet::damsonyet_run_both_from_start` meets its contract: both results with bytes for places.
+use Rattle.damsonyet.proofs.damsonyet_run_both_from_start.Goals as goal
+
+pub returns : goal.returns
+returns c = c.flat_both.ensures _ _ _ c.run_both_from_start-both.ensures
