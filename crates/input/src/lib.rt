@@ -3,11 +3,12 @@
 // others are what the reader gave, to its end unless the buffer is full.
 #![tactic(auto)]
 
-ghost use Rattle.std.specs.Prelude.{◌≤◌, ◌<◌, min, ◌≡◌, length, take, drop, IsNone};
+ghost use Rattle.std.specs.Prelude.{ℕ, List, [], ◌++◌, IsOk, ◌≤◌, ◌<◌, min, ◌≡◌, length, take, drop, IsNone};
 ghost use Rattle.std.specs.Io.KnownBytes.{Consumes, IsAtEnd};
 ghost use Rattle.std.proofs.Math.Seq.{paste};
 ghost use Rattle.io.specs.Counts.{IsPrefixLen};
 ghost use Rattle.input.specs.Kept.{Keeps};
+ghost use Rattle.input.specs.Opened.{Has};
 
 use std::io::{Cursor, ErrorKind, Read, Write};
 use std::{io, str};
@@ -67,7 +68,11 @@ fn read_part<R: Read>(reader: &mut R, buf: &mut [u8], at: usize) -> Got
 // Reads what was opened, from the buffer's start. What is missing reads as empty; any other reason for which it was not
 // opened is a failure.
 pub fn read_opened<R: Read>(opened: &mut io::Result<R>, buf: &mut [u8]) -> Got
-    ensures { IsPrefixLen result.count buf.new }
+    ensures prefix_len { IsPrefixLen result.count buf.new }
+    ensures bytes { (xs : List ℕ) → Has R.remaining opened.old xs → IsNone result.failed
+        → (rest : List ℕ) × (xs ≡ take result.count buf.new ++ rest) × Has R.remaining opened.new rest
+        × (result.count < length buf.new → rest ≡ []) }
+    ensures opened { 0 < result.count → IsOk opened.new }
 {
     match opened {
         Ok(reader) => read_on(reader, buf, 0),

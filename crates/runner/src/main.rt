@@ -3,55 +3,94 @@
 // otherwise it says so on standard error, and after a failed read prints nothing.
 #![tactic(auto)]
 
+ghost use Rattle.std.specs.Prelude.{ℕ, ◌≡◌, ◌≤◌, List, ◌++◌, Some, IfOk, OnErr, IsNone};
+ghost use Rattle.io.specs.Counts.{IsPrefixLen};
+ghost use Rattle.meaning.specs.Lines.{runner};
+ghost use Rattle.input.specs.Opened.{Has};
+ghost use Rattle.output.specs.Printed.{Prints, Read, short_bytes};
+
+use input::Got;
 use std::fs::File;
+use std::io;
+use std::io::Read;
 
 fn main(rt: HostRuntime) {
     let mut file = [0u8; output::FILE_BYTES];
-    let monitor = input::read_opened(&mut File::open(&rt, "monitor.txt"), &mut file);
+    let monitor = read_monitor(&mut File::open(&rt, "monitor.txt"), &mut file);
     if let Some(why) = monitor.failed {
         input::fail(&rt, "runner: monitor.txt", why);
         return;
     }
-    let mut opened = File::open(&rt, "trace.txt");
-    let mut short = [0u8; output::SHORT_BYTES];
-    let begun = input::read_opened(&mut opened, &mut short);
-    if let Some(why) = begun.failed {
-        input::fail(&rt, "runner: trace.txt", why);
-        return;
-    }
     let mut out = [0u8; output::OUTPUT_BYTES];
-    let end = output::runner_short(&file, monitor.count, &short, begun.count, &mut out);
-    if 0 < end {
-        print(&rt, &out[..end]);
-        return;
+    match run(
+        &file,
+        monitor.count,
+        &mut File::open(&rt, "trace.txt"),
+        &mut out,
+    ) {
+        Ok(end) => print(&rt, &out[..end]),
+        Err(why) => input::fail(&rt, "runner: trace.txt", why),
     }
-    if let Ok(rest) = &mut opened {
-        run_long(&rt, rest, &file, monitor.count, &short);
-    }
-}
-
-// A trace that fills the short buffer, read on behind its bytes.
-fn run_long(
-    rt: &HostRuntime,
-    rest: &mut File,
-    file: &[u8; output::FILE_BYTES],
-    count: usize,
-    short: &[u8; output::SHORT_BYTES],
-) {
-    let mut trace = [0u8; output::TRACE_BYTES];
-    let front = input::copy(short, &mut trace);
-    let got = input::read_on(rest, &mut trace, front);
-    if let Some(why) = got.failed {
-        input::fail(rt, "runner: trace.txt", why);
-        return;
-    }
-    let mut out = [0u8; output::OUTPUT_BYTES];
-    let end = output::runner_read(file, count, &trace, got.count, &mut out);
-    print(rt, &out[..end]);
 }
 
 fn print(rt: &HostRuntime, lines: &[u8]) {
     if let Err(why) = rt.write_all(lines) {
         input::fail(rt, "runner: standard output", why);
     }
+}
+
+fn read_monitor<R: Read>(opened: &mut io::Result<R>, file: &mut [u8; output::FILE_BYTES]) -> Got
+    ensures { (handed : List ℕ) → Has R.remaining opened.old handed → IsNone result.failed
+        → Read handed result.count file.new }
+{
+    input::read_opened(opened, file)
+}
+
+// What is printed of a file and of the trace that was opened, into a lent buffer; where the trace cannot be read, nothing.
+fn run<R: Read>(
+    file: &[u8; output::FILE_BYTES],
+    count: usize,
+    opened: &mut io::Result<R>,
+    out: &mut [u8; output::OUTPUT_BYTES],
+) -> io::Result<usize>
+    ensures prefix_len { IfOk result (λ n. IsPrefixLen n out.new) }
+    ensures prints { IfOk result (λ n. (handed frames : List ℕ) → Read handed count file.now
+        → Has R.remaining opened.old frames → Prints (runner handed frames) out.old n out.new) }
+    ensures nothing { OnErr result (out.new ≡ out.old) }
+{
+    let mut short = [0u8; output::SHORT_BYTES];
+    let begun = input::read_opened(opened, &mut short);
+    if let Some(why) = begun.failed {
+        return Err(why);
+    }
+    if begun.count < output::SHORT_BYTES {
+        return Ok(output::runner_short(file, count, &short, begun.count, out));
+    }
+    match opened {
+        Ok(rest) => run_long(rest, file, count, &short, out),
+        Err(_) => unreachable!(),
+    }
+}
+
+// A trace that fills the short buffer, read on behind its bytes.
+fn run_long<R: Read>(
+    rest: &mut R,
+    file: &[u8; output::FILE_BYTES],
+    count: usize,
+    short: &[u8; output::SHORT_BYTES],
+    out: &mut [u8; output::OUTPUT_BYTES],
+) -> io::Result<usize>
+    ensures prefix_len { IfOk result (λ n. IsPrefixLen n out.new) }
+    ensures prints { IfOk result (λ n. (handed behind : List ℕ) → Read handed count file.now
+        → R.remaining rest.old ≡ Some behind
+        → Prints (runner handed (short.now ++ behind)) out.old n out.new) }
+    ensures nothing { OnErr result (out.new ≡ out.old) }
+{
+    let mut trace = [0u8; output::TRACE_BYTES];
+    let front = input::copy(short, &mut trace);
+    let got = input::read_on(rest, &mut trace, front);
+    if let Some(why) = got.failed {
+        return Err(why);
+    }
+    Ok(output::runner_read(file, count, &trace, got.count, out))
 }
