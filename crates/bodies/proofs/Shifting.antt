@@ -83,8 +83,8 @@ module _ {vs : List Var} {bounds : Bounds} (b : Bounded vs bounds) (s t x : ℕ)
     together (some cs) none x f g e = elim x [ ]
     together (some cs) (some ds) (both_end k) f g e =
         let n = kins_number k in
-        let at-s = number_of_state_at vs s low in
-        let at-t = number_of_state_at vs t high in
+        let at_s = number_of_state_at vs s low in
+        let at_t = number_of_state_at vs t high in
         let from = number_below b.good (f cs refl) in
         let to = number_below b.good (g ds refl) in
         let few = b.few_states in

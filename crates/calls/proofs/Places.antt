@@ -58,8 +58,8 @@ module _ {file : List ℕ} {l : Loaded} {kept holds after : List ℕ} (loads : L
         let k = loads.monitored m e in
         let rs = sym k.region_count in
         let gs = sym k.guard_count in
-        let few-rs = k.held.few_regions in
-        let few-gs = k.held.few_guards in
+        let few_rs = k.held.few_regions in
+        let few_gs = k.held.few_guards in
         rw (table_is (model m) _ _ _ rs gs (fill m e)) (write.written (omega arith) (omega arith))
 
     pub placed : (n : ℕ) → r ≡ Length n → Places (place file buffer) (record {
@@ -89,7 +89,7 @@ module _ {file : List ℕ} {l : Loaded} {kept holds after : List ℕ} (loads : L
     pub too_short : (a : code.Answer) → (a.number ≡ 10) × (a.first ≡ 0) × (a.second ≡ 0) → r ≡ Short
         → Places (place file buffer) (record { answer = a; length = 0; chosen = 0; pairs = 0 }) behind
     unfolding place written placed_of buffer_of
-    too_short a (x, y, z) at-short = rw (e, place) (go (ltb (length buffer) (length table)) refl)
+    too_short a (x, y, z) at_short = rw (e, place) (go (ltb (length buffer) (length table)) refl)
       where
         go : (b : Bool) → ltb (length buffer) (length table) ≡ b
             → Places (written table (chosen_bits m) (pairs_of m) buffer) (record { answer = a; length = 0; chosen = 0; pairs = 0 }) behind

@@ -90,9 +90,9 @@ module _ (file bytes : List ℕ) (start : ℕ) (buffer : List ℕ) (r : result.P
     unfolding points_from frame_points list_points of_machine machine_of
     listed k fs f w out x p t n =
         let plain-run = list_run m false start fs in
-        let table-run = list_run m true start fs in
+        let table_run = list_run m true start fs in
         let many : w.count ≡ point_count (run_of (model m) false start fs) fs = x.count in
-        rw (k, points_from, f, plain-run, table-run) (record {
+        rw (k, points_from, f, plain-run, table_run) (record {
           plain = stop_says w false r.plain (x.stops false) p;
           table = stop_says w true r.table (x.stops true) t;
           count = n ∙ many;

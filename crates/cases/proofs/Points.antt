@@ -4,7 +4,7 @@ use mathlib.Core.Path.{◌≡◌, refl}
 use mathlib.Core.List.{List, [], ◌∷◌, ◌++◌, map}
 use lib.ListN.{replicate}
 use Rattle.syntax.specs.Bytes.{bytes}
-use Rattle.meaning.proofs.Printing.{Case, points_of_lem, printing}
+use Rattle.meaning.proofs.Printing.{Case, points_case, printing}
 
 unfoldable box : List ℕ
 box =
@@ -23,20 +23,20 @@ faulty =
 
 unfoldable asked : List Case
 asked =
-    points_of_lem box (bytes "") 0 51
-    ∷ points_of_lem box (bytes "000100\n010001\n000101\n") 0 198
-    ∷ points_of_lem box (bytes "010100\n000100\n020001\n010101\n") 0 247
-    ∷ points_of_lem box (bytes "000100\n010001\n020101\n000100\n") 0 247
-    ∷ points_of_lem box (bytes "000100\n010100\n020001\n030101\n010100\n") 0 296
-    ∷ points_of_lem box (bytes "000100\n000001\n") 0 149
-    ∷ points_of_lem two (bytes "0F0001\n0F0100\n030201\n0F0101\n") 3 247
-    ∷ points_of_lem two (bytes "050001\n040001\n") 3 149
-    ∷ points_of_lem box (bytes "000100\n") 0 97
-    ∷ points_of_lem box (bytes "000100\n") 2 98
-    ∷ points_of_lem box (bytes "000100\n00010\n") 0 98
-    ∷ points_of_lem faulty (bytes "") 0 10
-    ∷ points_of_lem box (bytes "050100\n000100\n030100\n010001\n050101\n") 0 296
-    ∷ points_of_lem two (bytes "0A0001\n0A0100\n020001\n020100\n030201\n0A0101\n") 3 345
+    points_case box (bytes "") 0 51
+    ∷ points_case box (bytes "000100\n010001\n000101\n") 0 198
+    ∷ points_case box (bytes "010100\n000100\n020001\n010101\n") 0 247
+    ∷ points_case box (bytes "000100\n010001\n020101\n000100\n") 0 247
+    ∷ points_case box (bytes "000100\n010100\n020001\n030101\n010100\n") 0 296
+    ∷ points_case box (bytes "000100\n000001\n") 0 149
+    ∷ points_case two (bytes "0F0001\n0F0100\n030201\n0F0101\n") 3 247
+    ∷ points_case two (bytes "050001\n040001\n") 3 149
+    ∷ points_case box (bytes "000100\n") 0 97
+    ∷ points_case box (bytes "000100\n") 2 98
+    ∷ points_case box (bytes "000100\n00010\n") 0 98
+    ∷ points_case faulty (bytes "") 0 10
+    ∷ points_case box (bytes "050100\n000100\n030100\n010001\n050101\n") 0 296
+    ∷ points_case two (bytes "0A0001\n0A0100\n020001\n020100\n030201\n0A0101\n") 3 345
     ∷ []
 
 unfoldable told : List (List ℕ)

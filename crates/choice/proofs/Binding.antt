@@ -88,14 +88,14 @@ unfolding rows_slot
 rows_none n f p x = refl
 
 -- one region more, whose row is lent
-module _ (after guard-of keep holds tried : List ℕ) (set u k n w p : ℕ) (x y z : Slot) where
-  pub rows_next : let f = breaks_by after guard-of keep holds tried set u in
-      let g = breaks_row (take w (drop (k * 4096) after)) (get_or guard-of k 0) keep holds tried set u in
+module _ (after guard_of keep holds tried : List ℕ) (set u k n w p : ℕ) (x y z : Slot) where
+  pub rows_next : let f = breaks_by after guard_of keep holds tried set u in
+      let g = breaks_row (take w (drop (k * 4096) after)) (get_or guard_of k 0) keep holds tried set u in
       y ≡ rows_slot k n f p x → z ≡ row_slot n g p k y → w ≡ 4096 → n ≤ 4096 → z ≡ rows_slot (k + 1) n f p x
   unfolding breaks_row breaks_by rows_slot
   rows_next e h whole few =
-      let f = breaks_by after guard-of keep holds tried set u in
-      let g = breaks_row (take w (drop (k * 4096) after)) (get_or guard-of k 0) keep holds tried set u in
+      let f = breaks_by after guard_of keep holds tried set u in
+      let g = breaks_row (take w (drop (k * 4096) after)) (get_or guard_of k 0) keep holds tried set u in
       let one : k + 1 ≡ suc k = omega arith in
       rw (one, ← e) (h ∙ row_alike n g (f k) p k y (λ s low. rw (part_at after k w s whole (omega arith))))
 

@@ -80,8 +80,8 @@ chosen_set m = record {
   none_past = λ u high. is_false (λ x. let low = chosen_below m u x in omega arith);
 }
 
-module _ {m : Monitor} {states : ℕ} {guard-of : List ℕ} {regions-of start tries : ℕ} {keep holds after tried : List ℕ}
-    (held : Tried m states guard-of regions-of start tries keep holds after tried) where
+module _ {m : Monitor} {states : ℕ} {guard_of : List ℕ} {regions_of start tries : ℕ} {keep holds after tried : List ℕ}
+    (held : Tried m states guard_of regions_of start tries keep holds after tried) where
   few_tries : length m.tries ≤ 16
   few_tries = omega (arith, held.tries_counted, held.few_tries)
 
@@ -104,49 +104,49 @@ module _ {m : Monitor} {states : ℕ} {guard-of : List ℕ} {regions-of start tr
 
     -- the tests by the slices are those of the file
     breaks_is : (u r s : ℕ) → u < length m.tries → r < length (regions m) → s < count (vars m)
-        → breaks_by after guard-of keep holds tried set u r s
+        → breaks_by after guard_of keep holds tried set u r s
         ≡ breaks_try m xs (try_at m u) (region m r) (state_at (vars m) s)
     unfolding breaks_by breaks_try binds Outcomes TruthRow
     breaks_is u r s low below few =
         let as' = state_at (vars m) s in
         let q = region m r in
         let to = get_or after (r * 4096 + s) 0 in
-        let guard = get_or guard-of r 0 in
+        let guard = get_or guard_of r 0 in
         let o = outcome q (vars m) as' in
-        let l = looked m (truth m.keep (vars m)) guard-of keep holds held.by_number held.by_keep held.by_holds r
+        let l = looked m (truth m.keep (vars m)) guard_of keep holds held.by_number held.by_keep held.by_holds r
         below in
         let moved = held.outcomes r s below few in
         let ends = ends_is u low o (outcome_state held.good q s few) in
         tests_equal _ _
         (λ h.
         let (b, f) = both (binds_by keep holds tried guard set s to) (not (member (get_or tried to 0) u)) h in
-        let (h-set, h-keep, h-to, h-guard) = binding keep holds tried guard set s to b in
-        let k = bit_one (truth m.keep (vars m) as') (sym (held.by_keep s few) ∙ eqb-true (get_or keep s 0) 1 h-keep) in
-        let g = sym (l.by_guard s few) ∙ h-guard in
-        and (and (and k (sym (all_there m tried held.by_tries few_tries set xs is s few) ∙ h-set)) g)
-        (sym ends ∙ ap (λ (n : ℕ). ltb n 4096 && not (member (get_or tried n 0) u)) (sym moved) ∙ and h-to f))
+        let (h_set, h_keep, h_to, h_guard) = binding keep holds tried guard set s to b in
+        let k = bit_one (truth m.keep (vars m) as') (sym (held.by_keep s few) ∙ eqb-true (get_or keep s 0) 1 h_keep) in
+        let g = sym (l.by_guard s few) ∙ h_guard in
+        and (and (and k (sym (all_there m tried held.by_tries few_tries set xs is s few) ∙ h_set)) g)
+        (sym ends ∙ ap (λ (n : ℕ). ltb n 4096 && not (member (get_or tried n 0) u)) (sym moved) ∙ and h_to f))
         (λ h.
         let (b, f) = both (binds m xs q as') (ends_false (vars m) (try_at m u) o) h in
         let (x, g) = both (truth m.keep (vars m) as' && all_hold m xs as') (truth q.guard (vars m) as') b in
         let (k, a) = both (truth m.keep (vars m) as') (all_hold m xs as') x in
-        let (h-to, h-f) = both (ltb to 4096) (not (member (get_or tried to 0) u))
+        let (h_to, h_f) = both (ltb to 4096) (not (member (get_or tried to 0) u))
         (ap (λ (n : ℕ). ltb n 4096 && not (member (get_or tried n 0) u)) moved ∙ ends ∙ f) in
         and (bound keep holds tried guard set s to (not_true (all_there m tried held.by_tries few_tries set xs is s few ∙ a))
-        (eq-eqb (get_or keep s 0) 1 (held.by_keep s few ∙ bit_true k)) h-to ∙ l.by_guard s few ∙ g) h-f)
+        (eq-eqb (get_or keep s 0) 1 (held.by_keep s few ∙ bit_true k)) h_to ∙ l.by_guard s few ∙ g) h_f)
 
     -- a pass over the slices, of a try of the file
 
     -- one that does not stand stays
     pub slot_off : (u p : ℕ) (x : Slot) → x.stands ≡ false
-        → rows_slot regions-of states (breaks_by after guard-of keep holds tried set u) p x ≡ x
-    slot_off u p x off = rows_off p x regions-of states (breaks_by after guard-of keep holds tried set u) off
+        → rows_slot regions_of states (breaks_by after guard_of keep holds tried set u) p x ≡ x
+    slot_off u p x off = rows_off p x regions_of states (breaks_by after guard_of keep holds tried set u) off
 
     -- one that nothing breaks stays
     pub slot_quiet : (u p : ℕ) (x : Slot) → u < length m.tries → first_break m xs (try_at m u) ≡ none
-        → rows_slot regions-of states (breaks_by after guard-of keep holds tried set u) p x ≡ x
+        → rows_slot regions_of states (breaks_by after guard_of keep holds tried set u) p x ≡ x
     unfolding first_break regions IsRegion
     slot_quiet u p x low e =
-        rows_quiet p x regions-of states (breaks_by after guard-of keep holds tried set u)
+        rows_quiet p x regions_of states (breaks_by after guard_of keep holds tried set u)
         (λ r s below few.
         let reg : r < length (regions m) = omega (arith, held.regions_counted) in
         let st : s < count (vars m) = omega (arith, held.states_counted) in
@@ -156,7 +156,7 @@ module _ {m : Monitor} {states : ℕ} {guard-of : List ℕ} {regions-of start tr
     -- one that something breaks is marked with the first
     pub slot_broken : (u p : ℕ) (x : Slot) (k n : ℕ) → u < length m.tries → x.stands ≡ true
         → first_break m xs (try_at m u) ≡ some (k, n)
-        → rows_slot regions-of states (breaks_by after guard-of keep holds tried set u) p x ≡ mark_slot p k n
+        → rows_slot regions_of states (breaks_by after guard_of keep holds tried set u) p x ≡ mark_slot p k n
     unfolding first_break regions IsRegion
     slot_broken u p x k n low on e =
         let (q, numbered, first, lower) =
@@ -164,7 +164,7 @@ module _ {m : Monitor} {states : ℕ} {guard-of : List ℕ} {regions-of start tr
         let reg : k < length (regions m) = (element_below (regions m) k q no_region numbered).0 in
         let same : q ≡ region m k =
         some-injective _ _ (sym numbered ∙ region_numbered m k reg) in
-        rows_first p x regions-of states (breaks_by after guard-of keep holds tried set u) k n on
+        rows_first p x regions_of states (breaks_by after guard_of keep holds tried set u) k n on
         (omega (arith, held.regions_counted)) (omega (arith, held.states_counted, first.0))
         (breaks_is u k n low reg first.0
         ∙ ap (λ (z : Region). breaks_try m xs (try_at m u) z (state_at (vars m) n)) (sym same) ∙ first.1)

@@ -114,8 +114,8 @@ module _ (m : Monitor) where
         (t.fallen u low);
   }
 
-  module _ {states : ℕ} {guard-of : List ℕ} {regions-of start tries : ℕ} {keep holds after tried : List ℕ}
-      (held : Tried m states guard-of regions-of start tries keep holds after tried) where
+  module _ {states : ℕ} {guard_of : List ℕ} {regions_of start tries : ℕ} {keep holds after tried : List ℕ}
+      (held : Tried m states guard_of regions_of start tries keep holds after tried) where
     -- the first: those that hold at the start values
     start_member : (set : ℕ) → ((u : ℕ) → u < 16 → member set u ≡ member (get_or tried start 0) u && ltb u tries)
         → (u : ℕ) → u < 16 → member set u ≡ in_set (true_at_start m) u
@@ -148,9 +148,9 @@ module _ (m : Monitor) where
     }
 
     -- one pass on
-    module _ (k : ℕ) (c d : Choice) (few : k < length m.tries) (t : Stage m k c) (p : ℕ) (is-p : p ≡ k + 1)
+    module _ (k : ℕ) (c d : Choice) (few : k < length m.tries) (t : Stage m k c) (p : ℕ) (is_p : p ≡ k + 1)
         (slots : (u : ℕ) → u < 16
-        → slot_of d u ≡ rows_slot regions-of states (breaks_by after guard-of keep holds tried c.chosen u) p (slot_of c u)) where
+        → slot_of d u ≡ rows_slot regions_of states (breaks_by after guard_of keep holds tried c.chosen u) p (slot_of c u)) where
       on_set : SetIs m c.chosen (passes m k (true_at_start m))
       on_set = stage_set k c (omega arith) t
 
@@ -176,7 +176,7 @@ module _ (m : Monitor) where
             slots u low
                 ∙ slot_broken held c.chosen (passes m k (true_at_start m)) on_set u p (slot_of c u) r s here
                 (ap (λ (z : Slot). z.stands) (t.standing u low x)) e
-                ∙ ap (λ (q : ℕ). mark_slot q r s) (is-p ∙ one_more k)
+                ∙ ap (λ (q : ℕ). mark_slot q r s) (is_p ∙ one_more k)
                 ∙ sym (ap slot_for (fate_in_pass m k u r s here few x e)),
           ))
 

@@ -14,7 +14,7 @@ use Rattle.choice.specs.declared.Choice.{Choice}
 use Rattle.choice.specs.Slots.{Slot, slot_of}
 
 -- the truths of keep, the guards and the tries at every state, and the outcomes of the bodies
-pub record Tried (m : Monitor) (states : ℕ) (guard-of : List ℕ) (count_of start tries : ℕ)
+pub record Tried (m : Monitor) (states : ℕ) (guard_of : List ℕ) (count_of start tries : ℕ)
     (keep holds after tried : List ℕ) : Type 0 where
   pub good : GoodRanges (vars m)
   pub few_states : count (vars m) ≤ most_states
@@ -25,7 +25,7 @@ pub record Tried (m : Monitor) (states : ℕ) (guard-of : List ℕ) (count_of st
   pub few_tries : tries ≤ most_tries
   pub starts : start ≡ start_number (vars m)
   pub long : most_after ≤ length after
-  pub by_number : GuardNumbers m guard-of
+  pub by_number : GuardNumbers m guard_of
   pub by_keep : TruthRow (vars m) (truth m.keep (vars m)) keep
   pub by_holds : HoldsAll m holds
   pub by_tries : TruthSets (vars m) m.tries tried

@@ -56,6 +56,6 @@ breaks_row row guard keep holds tried set u s =
 
 -- region r's
 unfoldable pub breaks_by : List ℕ → List ℕ → List ℕ → List ℕ → List ℕ → ℕ → ℕ → ℕ → ℕ → Bool
-breaks_by after guard-of keep holds tried set u r s =
+breaks_by after guard_of keep holds tried set u r s =
     let to = get_or after (r * most_states + s) 0 in
-    binds_by keep holds tried (get_or guard-of r 0) set s to && not (member (get_or tried to 0) u)
+    binds_by keep holds tried (get_or guard_of r 0) set s to && not (member (get_or tried to 0) u)

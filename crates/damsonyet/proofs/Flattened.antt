@@ -20,14 +20,14 @@ use Rattle.points.proofs.Shown.{byte_is}
 use Rattle.run.specs.Results as results
 use Rattle.run.specs.declared.Running as code
 use Rattle.answers.specs.Says.{Says}
-use Rattle.answers.specs.declared.Answer as code-answer
+use Rattle.answers.specs.declared.Answer as code_answer
 use Rattle.calls.specs.Results.{Agrees}
 use Rattle.damsonyet.specs.Flat.{Records, NoRecord, RanAs, BothAgree, Flattens}
 use Rattle.damsonyet.specs.declared.Ran.{Ran}
 
 module _ (y : code.Running) (r : Ran) (f : Flattens y r) where
   says : {a : Answer} → Says y.answer a → Says r.answer a
-  says {a} s = subst (λ (x : code-answer.Answer). Says x a) (sym f.answer) s
+  says {a} s = subst (λ (x : code_answer.Answer). Says x a) (sym f.answer) s
 
   -- a thread's byte, from the list of places
   byte_at : (ps : List Place) → map (λ (t : Thread). place_of t.place) y.record.threads ≡ ps → (t : ℕ) → t < 16
@@ -116,4 +116,4 @@ module _ (x y : code.Running) (p t : Ran) (f : Flattens x p) (g : Flattens y t) 
       }
     where
       zero : t.answer.number ≡ 0 → y.answer.number ≡ 0
-      zero z = sym (ap (λ (q : code-answer.Answer). q.number) g.answer) ∙ z
+      zero z = sym (ap (λ (q : code_answer.Answer). q.number) g.answer) ∙ z

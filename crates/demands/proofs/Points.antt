@@ -172,12 +172,12 @@ module _ (m : Monitor) (s : ℕ) (fs : List Frame) where
         → (four : List ℕ) × (length four ≡ 4)
         × (point_at m s fs k ≡ shared_bytes m c ++ (four ++ (0 ∷ 0 ∷ 0 ∷ 0 ∷ 0 ∷ turn_bytes c.threads)))
     unfolding table_part
-    table_absent no-point = go (run_list m table_machine s (take k fs)) refl
+    table_absent no_point = go (run_list m table_machine s (take k fs)) refl
       where
         go : (y : Run) → run_list m table_machine s (take k fs) ≡ y
             → (four : List ℕ) × (length four ≡ 4)
             × (point_at m s fs k ≡ shared_bytes m c ++ (four ++ (0 ∷ 0 ∷ 0 ∷ 0 ∷ 0 ∷ turn_bytes c.threads)))
-        go (machine.accepted d) q = absurd (no-point d q)
+        go (machine.accepted d) q = absurd (no_point d q)
         go (stopped a i) q = (own, own_length, with_table (stopped a i) q)
 
     -- the turns stand at the end
@@ -282,9 +282,9 @@ every_point = record {
               ∙ told_behind m s fs plain_machine j b c ((rules.accepts s (take j fs) b).1 r),
           λ b d r q.
               let there = (follows_rules m table_machine).accepts in
-              let e-d = (there s (take (j + 1) fs) d).1 q in
-              let x = (demand_3.agree file m e s k fs).every_point (j + 1) (omega arith) d e-d in
-              table_told m s fs (j + 1) x.0 x.1 d e-d
+              let e_d = (there s (take (j + 1) fs) d).1 q in
+              let x = (demand_3.agree file m e s k fs).every_point (j + 1) (omega arith) d e_d in
+              table_told m s fs (j + 1) x.0 x.1 d e_d
               ∙ told_behind m s fs table_machine j b d ((there s (take j fs) b).1 r),
         );
         none_told = (

@@ -165,9 +165,9 @@ module _ (m : Monitor) (kept holds after guard_of touched : List ℕ) (states re
       → FillsEntries kept holds after guard_of touched states regions guards before entries → HeldEntries m entries
   unfolding HeldEntries
   entries_held fills r g hr hg =
-      let few-s = held.few_states in
-      let few-r = held.few_regions in
-      let few-g = held.few_guards in
+      let few_s = held.few_states in
+      let few_r = held.few_regions in
+      let few_g = held.few_guards in
       let counts : Counts states regions guards =
       record { few_states = omega arith; few_regions = omega arith; few_guards = omega arith } in
       (fills.filled counts).standing r g (omega arith) (omega arith) ∙ code_is r g hr hg

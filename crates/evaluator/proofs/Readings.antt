@@ -633,7 +633,7 @@ module _ {ks values vars : List ℕ} where
       → (get_or ks at no_kind ≡ kind_of (key k_false) → ⊥) → CompareRead ks values vars at holds lacks n
       → SimpleRead ks values vars at holds lacks n
   unfolding spell_simple simple_value simple_kind constant_kind spell_compared compared_value
-  simple_compare {at} {n} {lacks} {holds} no-not no-bracket no_true no_false two = record {
+  simple_compare {at} {n} {lacks} {holds} no_not no_bracket no_true no_false two = record {
     from = two.from;
     to = two.to;
     reads = λ j l vs as' ls us x codes biased e ends. go j l vs as' ls us x codes biased e ends
@@ -644,8 +644,8 @@ module _ {ks values vars : List ℕ} where
           → Biased vs as' (lane vars j)
           → drop at ls ≡ spell_simple x ++ us → EndsExpr us → get_or ks at no_kind ≡ simple_kind x
           → (simple_value x vs as' ≡ given (member lacks j) (get_or holds j false)) × (drop n ls ≡ us)
-      go j l vs as' ls us (negation s) codes biased e ends f = absurd (no-not f)
-      go j l vs as' ls us (bracketed c) codes biased e ends f = absurd (no-bracket f)
+      go j l vs as' ls us (negation s) codes biased e ends f = absurd (no_not f)
+      go j l vs as' ls us (bracketed c) codes biased e ends f = absurd (no_bracket f)
       go j l vs as' ls us (constant true) codes biased e ends f = absurd (no_true f)
       go j l vs as' ls us (constant false) codes biased e ends f = absurd (no_false f)
       go j l vs as' ls us (compare a o b) codes biased e ends f =
@@ -653,16 +653,16 @@ module _ {ks values vars : List ℕ} where
 
 -- Conjunctions and conditions are chains: items joined by a mark
 
-pub record Chain {X Y : Type 0} (spellX : X → List Lexeme) (EndsX : List Lexeme → Type 0) (meansX : X → List Var → List ℤ
+pub record Chain {X Y : Type 0} (spell_x : X → List Lexeme) (EndsX : List Lexeme → Type 0) (means_x : X → List Var → List ℤ
     → Option Bool)
-    (spellY : Y → List Lexeme) (EndsY : List Lexeme → Type 0) (meansY : Y → List Var → List ℤ → Option Bool)
+    (spell_y : Y → List Lexeme) (EndsY : List Lexeme → Type 0) (means_y : Y → List Var → List ℤ → Option Bool)
     (m : Mark) (op : Bool → Bool → Bool) (unit : Bool) : Type 0 where
   -- one item, or an item, the mark and a chain
   split :
       (y : Y)
-      → ((x : X) × (spellY y ≡ spellX x) × (meansY y ≡ meansX x))
-      ⊎ ((x : X) × (z : Y) × (spellY y ≡ spellX x ++ (mark m ∷ spellY z))
-      × ((vs : List Var) (as' : List ℤ) → meansY y vs as' ≡ of_both op (meansX x vs as') (meansY z vs as')))
+      → ((x : X) × (spell_y y ≡ spell_x x) × (means_y y ≡ means_x x))
+      ⊎ ((x : X) × (z : Y) × (spell_y y ≡ spell_x x ++ (mark m ∷ spell_y z))
+      × ((vs : List Var) (as' : List ℤ) → means_y y vs as' ≡ of_both op (means_x x vs as') (means_y z vs as')))
   item_ends : (us : List Lexeme) → EndsY us → EndsX us
   no_mark : (us : List Lexeme) → EndsY us → front_kind us ≡ kind_of (mark m) → ⊥
   mark_ends : (us : List Lexeme) → EndsX (mark m ∷ us)
@@ -693,7 +693,7 @@ cond_chain = record {
 
 -- a chain from a place, of which the item at another comes next: what is read there, joined with what is held, is the
 -- whole
-pub record Linked {Y : Type 0} (spellY : Y → List Lexeme) (EndsY : List Lexeme → Type 0) (meansY : Y → List Var → List ℤ
+pub record Linked {Y : Type 0} (spell_y : Y → List Lexeme) (EndsY : List Lexeme → Type 0) (means_y : Y → List Var → List ℤ
     → Option Bool)
     (op : Bool → Bool → Bool) (ks values vars : List ℕ) (at : ℕ) (holds : List Bool) (lacks place : ℕ) : Type 0 where
   pub from : at ≤ place
@@ -701,22 +701,22 @@ pub record Linked {Y : Type 0} (spellY : Y → List Lexeme) (EndsY : List Lexeme
   pub whole :
       (j : ℕ) → j < 16 → (vs : List Var) (as' : List ℤ) (ls us : List Lexeme) (y : Y) → Codes vs ls ks values
       → Biased vs as' (lane vars j)
-      → drop at ls ≡ spellY y ++ us → EndsY us
-      → (z : Y) × (meansY y vs as' ≡ of_both op (given (member lacks j) (get_or holds j false)) (meansY z vs as'))
-      × (drop place ls ≡ spellY z ++ us)
+      → drop at ls ≡ spell_y y ++ us → EndsY us
+      → (z : Y) × (means_y y vs as' ≡ of_both op (given (member lacks j) (get_or holds j false)) (means_y z vs as'))
+      × (drop place ls ≡ spell_y z ++ us)
 
-module _ {X Y : Type 0} {spellX : X → List Lexeme} {EndsX : List Lexeme → Type 0} {meansX : X → List Var → List ℤ
+module _ {X Y : Type 0} {spell_x : X → List Lexeme} {EndsX : List Lexeme → Type 0} {means_x : X → List Var → List ℤ
     → Option Bool}
-    {spellY : Y → List Lexeme} {EndsY : List Lexeme → Type 0} {meansY : Y → List Var → List ℤ → Option Bool} {m : Mark}
+    {spell_y : Y → List Lexeme} {EndsY : List Lexeme → Type 0} {means_y : Y → List Var → List ℤ → Option Bool} {m : Mark}
     {op : Bool → Bool → Bool} {unit : Bool}
-    (chain : Chain spellX EndsX meansX spellY EndsY meansY m op unit) {ks values vars : List ℕ} where
+    (chain : Chain spell_x EndsX means_x spell_y EndsY means_y m op unit) {ks values vars : List ℕ} where
   -- before the first item
-  pub chain_first : {at : ℕ} → at ≤ length ks → Linked spellY EndsY meansY op ks values vars at (replicate 16 unit) 0 at
+  pub chain_first : {at : ℕ} → at ≤ length ks → Linked spell_y EndsY means_y op ks values vars at (replicate 16 unit) 0 at
   unfolding of_both
   chain_first within = record {
     from = omega arith;
     to = within;
-    whole = λ j l vs as' ls us y codes biased e ends. (y, sym (start j l (meansY y vs as')), e);
+    whole = λ j l vs as' ls us y codes biased e ends. (y, sym (start j l (means_y y vs as')), e);
   }
     where
       start : (j : ℕ) → j < 16 → (t : Option Bool)
@@ -726,12 +726,12 @@ module _ {X Y : Type 0} {spellX : X → List Lexeme} {EndsX : List Lexeme → Ty
           ∙ of_same (op unit) chain.unit_first t
 
   module _ {at n place lacks lacks' either : ℕ} {holds holds' both : List Bool}
-      (linked : Linked spellY EndsY meansY op ks values vars at holds lacks place)
-      (item : Truths spellX EndsX meansX ks values vars place holds' lacks' n)
+      (linked : Linked spell_y EndsY means_y op ks values vars at holds lacks place)
+      (item : Truths spell_x EndsX means_x ks values vars place holds' lacks' n)
       (joins : (j : ℕ) → j < 16 → get_or both j false ≡ op (get_or holds j false) (get_or holds' j false))
       (lack : (u : ℕ) → member either u ≡ member lacks u || member lacks' u) where
     -- no mark behind the item
-    pub chain_last : (get_or ks n no_kind ≡ kind_of (mark m) → ⊥) → Truths spellY EndsY meansY ks values vars at both either n
+    pub chain_last : (get_or ks n no_kind ≡ kind_of (mark m) → ⊥) → Truths spell_y EndsY means_y ks values vars at both either n
     unfolding front_kind kind_of
     chain_last none = record {
       from = omega (arith, linked.from, item.from);
@@ -746,16 +746,16 @@ module _ {X Y : Type 0} {spellX : X → List Lexeme} {EndsX : List Lexeme → Ty
                 ∙ given_as (sym (lack j)) (sym (joins j l)),
             one.1,
           ))
-          (λ t. let one = item.reads j l vs as' ls (mark m ∷ (spellY t.1 ++ us)) t.0 codes biased
-          (here ∙ ap (λ z. z ++ us) t.2 ∙ append_assoc (spellX t.0) (mark m ∷ spellY t.1) us)
-          (chain.mark_ends (spellY t.1 ++ us)) in
+          (λ t. let one = item.reads j l vs as' ls (mark m ∷ (spell_y t.1 ++ us)) t.0 codes biased
+          (here ∙ ap (λ z. z ++ us) t.2 ∙ append_assoc (spell_x t.0) (mark m ∷ spell_y t.1) us)
+          (chain.mark_ends (spell_y t.1 ++ us)) in
           absurd (none (sym (front_is codes n refl one.1))))
           (chain.split z);
     }
 
     -- the mark, and more behind it
     pub chain_more : {r : ℕ} → get_or ks n no_kind ≡ kind_of (mark m) → Next ks n r
-        → Linked spellY EndsY meansY op ks values vars at both either r
+        → Linked spell_y EndsY means_y op ks values vars at both either r
     chain_more kind next = record {
       from = omega (arith, linked.from, item.from, next.from);
       to = next.to;
@@ -765,15 +765,15 @@ module _ {X Y : Type 0} {spellX : X → List Lexeme} {EndsX : List Lexeme → Ty
           (λ t. let one = item.reads j l vs as' ls us t.0 codes biased (here ∙ ap (λ z. z ++ us) t.1)
           (chain.item_ends us ends) in
           absurd (chain.no_mark us ends (front_is codes n kind one.1)))
-          (λ t. let one = item.reads j l vs as' ls (mark m ∷ (spellY t.1 ++ us)) t.0 codes biased
-          (here ∙ ap (λ z. z ++ us) t.2 ∙ append_assoc (spellX t.0) (mark m ∷ spellY t.1) us)
-          (chain.mark_ends (spellY t.1 ++ us)) in (
+          (λ t. let one = item.reads j l vs as' ls (mark m ∷ (spell_y t.1 ++ us)) t.0 codes biased
+          (here ∙ ap (λ z. z ++ us) t.2 ∙ append_assoc (spell_x t.0) (mark m ∷ spell_y t.1) us)
+          (chain.mark_ends (spell_y t.1 ++ us)) in (
             t.1,
             means ∙ ap (of_both op (given (member lacks j) (get_or holds j false)))
-                (t.3 vs as' ∙ ap (λ z. of_both op z (meansY t.1 vs as')) one.0)
+                (t.3 vs as' ∙ ap (λ z. of_both op z (means_y t.1 vs as')) one.0)
                 ∙ of_chain op chain.assoc (member lacks j) (member lacks' j) (get_or holds j false)
-                (get_or holds' j false) (meansY t.1 vs as')
-                ∙ ap (λ s. of_both op s (meansY t.1 vs as')) (given_as (sym (lack j)) (sym (joins j l))),
+                (get_or holds' j false) (means_y t.1 vs as')
+                ∙ ap (λ s. of_both op s (means_y t.1 vs as')) (given_as (sym (lack j)) (sym (joins j l))),
             behind codes next one.1,
           ))
           (chain.split z);

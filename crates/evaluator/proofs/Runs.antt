@@ -140,7 +140,7 @@ module _ {ks values lows highs vars : List ℕ} {on : List Bool} where
           (then_runs vs (get_or ok j false) (get_or ok' j false) (lane held j) (lane held' j)
           (cond (get_or on j false) (run_stmt s vs as') (some as'))
           (λ bs. cond (get_or on j false) (run_block b vs bs) (some bs)) t.0
-          (λ bs held-so. rest.runs j l vs bs ls us b codes held-so ranges t.1) (joins j l))
+          (λ bs held_so. rest.runs j l vs bs ls us b codes held_so ranges t.1) (joins j l))
 
 -- A block begun: what is run from the place on, behind what ran without a fault so far, is the whole run
 

@@ -109,7 +109,7 @@ module _ (m : Monitor) (r : Settled) (kept holds after : List ℕ) {x : Broken} 
   pub settled_0 : x ≡ Never → (r.answer.number ≡ 0) × (r.answer.first ≡ 0) × (r.answer.second ≡ 0)
       → Settles m r kept holds after
   settled_0 e (p, q, s) =
-      let none-stops = passed (broken m) a e in
+      let none_stops = passed (broken m) a e in
       record {
         breaks = λ i j h. different (cc);
         passes = λ h. (record { number = p; first = q; second = s }, after_all m after full.outcomes h);

@@ -20,7 +20,7 @@ use Rattle.lanes.specs.Adding.{Settled, Carried}
 
 -- One digit
 
-module _ (s c n : ℕ) (s-pos : 0 < s) (c_pos : 0 < c) where
+module _ (s c n : ℕ) (s_pos : 0 < s) (c_pos : 0 < c) where
   -- a digit and what is added to it are a digit and what goes over
   pub digit_sum : (m : ℕ) → n % (s * c) / c + (n % c + m) / c ≡ (n % (s * c) + m) / (s * c) * s + (n + m) % (s * c) / c
   digit_sum m =
@@ -35,7 +35,7 @@ module _ (s c n : ℕ) (s-pos : 0 < s) (c_pos : 0 < c) where
       ∙ mul-add-div_right c_pos ((r + m) / w * s) ((n + m) % w)
 
   pub digit_below : n % (s * c) / c < s
-  digit_below = (div-lt_iff_lt-mul c_pos).1 (mod-lt n (mul-pos s-pos c_pos))
+  digit_below = (div-lt_iff_lt-mul c_pos).1 (mod-lt n (mul-pos s_pos c_pos))
 
 -- a number has one quotient and one remainder
 pub one_quotient : (s q r q' r' : ℕ) → q * s + r ≡ q' * s + r' → r < s → r' < s → q ≡ q'
@@ -77,18 +77,18 @@ pub settle_digit : (s low high x rest c here before sum v c' q d : ℕ) → low 
     → rest ≡ before * s + here → here < s → sum ≡ low + x + here + c
     → x + (rest + c) ≡ q * s + d → d < s
     → Settled sum high s v → Carried sum high c' → (v ≡ low + d) × (before + c' ≡ q)
-settle_digit s low high x rest c here before sum v c' q d range x-less one whole here_less is total d-less settled
+settle_digit s low high x rest c here before sum v c' q d range x_less one whole here_less is total d_less settled
     carried =
     split (ltb high sum)
     (λ t. let past = ltb-true high sum t in
     let y = x + here + c - s in
     let over : suc before * s + y ≡ q * s + d = omega (arith, suc-mul before s) in
-    let same = one_remainder s (suc before) y q d over (omega arith) d-less in
-    let carry = one_quotient s (suc before) y q d over (omega arith) d-less in
+    let same = one_remainder s (suc before) y q d over (omega arith) d_less in
+    let carry = one_quotient s (suc before) y q d over (omega arith) d_less in
     (omega (arith, settled.past past), omega (arith, carried.past past)))
     (λ t. let within = ltb-false high sum t in
     let y = x + here + c in
     let over : before * s + y ≡ q * s + d = omega arith in
-    let same = one_remainder s before y q d over (omega arith) d-less in
-    let carry = one_quotient s before y q d over (omega arith) d-less in
+    let same = one_remainder s before y q d over (omega arith) d_less in
+    let carry = one_quotient s before y q d over (omega arith) d_less in
     (omega (arith, settled.within within), omega (arith, carried.within within)))

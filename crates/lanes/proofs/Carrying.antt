@@ -198,7 +198,7 @@ module _ {b : Bounds} {lanes values : List ℕ} {changed : ℕ} {carry : List �
             let p = place bounded.ranges bounded.good k (inside vs j n bounded h low held) in
             let value = old vs j n bounded h low held in
             let below = digit_less vs n k p.var p.left in
-            let carry-none = g.none no.1 j h in
+            let carry_none = g.none no.1 j h in
             let within : sum_at values (k * 16) carry part.here j ≤ get_or b.highs k 0 % 4096 =
             omega (arith, p.ordered, p.high_small, p.sized) in
             let next = lane_next vs j n bounded h low held (get_or values (k * 16 + j) 0) (get_or carry j 0)
@@ -206,7 +206,7 @@ module _ {b : Bounds} {lanes values : List ℕ} {changed : ℕ} {carry : List �
               within = λ _. omega (arith, p.ordered, p.high_small, p.sized);
               past = λ l. absurd (omega arith);
             })
-            (record { within = λ _. carry-none; past = λ l. absurd (omega arith) }) in
+            (record { within = λ _. carry_none; past = λ l. absurd (omega arith) }) in
             record {
               done = λ i l f.
                   split_eq i k (λ e. rw e next.0)

@@ -11,11 +11,11 @@ pub lane_is : (xs values : List ℕ) (j : ℕ) → length values ≡ 6
     → lane xs j ≡ values
 unfolding lane
 lane_is xs (a ∷ b ∷ c ∷ d ∷ e ∷ f ∷ []) j six h =
-    let at-0 = h 0 (omega arith) j (omega arith) in
+    let at_0 = h 0 (omega arith) j (omega arith) in
     let at_1 = h 1 (omega arith) (16 + j) (omega arith) in
-    let at-2 = h 2 (omega arith) (32 + j) (omega arith) in
-    let at-3 = h 3 (omega arith) (48 + j) (omega arith) in
-    let at-4 = h 4 (omega arith) (64 + j) (omega arith) in
+    let at_2 = h 2 (omega arith) (32 + j) (omega arith) in
+    let at_3 = h 3 (omega arith) (48 + j) (omega arith) in
+    let at_4 = h 4 (omega arith) (64 + j) (omega arith) in
     let at_5 = h 5 (omega arith) (80 + j) (omega arith) in
     cc
 lane_is xs [] j six h = absurd (omega arith)

@@ -115,9 +115,9 @@ module _ (m : Monitor) (ls : List Lexeme) (kinds : List ℕ) (are : Kinds ls kin
         → TriesLaid m ls record { count = count; ats = ats; next = i }
     unfolding each
     tries_over other =
-        let all-passed = passed in
+        let all_passed = passed in
         record {
-          count = all-passed;
+          count = all_passed;
           stand = λ k h. a.stand k (omega arith);
           next = a.ahead ∙ ap (tries_ahead m) (drop_of_length-le m.tries {i = count} (omega arith));
         }

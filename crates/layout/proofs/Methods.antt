@@ -29,14 +29,14 @@ kind_within (x ∷ ks) (suc i) l h = let r = kind_within ks i l h in omega arith
 abbrev pub regions_ahead : List Region → List Lexeme → List Lexeme
 regions_ahead qs us = each spell_region qs ++ (mark rbrace ∷ us)
 
-pub record Ahead (ls : List Lexeme) (before : List Flagged) (all-qs : List Region) (us : List Lexeme) (l : Layout)
+pub record Ahead (ls : List Lexeme) (before : List Flagged) (all_qs : List Region) (us : List Lexeme) (l : Layout)
     (i b : ℕ) : Type 0 where
   pub done : List Flagged
   pub qs : List Region
   pub holds : Holds ls done l
   pub few : length done + length qs ≤ 16
   pub stands : drop i ls ≡ regions_ahead qs us
-  pub whole : done ++ flag_regions b qs ≡ before ++ flag_regions 1 all-qs
+  pub whole : done ++ flag_regions b qs ≡ before ++ flag_regions 1 all_qs
 
 pub ahead_start : (ls : List Lexeme) (before : List Flagged) (qs : List Region) (us : List Lexeme) (l : Layout) (i : ℕ)
     → Holds ls before l → length before + length qs ≤ 16 → drop i ls ≡ regions_ahead qs us → Ahead ls before qs us l i 1
@@ -63,7 +63,7 @@ flag_ahead (q ∷ qs) us = refl
 
 module _ {file : List ℕ} {ts : List Token} {kinds values places : List ℕ}
     (words : Words file ts kinds values places) where
-  module _ (before : List Flagged) (all-qs : List Region) (us : List Lexeme) where
+  module _ (before : List Flagged) (all_qs : List Region) (us : List Lexeme) where
     -- at `waituntil` there is a region ahead
     no_region_lem : {C : Type 0} (i : ℕ) → drop i (lexemes ts) ≡ regions_ahead [] us
         → get_or kinds i no_kind ≡ kind_of (key k_waituntil) → C
@@ -75,10 +75,10 @@ module _ {file : List ℕ} {ts : List Token} {kinds values places : List ℕ}
 
     turn : (l : Layout) (i b : ℕ) (s : Spot) (done : List Flagged) (qs : List Region) → Holds (lexemes ts) done l
         → length done + length qs ≤ 16
-        → drop i (lexemes ts) ≡ regions_ahead qs us → done ++ flag_regions b qs ≡ before ++ flag_regions 1 all-qs
+        → drop i (lexemes ts) ≡ regions_ahead qs us → done ++ flag_regions b qs ≡ before ++ flag_regions 1 all_qs
         → length ts ≤ 1024
         → get_or kinds i no_kind ≡ kind_of (key k_waituntil) → AddsRegion file kinds values places l i b s
-        → Ahead (lexemes ts) before all-qs us s.layout s.at 0
+        → Ahead (lexemes ts) before all_qs us s.layout s.at 0
     unfolding flag_regions
     turn l i b s done [] h f stands whole small kind adds = no_region_lem i stands kind
     turn l i b s done (q ∷ qs) h f stands whole small kind adds =
@@ -96,9 +96,9 @@ module _ {file : List ℕ} {ts : List Token} {kinds values places : List ℕ}
           whole = append_assoc done (item ∷ []) (flag_regions 0 qs) ∙ whole;
         }
 
-    pub ahead_turn : (l : Layout) (i b : ℕ) (s : Spot) → Ahead (lexemes ts) before all-qs us l i b → length ts ≤ 1024
+    pub ahead_turn : (l : Layout) (i b : ℕ) (s : Spot) → Ahead (lexemes ts) before all_qs us l i b → length ts ≤ 1024
         → get_or kinds i no_kind ≡ kind_of (key k_waituntil) → AddsRegion file kinds values places l i b s
-        → Ahead (lexemes ts) before all-qs us s.layout s.at 0
+        → Ahead (lexemes ts) before all_qs us s.layout s.at 0
     ahead_turn l i b s a = turn l i b s a.done a.qs a.holds a.few a.stands a.whole
 
     full : {C : Type 0} (l : Layout) (i : ℕ) (done : List Flagged) (qs : List Region) → Holds (lexemes ts) done l
@@ -109,34 +109,34 @@ module _ {file : List ℕ} {ts : List Token} {kinds values places : List ℕ}
     full l i done (q ∷ qs) h f stands kind many = absurd (omega (arith, h.count))
 
     -- a layout that is full has no region ahead
-    pub ahead_full : {C : Type 0} (l : Layout) (i b : ℕ) → Ahead (lexemes ts) before all-qs us l i b
+    pub ahead_full : {C : Type 0} (l : Layout) (i b : ℕ) → Ahead (lexemes ts) before all_qs us l i b
         → get_or kinds i no_kind ≡ kind_of (key k_waituntil) → 16 ≤ l.regions → C
     ahead_full l i b a = full l i a.done a.qs a.holds a.few a.stands
 
     over : (l : Layout) (i b : ℕ) (done : List Flagged) (qs : List Region) → Holds (lexemes ts) done l
-        → drop i (lexemes ts) ≡ regions_ahead qs us → done ++ flag_regions b qs ≡ before ++ flag_regions 1 all-qs
+        → drop i (lexemes ts) ≡ regions_ahead qs us → done ++ flag_regions b qs ≡ before ++ flag_regions 1 all_qs
         → (get_or kinds i no_kind ≡ kind_of (key k_waituntil) → ⊥)
-        → Reached (lexemes ts) (before ++ flag_regions 1 all-qs) (mark rbrace ∷ us) record { layout = l; at = i }
+        → Reached (lexemes ts) (before ++ flag_regions 1 all_qs) (mark rbrace ∷ us) record { layout = l; at = i }
     unfolding flag_regions each
     over l i b done [] h stands whole n = rw (sym whole, append-nil done) (record { holds = h; behind = stands })
     over l i b done (q ∷ qs) h stands whole n =
         absurd (n (kind_behind words i _ stands ∙ kind_of_region q qs us))
 
-    pub ahead_over : (l : Layout) (i b : ℕ) → Ahead (lexemes ts) before all-qs us l i b
+    pub ahead_over : (l : Layout) (i b : ℕ) → Ahead (lexemes ts) before all_qs us l i b
         → (get_or kinds i no_kind ≡ kind_of (key k_waituntil) → ⊥)
-        → Reached (lexemes ts) (before ++ flag_regions 1 all-qs) (mark rbrace ∷ us) record { layout = l; at = i }
+        → Reached (lexemes ts) (before ++ flag_regions 1 all_qs) (mark rbrace ∷ us) record { layout = l; at = i }
     ahead_over l i b a = over l i b a.done a.qs a.holds a.stands a.whole
 
 -- what is ahead in a file
 abbrev pub methods_ahead : List Method → List Lexeme
 methods_ahead ms = each spell_method ms ++ (mark rbrace ∷ [])
 
-pub record AheadAll (ls : List Lexeme) (all-ms : List Method) (l : Layout) (i : ℕ) : Type 0 where
+pub record AheadAll (ls : List Lexeme) (all_ms : List Method) (l : Layout) (i : ℕ) : Type 0 where
   pub done : List Flagged
   pub ms : List Method
   pub holds : Holds ls done l
   pub stands : drop i ls ≡ methods_ahead ms
-  pub whole : done ++ flagged ms ≡ flagged all-ms
+  pub whole : done ++ flagged ms ≡ flagged all_ms
 
 pub all_start : (ls : List Lexeme) (ms : List Method) (l : Layout) (i : ℕ) → Holds ls [] l → drop i ls ≡ methods_ahead ms
     → AheadAll ls ms l i
@@ -166,12 +166,12 @@ flag_count b (q ∷ qs) = ap suc (flag_count 0 qs)
 
 module _ {file : List ℕ} {ts : List Token} {kinds values places : List ℕ} (words : Words file ts kinds values places)
     (small : length ts ≤ 1024)
-    (all-ms : List Method) (few : length (flagged all-ms) ≤ 16) where
+    (all_ms : List Method) (few : length (flagged all_ms) ≤ 16) where
   turn_all : (l : Layout) (i : ℕ) (s : Spot) (done : List Flagged) (ms : List Method) → Holds (lexemes ts) done l
-      → drop i (lexemes ts) ≡ methods_ahead ms → done ++ flagged ms ≡ flagged all-ms → get_or kinds i no_kind
+      → drop i (lexemes ts) ≡ methods_ahead ms → done ++ flagged ms ≡ flagged all_ms → get_or kinds i no_kind
       ≡ kind_of (key k_method)
       → AddsMethod file kinds values places l (i + to_regions) s
-      → AheadAll (lexemes ts) all-ms s.layout (s.at + past)
+      → AheadAll (lexemes ts) all_ms s.layout (s.at + past)
   unfolding flagged kind_of mark_number keyword_number
   turn_all l i s done [] h stands whole kind adds =
       let e = kind_behind words i _ stands in
@@ -192,21 +192,21 @@ module _ {file : List ℕ} {ts : List Token} {kinds values places : List ℕ} (w
         whole = append_assoc done (flag_regions 1 qs) (flagged ms) ∙ whole;
       }
 
-  pub all_turn : (l : Layout) (i : ℕ) (s : Spot) → AheadAll (lexemes ts) all-ms l i → get_or kinds i no_kind
+  pub all_turn : (l : Layout) (i : ℕ) (s : Spot) → AheadAll (lexemes ts) all_ms l i → get_or kinds i no_kind
       ≡ kind_of (key k_method)
       → AddsMethod file kinds values places l (i + to_regions) s
-      → AheadAll (lexemes ts) all-ms s.layout (s.at + past)
+      → AheadAll (lexemes ts) all_ms s.layout (s.at + past)
   all_turn l i s a = turn_all l i s a.done a.ms a.holds a.stands a.whole
 
   over_all : (l : Layout) (i : ℕ) (done : List Flagged) (ms : List Method) → Holds (lexemes ts) done l
-      → drop i (lexemes ts) ≡ methods_ahead ms → done ++ flagged ms ≡ flagged all-ms
+      → drop i (lexemes ts) ≡ methods_ahead ms → done ++ flagged ms ≡ flagged all_ms
       → (get_or kinds i no_kind ≡ kind_of (key k_method) → ⊥)
-      → Holds (lexemes ts) (flagged all-ms) l
+      → Holds (lexemes ts) (flagged all_ms) l
   unfolding flagged
   over_all l i done [] h stands whole n = rw (sym whole, append-nil done) h
   over_all l i done (x ∷ ms) h stands whole n =
       absurd (n (kind_behind words i _ stands ∙ kind_of_method x ms))
 
-  pub all_over : (l : Layout) (i : ℕ) → AheadAll (lexemes ts) all-ms l i
-      → (get_or kinds i no_kind ≡ kind_of (key k_method) → ⊥) → Holds (lexemes ts) (flagged all-ms) l
+  pub all_over : (l : Layout) (i : ℕ) → AheadAll (lexemes ts) all_ms l i
+      → (get_or kinds i no_kind ≡ kind_of (key k_method) → ⊥) → Holds (lexemes ts) (flagged all_ms) l
   all_over l i a = over_all l i a.done a.ms a.holds a.stands a.whole

@@ -196,7 +196,7 @@ module _ (ls : List Lexeme) (done : List Flagged) (f : Flagged) (l : Layout) (ro
       let outside : length (found done) ≤ place_in c (found done) = omega arith in
       let few = room.few_guards in
       let whole = room.arrays.firsts_whole in
-      let regions-are = holds.count in
+      let regions_are = holds.count in
       let room_there : l.guards < length l.firsts = omega arith in
       grown (found done ++ (c ∷ [])) (last_new done f outside)
       (λ d k. (place_append d (found done) (c ∷ []) k, found_append d (found done) (c ∷ []) k))
@@ -213,7 +213,7 @@ module _ (ls : List Lexeme) (done : List Flagged) (f : Flagged) (l : Layout) (ro
       rw (
         same,
         get_or-set_same l.firsts l.guards l.regions 0 room_there,
-        regions-are,
+        regions_are,
         get_or-append_seam done f [] no_flagged,
       )
       (place_last c (found done) outside ∙ sym count))
@@ -243,9 +243,9 @@ guard_arrays l a =
     }
 
 room_region : (l : Layout) → Arrays l → l.regions < 16 → l.guards ≤ l.regions + 1
-    → (guard_at body_at number begins goes-on : ℕ)
-    → Room (with_region l guard_at body_at number begins goes-on)
-room_region l a low few guard_at body_at number begins goes-on =
+    → (guard_at body_at number begins going_on : ℕ)
+    → Room (with_region l guard_at body_at number begins going_on)
+room_region l a low few guard_at body_at number begins going_on =
     record {
       few_regions = omega arith;
       few_guards = few;
@@ -254,7 +254,7 @@ room_region l a low few guard_at body_at number begins goes-on =
         bodies_whole = length-set l.bodies_at l.regions body_at ∙ a.bodies_whole;
         numbers_whole = length-set l.guard_of l.regions number ∙ a.numbers_whole;
         begins_whole = length-set l.begins l.regions begins ∙ a.begins_whole;
-        goes_on_whole = length-set l.goes_on l.regions goes-on ∙ a.goes_on_whole;
+        goes_on_whole = length-set l.goes_on l.regions going_on ∙ a.goes_on_whole;
         firsts_whole = a.firsts_whole;
       };
     }
@@ -263,14 +263,14 @@ module _ (l k : Layout) (n : ℕ) (numbered : Numbered l n k) where
   pub numbered_same : (k.regions ≡ l.regions) × (k.keep ≡ l.keep)
   numbered_same = ⊎_elim (λ w. rw w.1 (refl, refl)) (λ w. rw w.1 (refl, refl)) numbered
 
-  pub numbered_room : Room l → l.regions < 16 → (guard_at body_at number begins goes-on : ℕ)
-      → Room (with_region k guard_at body_at number begins goes-on)
-  numbered_room room low guard_at body_at number begins goes-on =
+  pub numbered_room : Room l → l.regions < 16 → (guard_at body_at number begins going_on : ℕ)
+      → Room (with_region k guard_at body_at number begins going_on)
+  numbered_room room low guard_at body_at number begins going_on =
       let few = room.few_guards in
       ⊎_elim
       (λ w. rw w.1 (room_region (with_guard l) (guard_arrays l room.arrays) low
-      (omega arith) guard_at body_at number begins goes-on))
-      (λ w. rw w.1 (room_region l room.arrays low (omega arith) guard_at body_at number begins goes-on))
+      (omega arith) guard_at body_at number begins going_on))
+      (λ w. rw w.1 (room_region l room.arrays low (omega arith) guard_at body_at number begins going_on))
       numbered
 
   pub numbered_holds : (ls : List Lexeme) (done : List Flagged) (f : Flagged) → Room l → Holds ls done l

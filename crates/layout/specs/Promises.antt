@@ -125,7 +125,7 @@ with_guard l =
 
 -- one region more
 abbrev pub with_region : Layout → ℕ → ℕ → ℕ → ℕ → ℕ → Layout
-with_region l guard_at body_at number begins goes-on =
+with_region l guard_at body_at number begins going_on =
     record {
       keep = l.keep;
       regions = l.regions + 1;
@@ -134,7 +134,7 @@ with_region l guard_at body_at number begins goes-on =
       bodies_at = set l.bodies_at l.regions body_at;
       guard_of = set l.guard_of l.regions number;
       begins = set l.begins l.regions begins;
-      goes_on = set l.goes_on l.regions goes-on;
+      goes_on = set l.goes_on l.regions going_on;
       firsts = l.firsts;
     }
 

@@ -197,7 +197,7 @@ module _ {file : List ℕ} {ts : List Token} {kinds values places : List ℕ} (w
   module _ (l : Layout) (t : Tries) (n : Mentions) (pairs : ℕ) (r : Settled) (kept holds after : List ℕ)
       {linked : List ℕ} (f : Filling m (lexemes ts) kinds linked j.bounds l t) (named : mentions.Mentioned m n)
       (counts : l.regions ≤ 16 → pairs ≡ sum_of l.regions (λ q. size (get_or n.touched q 0) 16))
-      {place : ℕ} (at-keep : place ≡ get_or places j.keep 0) (valued : unvalued (vars m) false ts ≡ none) (filled : Filled m place r kept holds after) where
+      {place : ℕ} (at_keep : place ≡ get_or places j.keep 0) (valued : unvalued (vars m) false ts ≡ none) (filled : Filled m place r kept holds after) where
     abbrev loaded : Loaded
     loaded =
         record {
@@ -267,7 +267,7 @@ module _ {file : List ℕ} {ts : List Token} {kinds values places : List ℕ} (w
         split (kept_at m (starts (vars m))) (λ on. go on (broken m) refl)
         (λ off. refuses (says_8 w p.uncrowded m p.grammar p.counts p.names p.ranges valued
         j.keep p.keep_stands off)
-        (rw at-keep at (filled.fails off)))
+        (rw at_keep at (filled.fails off)))
       where
         go : kept_at m (starts (vars m)) ≡ true → (o : Option (ℕ × ℕ)) → broken m ≡ o
             → Loads file loaded kept holds after

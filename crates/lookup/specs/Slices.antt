@@ -15,9 +15,9 @@ move_by true false to = never_mark
 move_by false g to = never_mark
 
 unfoldable pub move_in : ℕ → List ℕ → Bool → ℕ → List ℕ → ℕ → ℕ → ℕ
-move_in regions guard-of kept holds after n r =
+move_in regions guard_of kept holds after n r =
     elim (ltb r regions) [
-      | true ↦ move_by kept (member holds (get_or guard-of r 0)) (get_or after (r * most_states + n) 0)
+      | true ↦ move_by kept (member holds (get_or guard_of r 0)) (get_or after (r * most_states + n) 0)
       | false ↦ never_mark
     ]
 

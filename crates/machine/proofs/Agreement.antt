@@ -23,9 +23,9 @@ use Rattle.machine.proofs.Simulation.{Result, same_refusal, at_recheck, same_poi
 use Rattle.machine.specs.Agreement.{AgreeOn, Agrees, SamePoint, answer, plain_run, table_run}
 
 agree_point :
-    {m : Monitor} {bc : ℕ → Bool} {s : ℕ} {p : Threads} {nP nT : ℕ → Bool} → Agree m bc s p nP nT
-    → SamePoint m (at s p nP) (at s p nT)
-agree_point {m} {bc} {s} {p} {nP} {nT} ag = record {
+    {m : Monitor} {bc : ℕ → Bool} {s : ℕ} {p : Threads} {nP n_t : ℕ → Bool} → Agree m bc s p nP n_t
+    → SamePoint m (at s p nP) (at s p n_t)
+agree_point {m} {bc} {s} {p} {nP} {n_t} ag = record {
   same_state = refl;
   same_threads = refl;
   is_kept = ag.plain.is_kept;
@@ -46,27 +46,27 @@ result_point :
     → (c : Config) → y ≡ accepted c → (d : Config) × (x ≡ accepted d) × SamePoint m d c
 result_point same_refusal c e = let z : ◌≡◌ {A = ℕ} 0 1 = cc in absurd (omega arith)
 result_point (at_recheck i z r) c e = let z : ◌≡◌ {A = ℕ} 0 1 = cc in absurd (omega arith)
-result_point {m} (same_point {s} {p} {nP} {nT} ag) c e =
-    let z : at s p nT ≡ c = cc in (at s p nP, refl, subst (SamePoint m (at s p nP)) z (agree_point ag))
+result_point {m} (same_point {s} {p} {nP} {n_t} ag) c e =
+    let z : at s p n_t ≡ c = cc in (at s p nP, refl, subst (SamePoint m (at s p nP)) z (agree_point ag))
 
 result_table :
     {m : Monitor} {bc began : ℕ → Bool} {fs : List Frame} {x y : Run} → Result m bc began fs 0 x y
     → (c : Config) → y ≡ accepted c → TablePoint m bc c.state c.threads c.notified
 result_table same_refusal c e = let z : ◌≡◌ {A = ℕ} 0 1 = cc in absurd (omega arith)
 result_table (at_recheck i z r) c e = let z : ◌≡◌ {A = ℕ} 0 1 = cc in absurd (omega arith)
-result_table {m} {bc} (same_point {s} {p} {nP} {nT} ag) c e =
-    let z : at s p nT ≡ c = cc in
+result_table {m} {bc} (same_point {s} {p} {nP} {n_t} ag) c e =
+    let z : at s p n_t ≡ c = cc in
     subst (λ (d : Config). TablePoint m bc d.state d.threads d.notified) z ag.table
 
 -- from any two points in the relation, and for any table that is so placed
 pub agree_from :
     (m : Monitor) → Checked m → (e : ℕ → ℕ → Entry) (bc : ℕ → Bool) → Placed m e bc
-    → (s : ℕ) (p : Threads) (nP nT : ℕ → Bool) → Agree m bc s p nP nT → (fs : List Frame)
-    → AgreeOn m (run m (plain_told m) 0 (at s p nP)) (run m (table_told m e) 0 (at s p nT))
-    (RecheckFrom (waiters (at s p nT))) fs
-agree_from m ok e bc placed s p nP nT ag fs = record {
-  same_answer = result_answer (run_agree m ok e bc placed fs 0 s p nP nT ag);
-  every_point = λ n _ c h. result_point (run_agree m ok e bc placed (take n fs) 0 s p nP nT ag) c h;
+    → (s : ℕ) (p : Threads) (nP n_t : ℕ → Bool) → Agree m bc s p nP n_t → (fs : List Frame)
+    → AgreeOn m (run m (plain_told m) 0 (at s p nP)) (run m (table_told m e) 0 (at s p n_t))
+    (RecheckFrom (waiters (at s p n_t))) fs
+agree_from m ok e bc placed s p nP n_t ag fs = record {
+  same_answer = result_answer (run_agree m ok e bc placed fs 0 s p nP n_t ag);
+  every_point = λ n _ c h. result_point (run_agree m ok e bc placed (take n fs) 0 s p nP n_t ag) c h;
 }
 
 pub agrees : (m : Monitor) → Checked m → Agrees m

@@ -24,10 +24,10 @@ use Rattle.machine.proofs.Order.{began_line_own, left_line, line_waits, front_wa
 use Rattle.machine.proofs.Order.{first_notified_iff}
 use Rattle.machine.proofs.RulesDecided.{plain_decides, table_decides}
 use Rattle.machine.proofs.Points.{Placed, entries_placed, PlainPoint, Agree, idle_plain, idle_agree}
-use Rattle.machine.proofs.Points.{resumes as may-resume}
+use Rattle.machine.proofs.Points.{resumes as may_resume}
 use Rattle.machine.proofs.Reached.{idle_lined, rule_lined}
 use Rattle.machine.proofs.Turns.{line_iff, line_once, line_ahead}
-use Rattle.machine.proofs.Simulation.{own_region, at, PlainGoesOn, goes_on as plain-goes-on, Match}
+use Rattle.machine.proofs.Simulation.{own_region, at, PlainGoesOn, goes_on as plain_goes_on, Match}
 use Rattle.machine.proofs.Simulation.{both_move, step_plain, step_agree}
 
 -- What a frame does to the line on a guard
@@ -102,7 +102,7 @@ module _ (m : Monitor) (notices : Notices) where
       front : Front (line m c.threads own) t
       front =
           (next_iff m c.threads own t).0
-          (sym (may-resume m c.threads c.notified own t (λ u. told own u h))
+          (sym (may_resume m c.threads c.notified own t (λ u. told own u h))
           ∙ and k ((first_notified_iff m c.threads c.notified own t).1 i))
 
       behind : line m d.threads own ≡ front.0
@@ -195,7 +195,7 @@ module _ (m : Monitor) (ok : Checked m) where
       (step_plain m ok c.state c.threads f c.notified pt))
     where
       from : {d : Config} → PlainGoesOn m (moved d) → PlainAt d
-      from (plain-goes-on x) = x
+      from (plain_goes_on x) = x
 
   plain_tells : (c : Config) → PlainAt c → FrontTold m c
   plain_tells c pt g u h x = pt.all g u (front_waits m c.threads g u x) h

@@ -80,10 +80,10 @@ ToldAt m true c = TablePoint m (broadcast m) c.state c.threads c.notified
 ToldAt m false c = PlainPoint m c.state c.threads c.notified
 
 -- and between the two machines' notices at a common state and common places
-pub record Agree (m : Monitor) (bc : ℕ → Bool) (s : ℕ) (p : Threads) (nP nT : ℕ → Bool) : Type 0 where
+pub record Agree (m : Monitor) (bc : ℕ → Bool) (s : ℕ) (p : Threads) (nP n_t : ℕ → Bool) : Type 0 where
   pub plain : PlainPoint m s p nP
-  pub within : (u : ℕ) → nT u ≡ true → nP u ≡ true
-  pub table : TablePoint m bc s p nT
+  pub within : (u : ℕ) → n_t u ≡ true → nP u ≡ true
+  pub table : TablePoint m bc s p n_t
 
 pub idle_plain : (m : Monitor) (s : ℕ) → m.kept s ≡ true → PlainPoint m s idle_threads (λ _. false)
 unfolding Waits is_waiting
@@ -222,13 +222,13 @@ module _ (m : Monitor) (ok : Checked m) (s : ℕ) (p : Threads) (t r : ℕ) (gua
     pub ran_table : TablePoint m bc s' p' n'
     ran_table = record { is_kept = ok.keeps r s tp.is_kept guard; first = ran_first; every = ran_every }
 
-  module _ (e : ℕ → ℕ → Entry) (bc : ℕ → Bool) (placed : Placed m e bc) (nP nT : ℕ → Bool) (ag : Agree m bc s p nP nT)
+  module _ (e : ℕ → ℕ → Entry) (bc : ℕ → Bool) (placed : Placed m e bc) (nP n_t : ℕ → Bool) (ag : Agree m bc s p nP n_t)
       (own : (w : ℕ) → p.place t ≡ waiting w → w ≡ r) where
     abbrev n_p' : ℕ → Bool
     n_p' u = without nP t u || plain_told m s' p' r u
 
     abbrev n_t' : ℕ → Bool
-    n_t' u = without nT t u || table_told m e s' p' r u
+    n_t' u = without n_t t u || table_told m e s' p' r u
 
     -- an entry that acts though its guard is false is unconditional: then the guard held before the body
     held_before :
@@ -251,15 +251,15 @@ module _ (m : Monitor) (ok : Checked m) (s : ℕ) (p : Threads) (t r : ℕ) (gua
     unfolding TableNoticesBy
     ran_within u h =
         ⊎_elim
-        (λ y. let b = (without_iff nT t u).0 y in stays nP u (plain_told m s' p' r u) b.0 (ag.within u b.1))
+        (λ y. let b = (without_iff n_t t u).0 y in stays nP u (plain_told m s' p' r u) b.0 (ag.within u b.1))
         (λ y. let x = (table_notices m e s' p' r u).0 y in told_within x.0 u x.2 x.3 x.1 x.4 x.5)
-        (either (without nT t u) (table_told m e s' p' r u) h)
+        (either (without n_t t u) (table_told m e s' p' r u) h)
 
     pub ran_agree : Agree m bc s' p' n_p' n_t'
     ran_agree = record {
       plain = ran_plain nP ag.plain;
       within = ran_within;
-      table = ran_table e bc placed own nT ag.table;
+      table = ran_table e bc placed own n_t ag.table;
     }
 
 -- Thread t begins to wait at region r: the guard is false, so nothing is asked of it
@@ -299,11 +299,11 @@ module _ (m : Monitor) (s : ℕ) (p : Threads) (t r : ℕ) (guard : m.holds (m.g
     every = λ g u w h b. tp.every g u (waited_before g u w h).1 h b;
   }
 
-  pub waited_agree : (bc : ℕ → Bool) (nP nT : ℕ → Bool) → Agree m bc s p nP nT → Agree m bc s q' nP nT
-  waited_agree bc nP nT ag = record {
+  pub waited_agree : (bc : ℕ → Bool) (nP n_t : ℕ → Bool) → Agree m bc s p nP n_t → Agree m bc s q' nP n_t
+  waited_agree bc nP n_t ag = record {
     plain = waited_plain nP ag.plain;
     within = ag.within;
-    table = waited_table bc nT ag.table;
+    table = waited_table bc n_t ag.table;
   }
 
 -- A recheck of thread t, which waits at region r: the guard is false, and the notice is used up
@@ -331,10 +331,10 @@ module _ (m : Monitor) (s : ℕ) (p : Threads) (t r : ℕ) (guard : m.holds (m.g
     every = λ g u w h b. (without_iff n t u).1 (other_waiter g u w h, tp.every g u w h b);
   }
 
-  pub rechecked_agree : (bc : ℕ → Bool) (nP nT : ℕ → Bool) → Agree m bc s p nP nT
-      → Agree m bc s p (without nP t) (without nT t)
-  rechecked_agree bc nP nT ag = record {
+  pub rechecked_agree : (bc : ℕ → Bool) (nP n_t : ℕ → Bool) → Agree m bc s p nP n_t
+      → Agree m bc s p (without nP t) (without n_t t)
+  rechecked_agree bc nP n_t ag = record {
     plain = rechecked_plain nP ag.plain;
-    within = λ u h. let b = (without_iff nT t u).0 h in (without_iff nP t u).1 (b.0, ag.within u b.1);
-    table = rechecked_table bc nT ag.table;
+    within = λ u h. let b = (without_iff n_t t u).0 h in (without_iff nP t u).1 (b.0, ag.within u b.1);
+    table = rechecked_table bc n_t ag.table;
   }

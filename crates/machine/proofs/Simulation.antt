@@ -48,8 +48,8 @@ pub data Match (m : Monitor) (bc : ℕ → Bool) (p : Threads) (f : Frame) : Out
   alike : {a : ℕ} → Match m bc p f (refused a) (refused a)
   lost : {o : Outcome} → is_waiting (p.place f.thread) ≡ true → f.flag ≡ false → Match m bc p f o (refused 14)
   both_move :
-      {s : ℕ} {q : Threads} {nP nT : ℕ → Bool} → Agree m bc s q nP nT
-      → Match m bc p f (moved (at s q nP)) (moved (at s q nT))
+      {s : ℕ} {q : Threads} {nP n_t : ℕ → Bool} → Agree m bc s q nP n_t
+      → Match m bc p f (moved (at s q nP)) (moved (at s q n_t))
 
 module _ (m : Monitor) (ok : Checked m) (s : ℕ) (p : Threads) (f : Frame) where
   pub step_plain : (n : ℕ → Bool) → PlainPoint m s p n → PlainGoesOn m (step m (plain_told m) (at s p n) f)
@@ -85,9 +85,9 @@ module _ (m : Monitor) (ok : Checked m) (s : ℕ) (p : Threads) (f : Frame) wher
       go true true x y = acted ((may_iff m p f).0 x) (beq_equal f.flag (m.holds g s) y)
           (is_waiting (p.place t)) refl f.flag refl
 
-  module _ (e : ℕ → ℕ → Entry) (bc : ℕ → Bool) (placed : Placed m e bc) (nP nT : ℕ → Bool) (ag : Agree m bc s p nP nT)
+  module _ (e : ℕ → ℕ → Entry) (bc : ℕ → Bool) (placed : Placed m e bc) (nP n_t : ℕ → Bool) (ag : Agree m bc s p nP n_t)
     where
-      pub step_agree : Match m bc p f (step m (plain_told m) (at s p nP) f) (step m (table_told m e) (at s p nT) f)
+      pub step_agree : Match m bc p f (step m (plain_told m) (at s p nP) f) (step m (table_told m e) (at s p n_t) f)
       unfolding step judged act allowed ran waited rechecked
       step_agree = go (may m p f) (beq f.flag (m.holds (m.guard_of f.region) s)) refl refl
         where
@@ -102,37 +102,37 @@ module _ (m : Monitor) (ok : Checked m) (s : ℕ) (p : Threads) (f : Frame) wher
 
           acted : May m p f → f.flag ≡ m.holds g s → (w : Bool) → is_waiting (p.place t) ≡ w → (b : Bool)
               → f.flag ≡ b
-              → Match m bc p f (act m (plain_told m) (at s p nP) f w b) (act m (table_told m e) (at s p nT) f w b)
-          acted a k false w false fl = both_move (waited_agree m s p t r (sym k ∙ fl) w bc nP nT ag)
+              → Match m bc p f (act m (plain_told m) (at s p nP) f w b) (act m (table_told m e) (at s p n_t) f w b)
+          acted a k false w false fl = both_move (waited_agree m s p t r (sym k ∙ fl) w bc nP n_t ag)
           acted a k false w true fl =
-              both_move (ran_agree m ok s p t r (sym k ∙ fl) e bc placed nP nT ag (own_region m p f a))
-          acted a k true w false fl = notice (nT t) refl (nP t) refl
+              both_move (ran_agree m ok s p t r (sym k ∙ fl) e bc placed nP n_t ag (own_region m p f a))
+          acted a k true w false fl = notice (n_t t) refl (nP t) refl
             where
-              notice : (b : Bool) → nT t ≡ b → (d : Bool) → nP t ≡ d
+              notice : (b : Bool) → n_t t ≡ b → (d : Bool) → nP t ≡ d
                   → Match m bc p f (allowed m (plain_told m) d (rechecked m (plain_told m) (at s p nP) f))
-                  (allowed m (table_told m e) b (rechecked m (table_told m e) (at s p nT) f))
+                  (allowed m (table_told m e) b (rechecked m (table_told m e) (at s p n_t) f))
               notice false x d y = lost w fl
               notice true x false y = clash (ag.within t x) y
               notice true x true y =
-                  both_move (rechecked_agree m s p t r (sym k ∙ fl) (waits_here m p f a w) bc nP nT ag)
+                  both_move (rechecked_agree m s p t r (sym k ∙ fl) (waits_here m p f a w) bc nP n_t ag)
           acted a k true w true fl =
-              turn (nP t && first_notified m p nP g t) (nT t && first_notified m p nT g t)
+              turn (nP t && first_notified m p nP g t) (n_t t && first_notified m p n_t g t)
               (resumes m p nP g t (λ u x. ag.plain.all g u (front_waits m p g u x) holds)
-              ∙ sym (resumes m p nT g t (λ u x. ag.table.first g u holds x)))
+              ∙ sym (resumes m p n_t g t (λ u x. ag.table.first g u holds x)))
             where
               holds : m.holds g s ≡ true
               holds = sym k ∙ fl
 
               turn : (a' b : Bool) → a' ≡ b
                   → Match m bc p f (allowed m (plain_told m) a' (ran m (plain_told m) (at s p nP) f))
-                  (allowed m (table_told m e) b (ran m (table_told m e) (at s p nT) f))
-              turn true true z = both_move (ran_agree m ok s p t r holds e bc placed nP nT ag (own_region m p f a))
+                  (allowed m (table_told m e) b (ran m (table_told m e) (at s p n_t) f))
+              turn true true z = both_move (ran_agree m ok s p t r holds e bc placed nP n_t ag (own_region m p f a))
               turn true false z = absurd (true≢false z)
               turn false true z = absurd (true≢false (sym z))
               turn false false z = alike
 
           go : (a b : Bool) → may m p f ≡ a → beq f.flag (m.holds g s) ≡ b
-              → Match m bc p f (judged m (plain_told m) (at s p nP) f a b) (judged m (table_told m e) (at s p nT) f a b)
+              → Match m bc p f (judged m (plain_told m) (at s p nP) f a b) (judged m (table_told m e) (at s p n_t) f a b)
           go false b x y = alike
           go true false x y = alike
           go true true x y = acted ((may_iff m p f).0 x) (beq_equal f.flag (m.holds g s) y)
@@ -145,8 +145,8 @@ pub data Result (m : Monitor) (bc : ℕ → Bool) (began : ℕ → Bool) (fs : L
   same_refusal : {a j : ℕ} → Result m bc began fs k (stopped a j) (stopped a j)
   at_recheck : {o : Run} {j : ℕ} (i : ℕ) → j ≡ k + i → RecheckFrom began fs i → Result m bc began fs k o (stopped 14 j)
   same_point :
-      {s : ℕ} {p : Threads} {nP nT : ℕ → Bool} → Agree m bc s p nP nT
-      → Result m bc began fs k (accepted (at s p nP)) (accepted (at s p nT))
+      {s : ℕ} {p : Threads} {nP n_t : ℕ → Bool} → Agree m bc s p nP n_t
+      → Result m bc began fs k (accepted (at s p nP)) (accepted (at s p n_t))
 
 module _ (m : Monitor) (ok : Checked m) where
   pub run_plain :
@@ -179,25 +179,25 @@ module _ (m : Monitor) (ok : Checked m) where
     later c d f fs k rule (same_point ag) = same_point ag
 
     pub run_agree :
-        (fs : List Frame) (k s : ℕ) (p : Threads) (nP nT : ℕ → Bool) → Agree m bc s p nP nT
-        → Result m bc (waiters (at s p nT)) fs k (run m (plain_told m) k (at s p nP) fs)
-        (run m (table_told m e) k (at s p nT) fs)
+        (fs : List Frame) (k s : ℕ) (p : Threads) (nP n_t : ℕ → Bool) → Agree m bc s p nP n_t
+        → Result m bc (waiters (at s p n_t)) fs k (run m (plain_told m) k (at s p nP) fs)
+        (run m (table_told m e) k (at s p n_t) fs)
     unfolding run
-    run_agree [] k s p nP nT ag = same_point ag
-    run_agree (f ∷ fs) k s p nP nT ag =
-        go (step m (plain_told m) (at s p nP) f) (step m (table_told m e) (at s p nT) f) refl
-        (step_agree m ok s p f e bc placed nP nT ag)
-        (λ s₁ p₁ nP₁ nT₁ ag₁. run_agree fs (suc k) s₁ p₁ nP₁ nT₁ ag₁)
+    run_agree [] k s p nP n_t ag = same_point ag
+    run_agree (f ∷ fs) k s p nP n_t ag =
+        go (step m (plain_told m) (at s p nP) f) (step m (table_told m e) (at s p n_t) f) refl
+        (step_agree m ok s p f e bc placed nP n_t ag)
+        (λ s₁ p₁ n_p₁ n_t₁ ag₁. run_agree fs (suc k) s₁ p₁ n_p₁ n_t₁ ag₁)
       where
-        go : (oP oT : Outcome) → step m (table_told m e) (at s p nT) f ≡ oT → Match m bc p f oP oT
-            → ((s₁ : ℕ) (p₁ : Threads) (nP₁ nT₁ : ℕ → Bool) → Agree m bc s₁ p₁ nP₁ nT₁
-            → Result m bc (waiters (at s₁ p₁ nT₁)) fs (suc k)
-            (run m (plain_told m) (suc k) (at s₁ p₁ nP₁) fs) (run m (table_told m e) (suc k) (at s₁ p₁ nT₁) fs))
-            → Result m bc (waiters (at s p nT)) (f ∷ fs) k
-            (elim oP [ moved d ↦ run m (plain_told m) (suc k) d fs | refused a ↦ stopped a k ])
-            (elim oT [ moved d ↦ run m (table_told m e) (suc k) d fs | refused a ↦ stopped a k ])
-        go oP oT q alike rec = same_refusal
-        go oP oT q (lost w fl) rec = at_recheck {j = k} 0 (omega arith) (recheck_now (waiters (at s p nT)) f fs w fl)
-        go oP oT q (both_move {s = s₁} {q = p₁} {nP = nP₁} {nT = nT₁} ag₁) rec =
-            later (at s p nT) (at s₁ p₁ nT₁) f fs k (((table_decides m e).moves (at s p nT) f (at s₁ p₁ nT₁)).0 q)
-            (rec s₁ p₁ nP₁ nT₁ ag₁)
+        go : (o_p o_t : Outcome) → step m (table_told m e) (at s p n_t) f ≡ o_t → Match m bc p f o_p o_t
+            → ((s₁ : ℕ) (p₁ : Threads) (n_p₁ n_t₁ : ℕ → Bool) → Agree m bc s₁ p₁ n_p₁ n_t₁
+            → Result m bc (waiters (at s₁ p₁ n_t₁)) fs (suc k)
+            (run m (plain_told m) (suc k) (at s₁ p₁ n_p₁) fs) (run m (table_told m e) (suc k) (at s₁ p₁ n_t₁) fs))
+            → Result m bc (waiters (at s p n_t)) (f ∷ fs) k
+            (elim o_p [ moved d ↦ run m (plain_told m) (suc k) d fs | refused a ↦ stopped a k ])
+            (elim o_t [ moved d ↦ run m (table_told m e) (suc k) d fs | refused a ↦ stopped a k ])
+        go o_p o_t q alike rec = same_refusal
+        go o_p o_t q (lost w fl) rec = at_recheck {j = k} 0 (omega arith) (recheck_now (waiters (at s p n_t)) f fs w fl)
+        go o_p o_t q (both_move {s = s₁} {q = p₁} {nP = n_p₁} {n_t = n_t₁} ag₁) rec =
+            later (at s p n_t) (at s₁ p₁ n_t₁) f fs k (((table_decides m e).moves (at s p n_t) f (at s₁ p₁ n_t₁)).0 q)
+            (rec s₁ p₁ n_p₁ n_t₁ ag₁)

@@ -4,7 +4,7 @@ use Prim.Native.Nat.{ℕ}
 use mathlib.Core.Path.{◌≡◌, refl}
 use mathlib.Core.List.{List, [], ◌∷◌, map}
 use Rattle.syntax.specs.Bytes.{bytes}
-use Rattle.meaning.proofs.Printing.{Case, placing, running_of_lem, printing}
+use Rattle.meaning.proofs.Printing.{Case, placing, running_case, printing}
 
 pub record Example : Type 0 where
   pub case : Case
@@ -34,19 +34,19 @@ examples =
     -- 1
     example (placing box) (bytes "00010100\n01000100\n")
     -- 2
-    ∷ example (running_of_lem box (bytes "000100\n010001\n000101\n"))
+    ∷ example (running_case box (bytes "000100\n010001\n000101\n"))
     (bytes "0080FFFFFFFFFFFFFFFFFFFFFFFFFFFFFFFF\n0080FFFFFFFFFFFFFFFFFFFFFFFFFFFFFFFF\n")
     -- 3
-    ∷ example (running_of_lem box (bytes "000100\n000101\n")) (bytes "0E00010000\n0E00010000\n")
-    ∷ example (running_of_lem box (bytes "000100\n000100\n")) (bytes "0E00010000\n0E00010000\n")
+    ∷ example (running_case box (bytes "000100\n000101\n")) (bytes "0E00010000\n0E00010000\n")
+    ∷ example (running_case box (bytes "000100\n000100\n")) (bytes "0E00010000\n0E00010000\n")
     -- 4
-    ∷ example (running_of_lem box (bytes "010100\n000100\n020001\n010101\n"))
+    ∷ example (running_case box (bytes "010100\n000100\n020001\n010101\n"))
     (bytes "008001FFFFFFFFFFFFFFFFFFFFFFFFFFFFFF\n008001FFFFFFFFFFFFFFFFFFFFFFFFFFFFFF\n")
     -- 5
-    ∷ example (running_of_lem box (bytes "000100\n010001\n020101\n000100\n"))
+    ∷ example (running_case box (bytes "000100\n010001\n020101\n000100\n"))
     (bytes "008001FFFFFFFFFFFFFFFFFFFFFFFFFFFFFF\n008001FFFFFFFFFFFFFFFFFFFFFFFFFFFFFF\n")
     -- 6
-    ∷ example (running_of_lem box (bytes "000100\n010100\n020001\n030101\n010100\n"))
+    ∷ example (running_case box (bytes "000100\n010100\n020001\n030101\n010100\n"))
     (bytes "00800101FFFFFFFFFFFFFFFFFFFFFFFFFFFF\n0E00040000\n")
     -- 7
     ∷ example (placing readers) (bytes "01000001\n01020000\n03000001\n03020000\n")

@@ -136,14 +136,14 @@ module _ (k : Keyword) (outer : Outer k) where
 
 -- What stands before the variables, and they, have no other keyword
 
-module _ (k : Keyword) (no_monitor : is_key k (key k_monitor) ≡ false) (no-var : is_key k (key k_var) ≡ false)
-    (no-in : is_key k (key k_in) ≡ false) where
+module _ (k : Keyword) (no_monitor : is_key k (key k_monitor) ≡ false) (no_var : is_key k (key k_var) ≡ false)
+    (no_in : is_key k (key k_in) ≡ false) where
   of_vars : (vs : List Var) → Free k (each spell_var vs)
   unfolding each spell_var is_key
   of_vars [] = nil k
   of_vars (v ∷ vs) =
-      join k (next k (key k_var) no-var (next k (name v.title) refl (next k (mark equals) refl
-      (join k (of_int k v.start) (next k (key k_in) no-in
+      join k (next k (key k_var) no_var (next k (name v.title) refl (next k (mark equals) refl
+      (join k (of_int k v.start) (next k (key k_in) no_in
       (join k (of_int k v.low) (next k (mark dots) refl
       (join k (of_int k v.high) (next k (mark semicolon) refl (nil k)))))))))) (of_vars vs)
 

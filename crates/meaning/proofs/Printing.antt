@@ -3,7 +3,7 @@
 use Prim.Native.Nat.{ℕ, suc}
 use Rattle.logic.specs.Tests.{any}
 use Rattle.machine.specs.Monitor.{threads, turn_at, turn, on_guard, waits_on, line, all_idle}
-use Rattle.machine.specs.Queue.{those, joined as joined-behind, left as left_out, place_in as turn_in}
+use Rattle.machine.specs.Queue.{those, joined as joined_behind, left as left_out, place_in as turn_in}
 use Rattle.machine.specs.Decide.Step.{put, without, is_due, is_waiting, begin_wait, leave, at_front, first_in, next}
 use Rattle.machine.specs.Decide.Step.{first_notified, own, plain_told, may_be_at, may, ran, waited, rechecked, allowed, act}
 use Rattle.machine.specs.Decide.Step.{judged, step, run}
@@ -24,7 +24,7 @@ use Rattle.meaning.specs.Decide.Check.{broken, check_meaning, check_tokens, chec
 use Rattle.meaning.specs.Lines.{hex4, refusal_line, place_byte, value_digits, place_digits, record_line, run_line}
 use Rattle.meaning.specs.Lines.{machine_line, placer, runner}
 use Rattle.meaning.specs.Answer.{answer, accepted, refused}
-use Rattle.meaning.specs.Choice.{Fate, chosen, false_at_start, broken as broken-by}
+use Rattle.meaning.specs.Choice.{Fate, chosen, false_at_start, broken as broken_by}
 use Rattle.meaning.specs.Model.{same_lexeme, same_lexemes, same_guard, place_in, guards_of, begins_in, goes_on_in}
 use Rattle.meaning.specs.Model.{no_guard, no_region, number_after, regions, guards, region, guard_of, holds, kept}
 use Rattle.meaning.specs.Model.{after, follows, vars, model}
@@ -50,7 +50,7 @@ use Rattle.syntax.specs.Decide.Reading.{read_comparison, read_cond, read_conj, r
 use Rattle.syntax.specs.Decide.Reading.{read_method, read_var, read_try, at_end, read_monitor, read, got, stuck}
 use Rattle.syntax.specs.Token.{keywords, marks, lexemes}
 use Rattle.syntax.specs.Decide.Lexeme.{mark_number, keyword_number, is_mark, is_key, is_name}
-use Rattle.syntax.specs.Decide.Scan.{word_of, at_most, mark_of, scan, prepend as token-prepend, tokens_from, tokenize}
+use Rattle.syntax.specs.Decide.Scan.{word_of, at_most, mark_of, scan, prepend as token_prepend, tokens_from, tokenize}
 use Rattle.syntax.specs.Decide.Scan.{tokens, none_at}
 use Rattle.syntax.specs.Tree.{spell_int, spell_atom, sign_mark, spell_term, spell_signed, each, spell_expr}
 use Rattle.syntax.specs.Tree.{comparison_mark, spell_constant}
@@ -76,10 +76,10 @@ use mathlib.Core.List.{List, [], ◌∷◌, ◌++◌, map}
 -- are touched, or some of its states by their numbers
 pub data Case : Type 0 where
   placing : List ℕ → Case
-  running_of_lem : List ℕ → List ℕ → Case
+  running_case : List ℕ → List ℕ → Case
   whole turns_of : List ℕ → List ℕ → Case
-  points_of_lem : List ℕ → List ℕ → ℕ → ℕ → Case
-  Tries-of pairs_of_lem : List ℕ → Case
+  points_case : List ℕ → List ℕ → ℕ → ℕ → Case
+  tries_case pairs_case : List ℕ → Case
   numbers_of : List ℕ → List ℕ → Case
 
 -- the sixteen turns at the end of a run in two digits each, or the refusal's line
@@ -105,7 +105,7 @@ turns_lines file trace =
 unfoldable pub fate_line : Fate → List ℕ
 fate_line chosen = refusal_line (answer 0 0 0)
 fate_line false_at_start = refusal_line (answer 255 0 0)
-fate_line (broken-by p k n) = refusal_line (answer p k n)
+fate_line (broken_by p k n) = refusal_line (answer p k n)
 
 unfoldable pub tries_lines : List ℕ → List ℕ
 tries_lines file =
@@ -147,14 +147,14 @@ numbers_lines file ns =
     ]
 
 unfoldable pub printing : Case → List ℕ
-unfolding any threads put without is_due is_waiting turn_at turn those joined-behind left_out turn_in begin_wait leave all_idle on_guard waits_on line at_front first_in next first_notified own plain_told may_be_at may ran waited rechecked allowed act judged step run runs some_move every_move stands unconditional broadcast entry_of acts entry_told table_told written place told_by each_from bits ones record_of running_of run_list run_frames run_from running opens closes tally crowded place_of left_of past_limit member misnamed places_of in_byte good_range ill_ranged asks low_divisor unvalued regions_of kept_after breaks first_from first_where broken no_try ends_false is_none in_set try_at each_try all_hold binds breaks_try first_break pass passes true_at_start chosen_tries chosen_bits fate_from fate_of fate_line tries_lines turn_digits turns_line turns_lines atom_names term_names terms_name expr_names cond_names conj_names simple_names block_assigns stmt_assigns any_var sum_of touched pairs_of pairs_line wrapped weight_in share number_in rest_in value_in state_line held_as state_lines numbers_lines check_meaning check_tokens check hex4 refusal_line place_byte value_digits place_digits record_line run_line machine_line placer runner value_bytes place_bytes turn_bytes set_bytes shared_bytes notice_bytes notices_at plain_part table_part turn_part point_at stop_answer point_count list_points frame_points points_from point_room points_of drawn upper join_each is_moved is_recheck frame_if is_allowed allowed_at allowed_of allowed_frames behind load_from frame_line lines_of made_of load_frames made_in bad_count load_of same_lexeme same_lexemes same_guard place_in guards_of begins_in goes_on_in no_guard no_region number_after regions guards region guard_of holds kept after follows model hex_digit hex2 hex_bool entry_line for_each table_of size count state_at number_of starts lowest lines_from is_hex hex_value all_hex pair_at is_frame frame_of prepend frames_from frames_of int_of negative less compares value_of in_range assigned atom_value joined terms_value expr_value remainder_by modulo of_one of_both term_value cond_value conj_value simple_value is_true truth and_then run_block run_stmt outcome kept_at bytes between blank letter digit word_byte leading decimal same_bytes starts_with onwards ◌>>=◌ give begins rest choose expect read_name read_number read_many read_some read_int read_atom read_sign read_term read_signed is_sign read_expr read_comparison read_cond read_conj read_simple read_block read_stmt read_region read_method read_var read_try at_end read_monitor read keywords marks word_of at_most mark_of scan token-prepend tokens_from tokenize lexemes mark_number keyword_number is_mark is_key is_name spell_int spell_atom sign_mark spell_term spell_signed each spell_expr comparison_mark spell_constant spell_cond spell_conj spell_simple spell_block spell_stmt spell_region spell_method spell_var spell_try spell InGrammar Viable
+unfolding any threads put without is_due is_waiting turn_at turn those joined_behind left_out turn_in begin_wait leave all_idle on_guard waits_on line at_front first_in next first_notified own plain_told may_be_at may ran waited rechecked allowed act judged step run runs some_move every_move stands unconditional broadcast entry_of acts entry_told table_told written place told_by each_from bits ones record_of running_of run_list run_frames run_from running opens closes tally crowded place_of left_of past_limit member misnamed places_of in_byte good_range ill_ranged asks low_divisor unvalued regions_of kept_after breaks first_from first_where broken no_try ends_false is_none in_set try_at each_try all_hold binds breaks_try first_break pass passes true_at_start chosen_tries chosen_bits fate_from fate_of fate_line tries_lines turn_digits turns_line turns_lines atom_names term_names terms_name expr_names cond_names conj_names simple_names block_assigns stmt_assigns any_var sum_of touched pairs_of pairs_line wrapped weight_in share number_in rest_in value_in state_line held_as state_lines numbers_lines check_meaning check_tokens check hex4 refusal_line place_byte value_digits place_digits record_line run_line machine_line placer runner value_bytes place_bytes turn_bytes set_bytes shared_bytes notice_bytes notices_at plain_part table_part turn_part point_at stop_answer point_count list_points frame_points points_from point_room points_of drawn upper join_each is_moved is_recheck frame_if is_allowed allowed_at allowed_of allowed_frames behind load_from frame_line lines_of made_of load_frames made_in bad_count load_of same_lexeme same_lexemes same_guard place_in guards_of begins_in goes_on_in no_guard no_region number_after regions guards region guard_of holds kept after follows model hex_digit hex2 hex_bool entry_line for_each table_of size count state_at number_of starts lowest lines_from is_hex hex_value all_hex pair_at is_frame frame_of prepend frames_from frames_of int_of negative less compares value_of in_range assigned atom_value joined terms_value expr_value remainder_by modulo of_one of_both term_value cond_value conj_value simple_value is_true truth and_then run_block run_stmt outcome kept_at bytes between blank letter digit word_byte leading decimal same_bytes starts_with onwards ◌>>=◌ give begins rest choose expect read_name read_number read_many read_some read_int read_atom read_sign read_term read_signed is_sign read_expr read_comparison read_cond read_conj read_simple read_block read_stmt read_region read_method read_var read_try at_end read_monitor read keywords marks word_of at_most mark_of scan token_prepend tokens_from tokenize lexemes mark_number keyword_number is_mark is_key is_name spell_int spell_atom sign_mark spell_term spell_signed each spell_expr comparison_mark spell_constant spell_cond spell_conj spell_simple spell_block spell_stmt spell_region spell_method spell_var spell_try spell InGrammar Viable
 printing (placing file) = placer file
-printing (running_of_lem file trace) = runner file trace
+printing (running_case file trace) = runner file trace
 printing (whole file trace) = placer file ++ runner file trace
 printing (turns_of file trace) = turns_lines file trace
-printing (points_of_lem file trace s room) =
+printing (points_case file trace s room) =
     let p = points_of file trace s (replicate room 165) in
     refusal_line p.plain ++ (refusal_line p.table ++ (p.count ∷ p.buffer))
-printing (Tries-of file) = tries_lines file
-printing (pairs_of_lem file) = pairs_line file
+printing (tries_case file) = tries_lines file
+printing (pairs_case file) = pairs_line file
 printing (numbers_of file states) = numbers_lines file states

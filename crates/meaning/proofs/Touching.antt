@@ -509,8 +509,8 @@ leaves_guard m r g h as' bs w =
     let b = (region m r).body in
     truth_alike {P = cond_names c} c (λ x i. (names_iff c x).1 i) (record {
       same_value = λ x t. split (block_assigns b x)
-          (λ a. let is-0 = no_variable_lem (vars m) (λ y. cond_names c y && block_assigns b y) h x (both_true t a) in
-          is-0 bs ∙ sym (is-0 as'))
+          (λ a. let is_0 = no_variable_lem (vars m) (λ y. cond_names c y && block_assigns b y) h x (both_true t a) in
+          is_0 bs ∙ sym (is_0 as'))
           (λ a. block_leaves x w a);
     })
 

@@ -301,8 +301,8 @@ past_7_one {file} {ts} {us} {m} {n} cut spelt p =
     let q = p.past.past.past in
     let other = (tokenize_tokens file us).1 q.past.past.cut in
     let same : us ≡ ts = cc in
-    let read-n = spelled_read n in
-    let read-m = spelled_read m in
+    let read_n = spelled_read n in
+    let read_m = spelled_read m in
     let one : spell n ≡ spell m = rw same at q.grammar ∙ sym spelt in
     (same, cc)
 

@@ -115,9 +115,9 @@ module _ (m : Monitor) (few : length (vars m) ≤ 6) (n : ℕ) (counted : n ≡ 
   touches q g named assigned names assigns =
       tests_equal _ _
       (λ h.
-      let (k, low, (in-named, in-assigned, below)) = (meet_iff n named assigned).0 h in
-      let (x, o, at) = ((names k).0 in-named).1 in
-      let (y, p, there) = ((assigns k).0 in-assigned).1 in
+      let (k, low, (in_named, in_assigned, below)) = (meet_iff n named assigned).0 h in
+      let (x, o, at) = ((names k).0 in_named).1 in
+      let (y, p, there) = ((assigns k).0 in_assigned).1 in
       let one : x ≡ y = slot_same (vars m) x y (omega arith) (at ∙ sym there) in
       let (v, declared, is) = slot_variable (vars m) x (omega arith) in
       (touched_iff m q g).1 (record {

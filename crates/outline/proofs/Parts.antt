@@ -93,7 +93,7 @@ module _ {file : List ℕ} {ts : List Token} {kinds values places : List ℕ}
   -- a region's guard and body
   module _ (methods : List Method) (x : Method) (later : List Method) (before : List Region) (q : Region)
       (after : List Region) (of_file : all m.methods ≡ methods ++ (x ∷ later))
-      (of-method : all x.regions ≡ before ++ (q ∷ after)) where
+      (of_method : all x.regions ≡ before ++ (q ∷ after)) where
     abbrev pre : List Lexeme
     pre = up_to_region m methods x before
 
@@ -111,7 +111,7 @@ module _ {file : List ℕ} {ts : List Token} {kinds values places : List ℕ}
 
     stands_region : lexemes ts ≡ pre ++ (key k_waituntil ∷ mark lparen ∷ (guard ++ (mark rparen ∷ behind_guard)))
     stands_region =
-        spelt ∙ from_region m methods x later before q after of_file of-method
+        spelt ∙ from_region m methods x later before q after of_file of_method
         ∙ ap (λ (ls : List Lexeme). pre ++ ls) (region_parts q us)
 
     abbrev number : ℕ

@@ -14,8 +14,8 @@ use Rattle.meaning.specs.Outline.{TitleAt, KeepAt, TryAt, VariableAt, MethodAt, 
 use Rattle.outline.specs.declared.Span.{Span}
 use Rattle.outline.specs.declared.Outline.{Outline}
 use Rattle.outline.specs.declared.Variable as code
-use Rattle.outline.specs.declared.Method as code-method
-use Rattle.outline.specs.declared.Region as code-region
+use Rattle.outline.specs.declared.Method as code_method
+use Rattle.outline.specs.declared.Region as code_region
 
 -- What an empty slot holds (R 16.2, 16.3)
 
@@ -25,10 +25,10 @@ no_span = record { from = 0; to = 0 }
 abbrev pub no_variable : code.Variable
 no_variable = record { name = no_span; start = 0; low = 0; high = 0 }
 
-abbrev pub no_method : code-method.Method
+abbrev pub no_method : code_method.Method
 no_method = record { name = no_span; first = 0 }
 
-abbrev pub no_region : code-region.Region
+abbrev pub no_region : code_region.Region
 no_region = record { guard = no_span; body = no_span; number = 0 }
 
 module _ (ts : List Token) (m : Monitor) where
@@ -40,13 +40,13 @@ module _ (ts : List Token) (m : Monitor) where
     pub high : Offset (int_of v.high) r.high
 
   -- the method behind some: its name, and the number of its first region, which is how many they have (R 16.5, 16.11)
-  pub record MethodIs (before : List Method) (x : Method) (r : code-method.Method) : Type 0 where
+  pub record MethodIs (before : List Method) (x : Method) (r : code_method.Method) : Type 0 where
     pub name : MethodAt ts m before x r.name.from r.name.to
     pub first : r.first ≡ length (regions_of before)
 
   -- the region behind some of a method: its guard and body, and the guard's number (R 16.8, 16.9, 16.12)
   pub record RegionIs (methods : List Method) (x : Method) (before : List Region) (q : Region)
-      (r : code-region.Region) : Type 0 where
+      (r : code_region.Region) : Type 0 where
     pub guard : GuardAt ts m methods x before q r.guard.from r.guard.to
     pub body : BodyAt ts m methods x before q r.body.from r.body.to
     pub number : r.number ≡ guard_of m (length (regions_of methods) + length before)

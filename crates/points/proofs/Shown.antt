@@ -167,9 +167,9 @@ module _ {m : Monitor} {s : ℕ} {fs : List Frame} {k : ℕ} {bounds : Bounds} {
       (placed : (t : ℕ) → t < 16 → get_or bytes t 0 ≡ held_byte (places_of g.run.threads.each t))
       (turned : (t : ℕ) → t < 16 → get_or turns t 0 ≡ turns_of g.run.threads.each t)
       (held_small : holding < 2 ^ 16)
-      (held-are : (u : ℕ) → u < 16 → member holding u ≡ member (get_or hs (g.run.state % 4096) 0) u && ltb u count)
-      (plain-small : g.run.plain < 2 ^ 16) (told-small : told < 2 ^ 16)
-      (told-are : (u : ℕ) → member told u ≡ member g.run.plain u && not (member before u)) where
+      (held_are : (u : ℕ) → u < 16 → member holding u ≡ member (get_or hs (g.run.state % 4096) 0) u && ltb u count)
+      (plain_small : g.run.plain < 2 ^ 16) (told_small : told < 2 ^ 16)
+      (told_are : (u : ℕ) → member told u ≡ member g.run.plain u && not (member before u)) where
     shared_is : held_shared values bytes holding ≡ shared_bytes m here
     unfolding held_shared shared_bytes
     shared_is =
@@ -178,7 +178,7 @@ module _ {m : Monitor} {s : ℕ} {fs : List Frame} {k : ℕ} {bounds : Bounds} {
         ∙ ap (λ (n : ℕ). value_bytes (state_at (vars m) n)) same_state)
         (ap₂ (λ (a b : List ℕ). a ++ b)
         (places_are g.run.threads here.threads bytes x.way.plain.shows.threads due_below placed)
-        (set_is holding (λ u. holds m u here.state) held_small (guards_are holding held-are)))
+        (set_is holding (λ u. holds m u here.state) held_small (guards_are holding held_are)))
 
     plain_is : held_shared values bytes holding ++ held_notices g.run.plain told
         ≡ plain_part m (run_of (model m) false s (take (k - 1) fs)) (run_of (model m) false s (take k fs))
@@ -187,9 +187,9 @@ module _ {m : Monitor} {s : ℕ} {fs : List Frame} {k : ℕ} {bounds : Bounds} {
         let b = notices_at (run_of (model m) false s (take (k - 1) fs)) in
         ap₂ (λ (p q : List ℕ). p ++ q) shared_is
         (ap₂ (λ (p q : List ℕ). p ++ q)
-        (set_is g.run.plain here.notified plain-small x.way.plain.shows.notices)
-        (set_is told (λ u. here.notified u && not (b u)) told-small
-        (told_is told g.run.plain before here.notified b told-are x.way.plain.shows.notices
+        (set_is g.run.plain here.notified plain_small x.way.plain.shows.notices)
+        (set_is told (λ u. here.notified u && not (b u)) told_small
+        (told_is told g.run.plain before here.notified b told_are x.way.plain.shows.notices
         x.plain_before)))
         ∙ sym (ap (plain_part m (run_of (model m) false s (take (k - 1) fs))) x.way.plain.taken)
 
@@ -232,7 +232,7 @@ module _ {m : Monitor} {s : ℕ} {fs : List Frame} {k : ℕ} {bounds : Bounds} {
         → ((u : ℕ) → member woken u ≡ member g.run.table u && not (member table_before u))
         → held_point values bytes holding g.run.plain told 1 g.run.table woken turns ≡ point_at m s fs k
     unfolding held_table held_notices notice_bytes table_part of_machine
-    point_there zero_number woken table-small woken-small woken-are = joined 1 g.run.table woken (go x.way.table)
+    point_there zero_number woken table_small woken_small woken_are = joined 1 g.run.table woken (go x.way.table)
       where
         b : ℕ → Bool
         b = notices_at (run_of (model m) true s (take (k - 1) fs))
@@ -243,8 +243,8 @@ module _ {m : Monitor} {s : ℕ} {fs : List Frame} {k : ℕ} {bounds : Bounds} {
         go (has_stopped n e) = absurd (n zero_number)
         go (goes_on z i y) =
             ap₂ (λ (p q : List ℕ). 1 ∷ (p ++ q))
-            (set_is g.run.table y.point.notified table-small y.shows.notices)
-            (set_is woken (λ u. y.point.notified u && not (b u)) woken-small
-            (told_is woken g.run.table table_before y.point.notified b woken-are y.shows.notices
+            (set_is g.run.table y.point.notified table_small y.shows.notices)
+            (set_is woken (λ u. y.point.notified u && not (b u)) woken_small
+            (told_is woken g.run.table table_before y.point.notified b woken_are y.shows.notices
             (x.table_before zero_number)))
             ∙ sym (ap (table_part (run_of (model m) true s (take (k - 1) fs))) y.taken)

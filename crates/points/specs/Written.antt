@@ -30,7 +30,7 @@ pub record PointsAsked (bytes : List ℕ) (state : ℕ) (bounds : Bounds) (layou
 
 -- what is known where a point is written: both machines are behind the first k frames, and two sets have each machine's
 -- notices at the point before
-pub record PointStands (m : Monitor) (s : ℕ) (fs : List Frame) (k : ℕ) (bounds : Bounds) (guardCount : ℕ)
+pub record PointStands (m : Monitor) (s : ℕ) (fs : List Frame) (k : ℕ) (bounds : Bounds) (count_of_guards : ℕ)
     (holds : List ℕ) (g : Going) (plain table : ℕ) : Type 0 where
   pub way : Way (model m) s fs g k
   pub kept_slice : List ℕ
@@ -38,7 +38,7 @@ pub record PointStands (m : Monitor) (s : ℕ) (fs : List Frame) (k : ℕ) (boun
   pub guard_slice : List ℕ
   pub held : Held (model m) kept_slice holds after_slice guard_slice
   pub bounded : Bounded (vars m) bounds
-  pub guard_count : guardCount ≡ length (guards m)
+  pub guard_count : count_of_guards ≡ length (guards m)
   pub plain_before : (u : ℕ) → u < 16 → member plain u ≡ notices_at (run_of (model m) false s (take (k - 1) fs)) u
   pub table_before :
       g.lost.number ≡ 0 → (u : ℕ) → u < 16 → member table u

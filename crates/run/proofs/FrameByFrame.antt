@@ -150,8 +150,8 @@ lost_kept lost (suc n) k h = go lost.number h
 module _ (m : Monitor) (ok : Checked m) (s : ℕ) (kept : m.kept s ≡ true) (fs : List machine.Frame) (g : Going) (k : ℕ)
     (way : Way m s fs g k) {bytes : List ℕ} (f : Frame) (h : Here bytes fs k (frame_of f)) (o : coded.Outcome)
     (steps : (w : Bool) (x : At m w s fs g.run k) → Steps w o (step_by m w x.point f)) (p : Passed)
-    (number : p.number ≡ o.plain) (same-run : p.going.run ≡ o.run)
-    (same-lost : p.going.lost ≡ lost_by g.lost o.table k) where
+    (number : p.number ≡ o.plain) (same_run : p.going.run ≡ o.run)
+    (same_lost : p.going.lost ≡ lost_by g.lost o.table k) where
   -- what a machine makes of the frame
   data Took (w : Bool) (x : At m w s fs g.run k) : Type 0 where
     took : number_in w o ≡ 0 → (d : Config) → step m (told_on m w) x.point (frame_of f) ≡ moved d → Shows w o.run d
@@ -193,8 +193,8 @@ module _ (m : Monitor) (ok : Checked m) (s : ℕ) (kept : m.kept s ≡ true) (fs
       go : Took false way.plain → Way m s fs p.going (suc k)
       go (took n d e q) = record {
         below = let l = h.more in omega arith;
-        plain = rw same-run (at_next m false s fs way.plain way.below h ok d e o.run q);
-        table = rw (same-run, same-lost) (table_next way.table);
+        plain = rw same_run (at_next m false s fs way.plain way.below h ok d e o.run q);
+        table = rw (same_run, same_lost) (table_next way.table);
       }
       go (stops n e) = absurd (n zero_number)
 
@@ -234,8 +234,8 @@ module _ (m : Monitor) (ok : Checked m) (s : ℕ) (kept : m.kept s ≡ true) (fs
           let t = table_stops other (next_stops m false s fs way.plain way.below h o.plain e) way.table in
           record {
             plain = rw number (all_stop m false s fs way.plain way.below h o.plain e);
-            table = rw same-lost t.0;
-            refused = rw same-lost t.1;
+            table = rw same_lost t.0;
+            refused = rw same_lost t.1;
           }
 
   pub passed : Passes m s fs p k

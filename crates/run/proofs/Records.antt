@@ -25,7 +25,7 @@ use Rattle.logic.specs.Tests.{bit}
 use Rattle.logic.proofs.Bools.{split}
 use Rattle.meaning.specs.Answer.{Answer, answer}
 use Rattle.answers.specs.Says.{Says}
-use Rattle.answers.specs.declared.Answer as code-answer
+use Rattle.answers.specs.declared.Answer as code_answer
 use Rattle.meaning.specs.Held.{Biased}
 use Rattle.meaning.specs.State.{state_at}
 use Rattle.meaning.specs.State as state
@@ -160,7 +160,7 @@ unfolding run_from
 from_kept m w s bytes k = rw (run_from, k)
 
 -- what an answer of the code says, in its parts
-says_subst : {r : code-answer.Answer} {a : Answer} → Says r a → (q : Running)
+says_subst : {r : code_answer.Answer} {a : Answer} → Says r a → (q : Running)
     → Runs (not_run (answer r.number r.first r.second)) q → Runs (not_run a) q
 says_subst e q h =
     subst (λ x. Runs (not_run x) q) (λ i. answer (e.number i) (e.first i) (e.second i)) h
@@ -193,7 +193,7 @@ module _ (m : Monitor) (w : Bool) (s : ℕ) (bytes : List ℕ) (r : Running) whe
 
 -- ---- before the first frame
 
-module _ {m : Monitor} {s : ℕ} {bytes : List ℕ} {r : code-answer.Answer} where
+module _ {m : Monitor} {s : ℕ} {bytes : List ℕ} {r : code_answer.Answer} where
   -- a number other than 0 is the answer of either machine
   pub refused_early : Admits m s bytes r → (r.number ≡ 0 → ⊥) → (q : Running)
       → Runs (not_run (answer r.number r.first r.second)) q → (w : Bool) → Runs (run_from m (machine_of w) s bytes) q

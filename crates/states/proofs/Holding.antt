@@ -46,9 +46,9 @@ module _ (m : Monitor) where
   unfolding KeptAll TruthRow
   kept_of_row row k s h = k s h ∙ ap bit (sym (kept_is s h))
 
-  pub held : {kept' holds' after' guardOf' : List ℕ} → Sound m → length (regions m) ≤ 16 → KeptAll m kept'
+  pub held : {kept' holds' after' guard_of' : List ℕ} → Sound m → length (regions m) ≤ 16 → KeptAll m kept'
       → HoldsAll m holds'
-      → AfterAll m after' → GuardNumbers m guardOf' → Held (model m) kept' holds' after' guardOf'
+      → AfterAll m after' → GuardNumbers m guard_of' → Held (model m) kept' holds' after' guard_of'
   unfolding model KeptAll HoldsAll AfterAll GuardNumbers runs
   held ok few k h a g =
       record {

@@ -33,7 +33,7 @@ use Rattle.waiters.specs.Told.{becomes_at, broadcast_at}
 use Rattle.waiters.specs.Slices.{slices, guards_only}
 use Rattle.stepper.specs.Slices.{newly_in, newly_at, config_of}
 use Rattle.stepper.specs.Parts.{verdict_of, next_by, next_of, outcome, step_parts}
-use Rattle.stepper.proofs.Taken as taken-frame
+use Rattle.stepper.proofs.Taken as taken_frame
 use Rattle.stepper.proofs.Taken.{taken_there, taken_runs, there_below}
 use Rattle.machine.proofs.Entries.{entry_where}
 use Rattle.machine.proofs.Order.{waiting_iff, same_refl, same_trans, began_same, left_same}
@@ -245,7 +245,7 @@ module _ (m : Monitor) (kept hs as' gs : List ℕ) (held : Held m kept hs as' gs
             (sym (follows_held f.region below)) (left_same m threads_same f.thread (m.follows f.region))
 
         left_below : (u w : ℕ) → left_of.place u ≡ waiting w → w < m.regions
-        left_below = taken-frame.left_below m c f reached bs os places below
+        left_below = taken_frame.left_below m c f reached bs os places below
 
         module _ (flag : f.flag ≡ true) where
           runs_now : runs m f.region c.state ≡ true

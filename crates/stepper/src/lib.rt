@@ -7,7 +7,7 @@ ghost use Rattle.std.specs.Prelude.{◌≡◌, Bool, true, false, not, ◌&&◌,
 ghost use Rattle.sets.specs.Set.{member};
 ghost use Rattle.machine.specs.Monitor.{Monitor, Config, all_idle};
 ghost use Rattle.logic.specs.Tests.{any};
-ghost use Rattle.machine.specs.Decide.Step.{Told, is_due, is_waiting, may_be_at, first_in, ran as ranTo};
+ghost use Rattle.machine.specs.Decide.Step.{Told, is_due, is_waiting, may_be_at, first_in, ran as ran_to};
 ghost use Rattle.machine.specs.Held.{Held, HeldPlaces, HeldEntries};
 ghost use Rattle.machine.specs.Agreement.{Checked};
 ghost use Rattle.machine.proofs.Reached.{Reached};
@@ -212,7 +212,7 @@ fn ran(
 ) -> Run
     requires { frame.thread < 16 }
     ensures { Queued run.threads → Turned run.threads → (w : Bool) → Shows w result
-        (ranTo (slices holds.now after.now guard_of.now [] goes_on.now
+        (ran_to (slices holds.now after.now guard_of.now [] goes_on.now
         0)
         (newly_at holds.now guard_of.now entries.now w run.state) (config_of w run)
         (frame_of frame)) }

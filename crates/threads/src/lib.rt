@@ -6,7 +6,7 @@ ghost use Rattle.std.specs.Prelude.{◌≡◌, false, ℕ, ◌-◌, ◌<◌};
 ghost use Rattle.machine.specs.Monitor.{SameThreads, idle_threads};
 ghost use Rattle.machine.specs.Queue.{place_in};
 ghost use Rattle.machine.specs.Arrival.{Once};
-ghost use Rattle.machine.specs.Decide.Step.{is_due, is_waiting, begin_wait, leave as leaveTo};
+ghost use Rattle.machine.specs.Decide.Step.{is_due, is_waiting, begin_wait, leave as leave_to};
 ghost use Rattle.queue.specs.Packed.{queue_of};
 ghost use Rattle.threads.specs.Held.{place_of, places_of, turns_of, threads_of, Turned, Queued, Puts, between};
 
@@ -137,7 +137,7 @@ fn fewer(n: u8) -> u8
 // Thread t goes on from a body, to a place where it does not wait; if it waited, those behind it close up.
 pub fn leave(threads: Threads, t: u8, place: Place) -> Threads
     ensures { t < 16 → Queued threads → Turned threads → is_waiting (place_of place) ≡ false
-        → SameThreads (threads_of result) (leaveTo (threads_of threads) t (place_of place)) × Turned result × Queued result }
+        → SameThreads (threads_of result) (leave_to (threads_of threads) t (place_of place)) × Turned result × Queued result }
 {
     let each = threads.each;
     let thread = each[(t % 16) as usize];

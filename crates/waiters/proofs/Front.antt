@@ -80,14 +80,14 @@ seen_more f seen u =
 -- thread u stands at place k of the queue, and `met` has the guards, of those asked about, on which one before it waits
 module _ (gs es : List ℕ) (asked : ℕ → Bool) (r met : ℕ) (p : Threads) (o n k u : ℕ) (below : k < n)
     (here : u ≡ behind_of o k % 16) (queue : p.queue ≡ queue_of o n) (once : Once (queue_of o n))
-    (met-before : (g : ℕ) → asked g ≡ true → member met g ≡ some (those (waits_on (guards_only gs) p g) (queue_of o k))) where
+    (met_before : (g : ℕ) → asked g ≡ true → member met g ≡ some (those (waits_on (guards_only gs) p g) (queue_of o k))) where
   next_met : (g : ℕ) → asked g ≡ true → waits_on (guards_only gs) p g u ≡ true
       → not (member met g) ≡ next (guards_only gs) p g u
   unfolding next line
   next_met g a w =
       let f = waits_on (guards_only gs) p g in
       let x = line_at o n k u below here f w in
-      ap not (met-before g a)
+      ap not (met_before g a)
       ∙ sym (ap (λ (l : List ℕ). at_front (those f l) u) queue ∙ ap (λ (l : List ℕ). at_front l u) x.1
       ∙ front_splits (those f (queue_of o k)) x.0 u
       (has_those f (queue_of o k) u ∙ ap (λ (b : Bool). b && f u) (not_before o n k u below here once)))
