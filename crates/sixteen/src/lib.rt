@@ -19,10 +19,8 @@ pub fn unless(a: [bool; 16], b: [bool; 16]) -> [bool; 16]
     ensures { (j : ℕ) → j < 16 → get_or result j false ≡ get_or a j false && not (get_or b j false) }
 {
     let mut set = [false; 16];
-    let mut j: usize = 0;
-    while j < 16 {
+    for j in 0..16 {
         set[j] = a[j] & !b[j];
-        j += 1;
     }
     set
 }
@@ -50,12 +48,10 @@ pub fn mask(lanes: [bool; 16]) -> u16
     ensures { (j : ℕ) → j < 16 → member result j ≡ get_or lanes j false }
 {
     let mut set: u16 = 0;
-    let mut j: u32 = 0;
-    while j < 16 {
+    for j in 0..16u32 {
         if lanes[j as usize] {
             set = sets::with(set, j);
         }
-        j += 1;
     }
     set
 }
@@ -65,10 +61,8 @@ pub fn spread(set: u16) -> [bool; 16]
     ensures { (j : ℕ) → j < 16 → get_or result j false ≡ member set j }
 {
     let mut lanes = [false; 16];
-    let mut j: u32 = 0;
-    while j < 16 {
+    for j in 0..16u32 {
         lanes[j as usize] = sets::has(set, j);
-        j += 1;
     }
     lanes
 }
@@ -77,10 +71,8 @@ pub fn below(a: [u32; 16], b: [u32; 16]) -> [bool; 16]
     ensures { (j : ℕ) → j < 16 → get_or result j false ≡ ltb (get_or a j 0) (get_or b j 0) }
 {
     let mut set = [false; 16];
-    let mut j: usize = 0;
-    while j < 16 {
+    for j in 0..16 {
         set[j] = a[j] < b[j];
-        j += 1;
     }
     set
 }
@@ -117,10 +109,8 @@ pub fn by_lanes(plus: [u32; 16], minus: u32, by: [u32; 16], less: u32) -> Rests
     ensures { Rested (λ j. get_or plus j 0) minus (λ j. get_or by j 0) less result.lanes result.lacks }
 {
     let mut lanes = [0u32; 16];
-    let mut j: usize = 0;
-    while j < 16 {
+    for j in 0..16 {
         lanes[j] = remainder(plus[j], minus, by[j], less);
-        j += 1;
     }
     let lacks = mask(other(below([less; 16], by)));
     Rests { lanes, lacks }
@@ -143,10 +133,8 @@ fn by_small(lanes: [u32; 16], by: u32) -> [u32; 16]
     let times = 65536 / by + 1;
     let more = by - 128 % by;
     let mut rests = [0u32; 16];
-    let mut j: usize = 0;
-    while j < 16 {
+    for j in 0..16 {
         rests[j] = cast_out(lanes[j] % 256 + more, by, times);
-        j += 1;
     }
     rests
 }
@@ -157,11 +145,9 @@ fn by_large(lanes: [u32; 16], by: u32) -> [u32; 16]
     ensures { (j : ℕ) → j < 16 → get_or result j 0 ≡ rest (get_or lanes j 0 % 256) 128 by }
 {
     let mut rests = [0u32; 16];
-    let mut j: usize = 0;
-    while j < 16 {
+    for j in 0..16 {
         let x = lanes[j] % 256;
         rests[j] = if x < 128 { x + (by - 128) } else { x - 128 };
-        j += 1;
     }
     rests
 }

@@ -1,4 +1,4 @@
-use Prim.Native.Nat.{◌-◌, ◌%◌}
+use Prim.Native.Nat.{◌%◌}
 use mathlib.Core.Path.{◌≡◌}
 use lib.ListN.{get_or}
 use Rattle.sixteen.specs.Rest.{rest}
@@ -7,6 +7,3 @@ use Rattle.sixteen.proofs.by_small.Given as goal
 
 abbrev pub invariant-loop-j : goal.invariant-loop-j
 invariant-loop-j l = Filled 0 (λ k x. x ≡ rest (get_or l.lanes k 0 % 256) 128 l.by) l.rests l.j
-
-abbrev pub decreases-loop-j : goal.decreases-loop-j
-decreases-loop-j l = 16 - l.j
