@@ -4,6 +4,8 @@ use native.Mathlib.Omega.{arith}
 use mathlib.Core.Path.{◌≡◌, refl, sym, ap, subst, ◌∙◌}
 use mathlib.Core.Bool.{Bool, true, false, not, ◌&&◌, false≢true}
 use mathlib.Core.List.{List, [], ◌∷◌}
+use Rattle.std.specs.Prelude as prelude
+use Rattle.std.specs.Prelude.{Some, None}
 use mathlib.Core.Option.{Option, none, some, some-injective}
 use lib.ListN.{length, get_or, get_elem?}
 use lib.Dec.{eqb}
@@ -25,11 +27,10 @@ use Rattle.meaning.specs.Model.{number_after, vars, regions, region, guard_of, k
 use Rattle.meaning.proofs.ModelLaws.{region_numbered, holds_guard}
 use Rattle.meaning.proofs.Searching.{where_none_iff, where_some_iff}
 use Rattle.meaning.proofs.StateLaws.{number_below, state_at_number}
-use Rattle.breaking.specs.declared.Broken.TheVariants.{Never, At}
 use Rattle.states.specs.Rows.{TruthRow, GuardNumbers, KeptAll, HoldsAll, AfterAll}
 use Rattle.states.specs.Rows.{outcome_number, Outcomes}
 use Rattle.states.specs.Promises.{Looked, runs_by}
-use Rattle.breaking.specs.Broken.{BrokenAs, fails_by, breaks_by}
+use Rattle.breaking.specs.Broken.{BrokenAs, Lowest, LowestAt, fails_by, breaks_by}
 use Rattle.states.proofs.Holding.{row_of_kept, kept_truth}
 use Rattle.states.proofs.Held.{outcome_state}
 use Rattle.states.proofs.Regions.{looked, runs_true, runs_parts}
@@ -38,6 +39,16 @@ pub bit_is : (b : Bool) → not (eqb (bit b) 1) ≡ not b
 unfolding bit
 bit_is true = refl
 bit_is false = refl
+
+-- the lowest number that passes a test, and where none does
+pub found : {p : ℕ → Bool} {n s : ℕ} {o : prelude.Option ℕ} → o ≡ Some s → Lowest p n o → LowestAt p n s
+unfolding Lowest
+found e l = subst (Lowest _ _) e l
+
+pub nowhere : (p : ℕ → Bool) (n : ℕ) {o : prelude.Option ℕ} → o ≡ None → Lowest p n o
+    → (k : ℕ) → k < n → p k ≡ false
+unfolding Lowest
+nowhere p n e l = subst (Lowest p n) e l
 
 -- One region
 
@@ -97,7 +108,7 @@ module _ (m : Monitor) (rows : List ℕ) (outcomes : Outcomes m rows) where
         good few s h _ (outcomes j s low h))
 
     pub never : ((j : ℕ) → j < length (regions m) → (s : ℕ) → s < count (vars m) → Breaks j s ≡ false)
-        → BrokenAs Never (broken m)
+        → BrokenAs None (broken m)
     unfolding BrokenAs regions broken
     never quiet =
         let e = (where_none_iff (vars m) (breaks (vars m) (kept_at m)) (regions m)).1
@@ -106,7 +117,7 @@ module _ (m : Monitor) (rows : List ℕ) (outcomes : Outcomes m rows) where
 
     pub stops : (r s : ℕ) → r < length (regions m) → s < count (vars m) → Breaks r s ≡ true
         → ((k : ℕ) → k < s → Breaks r k ≡ false)
-        → ((j : ℕ) → j < r → (k : ℕ) → k < count (vars m) → Breaks j k ≡ false) → BrokenAs (At r s) (broken m)
+        → ((j : ℕ) → j < r → (k : ℕ) → k < count (vars m) → Breaks j k ≡ false) → BrokenAs (Some (r, s)) (broken m)
     unfolding BrokenAs IsRegion regions broken
     stops r s h low here below before =
         let is = region_numbered m r h in

@@ -15,60 +15,42 @@ ghost use Rattle.breaking.specs.Broken.{BrokenAs, fails_by, breaks_by, Lowest};
 use machine::StateNumber;
 use variables::Bounds;
 
-// Every region keeps, or the lowest region and then the lowest state from which one does not (9).
-#[derive(Clone, Copy)]
-pub enum Broken {
-    Never,
-    At(usize, StateNumber),
-}
-
 // Is an outcome a fault, or a state at which the kept condition is false?
 fn fails(kept: &[u8], to: StateNumber) -> bool
     ensures { result ≡ fails_by kept.now to }
 {
-    if to == states::FAULT {
-        return true;
-    }
-    states::byte_at(kept, to) != 1
+    to == states::FAULT || states::byte_at(kept, to) != 1
 }
 
 // Does a region break at a state, by what is held of that state (`here`, `held`) and the outcome of its body?
 fn breaks_at(kept: &[u8], here: u8, held: u16, guard: u8, to: StateNumber) -> bool
     ensures { result ≡ (fails_by kept.now to && (eqb here 1 && member held guard)) }
 {
-    if here != 1 {
-        return false;
-    }
-    if !sets::has(held, guard as u32) {
-        return false;
-    }
-    fails(kept, to)
+    here == 1 && sets::has(held, u32::from(guard)) && fails(kept, to)
 }
 
-// The lowest state at which a region breaks, by the outcomes of its body; the count of states where it never does.
+// The lowest state at which a region breaks, by the outcomes of its body.
 fn first_in_row(
     row: &[StateNumber],
     states: StateNumber,
     guard: u8,
     kept: &[u8],
     holds: &[u16],
-) -> StateNumber
+) -> Option<StateNumber>
     requires { (states ≤ length row.now) × (states ≤ length kept.now) × (states ≤ length holds.now) }
     ensures { Lowest
         (λ s. breaks_by kept.now holds.now guard s (get_or row.now s 0)) states result }
 {
-    let mut s: StateNumber = 0;
-    while s < states {
-        let at = s as usize;
+    for s in 0..states {
+        let at = usize::from(s);
         if breaks_at(kept, kept[at], holds[at], guard, row[at]) {
-            return s;
+            return Some(s);
         }
-        s += 1;
     }
-    states
+    None
 }
 
-// Every region keeps, or the lowest region and then the lowest state from which the outcome is a fault or not kept (9).
+// The lowest region, and then the lowest state, from which the outcome of the body is a fault or not kept (9).
 pub fn first_broken(
     bounds: Bounds,
     guard_of: [u8; machine::REGIONS],
@@ -76,38 +58,34 @@ pub fn first_broken(
     kept: &[u8],
     holds: &[u16],
     after: &[StateNumber],
-) -> Broken
+) -> Option<(usize, StateNumber)>
     ensures { (m : Monitor) → Bounded (vars m) bounds → count ≡ length (regions m) → count ≤ most_regions
         → GuardNumbers m guard_of → most_states ≤ length kept.now → most_states ≤ length holds.now
         → most_after ≤ length after.now → KeptAll m kept.now → HoldsAll m holds.now
         → Outcomes m after.now → BrokenAs result (broken m) }
 {
     if kept.len() < machine::STATES {
-        return Broken::Never;
+        return None;
     }
     if holds.len() < machine::STATES {
-        return Broken::Never;
+        return None;
     }
     if after.len() < machine::AFTER {
-        return Broken::Never;
+        return None;
     }
     if machine::REGIONS < count {
-        return Broken::Never;
+        return None;
     }
     let states = bounds.states;
     if machine::STATE_END < states {
-        return Broken::Never;
+        return None;
     }
-    let mut r: usize = 0;
-    while r < count {
+    for r in 0..count {
         let from = r * machine::STATES;
-        let to = from + machine::STATES;
-        let guard = guard_of[r];
-        let s = first_in_row(&after[from..to], states, guard, kept, holds);
-        if s < states {
-            return Broken::At(r, s);
+        let row = &after[from..from + machine::STATES];
+        if let Some(s) = first_in_row(row, states, guard_of[r], kept, holds) {
+            return Some((r, s));
         }
-        r += 1;
     }
-    Broken::Never
+    None
 }

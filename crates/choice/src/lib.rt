@@ -91,12 +91,10 @@ fn drop_all(choice: Choice, lost: u16, pass: u8, region: u8, state: StateNumber)
         → slot_of result u ≡ mark_if (member lost u) pass region state (slot_of choice u) }
 {
     let mut next = choice;
-    let mut i: usize = 0;
-    while i < syntax::TRIES {
+    for i in 0..syntax::TRIES {
         if sets::has(lost, i as u32) {
             next = mark(next, i, pass, region, state);
         }
-        i += 1;
     }
     next
 }
@@ -120,8 +118,7 @@ fn drop_row(
         (slot_of before u) }
 {
     let mut choice = before;
-    let mut s: StateNumber = 0;
-    while s < states {
+    for s in 0..states {
         let to = states::number_at(row, s);
         if binds(keep, holds, tried, guard, set, s, to) {
             let lost = sets::minus(choice.chosen, states::number_at(tried, to));
@@ -129,7 +126,6 @@ fn drop_row(
                 choice = drop_all(choice, lost, pass, region, s);
             }
         }
-        s += 1;
     }
     choice
 }
@@ -154,8 +150,7 @@ fn drop_pass(
         (slot_of before u) }
 {
     let mut choice = before;
-    let mut r: usize = 0;
-    while r < regions {
+    for r in 0..regions {
         let from = r * machine::STATES;
         let to = from + machine::STATES;
         choice = drop_row(
@@ -170,7 +165,6 @@ fn drop_pass(
             r as u8,
             choice,
         );
-        r += 1;
     }
     choice
 }
@@ -204,8 +198,7 @@ pub fn choose(
     if syntax::TRIES < tries {
         return choice;
     }
-    let mut k: usize = 0;
-    while k < tries {
+    for k in 0..tries {
         let set = choice.chosen;
         let next = drop_pass(
             after,
@@ -223,7 +216,6 @@ pub fn choose(
             return choice;
         }
         choice = next;
-        k += 1;
     }
     choice
 }
@@ -240,11 +232,9 @@ pub fn strengthen(kept: &mut [u8], tried: &[u16], chosen: u16, states: StateNumb
     if kept.len() < states as usize {
         return;
     }
-    let mut s: StateNumber = 0;
-    while s < states {
+    for s in 0..states {
         if misses(states::number_at(tried, s), chosen) {
             kept[s as usize] = 0;
         }
-        s += 1;
     }
 }

@@ -5,6 +5,8 @@ use mathlib.Core.Bool.{Bool, true, false, not, ◌&&◌}
 use mathlib.Core.List.{List}
 use mathlib.Core.Option.{Option, none, some}
 use lib.ListN.{length, get_or}
+use Rattle.std.specs.Prelude as prelude
+use Rattle.std.specs.Prelude.{Some, None}
 use Rattle.syntax.specs.Token.{Lexeme}
 use Rattle.syntax.specs.Tree.{Monitor}
 use Rattle.logic.specs.Tests.{bit}
@@ -23,8 +25,6 @@ use Rattle.states.specs.Rows.{TruthRow, TruthSets, GuardNumbers, KeptAll}
 use Rattle.breaking.specs.Broken.{BrokenAs}
 use Rattle.states.proofs.Holding.{kept_of_row}
 use Rattle.breaking.proofs.Breaking.{after_all}
-use Rattle.breaking.specs.declared.Broken.{Broken}
-use Rattle.breaking.specs.declared.Broken.TheVariants.{Never, At}
 use Rattle.choice.specs.Slots.{lacks}
 use Rattle.choice.specs.Chosen.{Chooses}
 use Rattle.choice.proofs.Passing.{all_there, chosen_set}
@@ -46,12 +46,12 @@ said {n = n} {k} {i} e t =
     subst (λ (x : Answer). (x.number ≡ n) × (x.first ≡ k) × (x.second ≡ i)) (sym e) t
 
 -- the answer for refusal 9, read backwards
-stopped : (o : Option (ℕ × ℕ)) {x : Broken} {k n : ℕ} → BrokenAs x o → x ≡ At k n → o ≡ some (k, n)
+stopped : (o : Option (ℕ × ℕ)) {x : prelude.Option (ℕ × ℕ)} {k n : ℕ} → BrokenAs x o → x ≡ Some (k, n) → o ≡ some (k, n)
 unfolding BrokenAs
 stopped none a e = different (cc)
 stopped (some (i, j)) a e = cc
 
-passed : (o : Option (ℕ × ℕ)) {x : Broken} → BrokenAs x o → x ≡ Never → o ≡ none
+passed : (o : Option (ℕ × ℕ)) {x : prelude.Option (ℕ × ℕ)} → BrokenAs x o → x ≡ None → o ≡ none
 unfolding BrokenAs
 passed none a e = refl
 passed (some q) a e = different (cc)
@@ -85,10 +85,10 @@ module _ (m : Monitor) (place : ℕ) (r : Settled) (kept holds after : List ℕ)
   pub filled_on : t ≡ true → Settles m r kept holds after → Filled m place r kept holds after
   filled_on on s = record { fails = λ off. clash (start_kept m ∙ sym is ∙ on) off; settles = λ _. s }
 
-module _ (m : Monitor) (r : Settled) (kept holds after : List ℕ) {x : Broken} (a : BrokenAs x (broken m))
+module _ (m : Monitor) (r : Settled) (kept holds after : List ℕ) {x : prelude.Option (ℕ × ℕ)} (a : BrokenAs x (broken m))
     (full : Rows m kept holds after) (choice : Chooses m r.choice) where
   -- 9
-  pub settled_9 : (k n : ℕ) → x ≡ At k n → (r.answer.number ≡ 9) × (r.answer.first ≡ k) × (r.answer.second ≡ n)
+  pub settled_9 : (k n : ℕ) → x ≡ Some (k, n) → (r.answer.number ≡ 9) × (r.answer.first ≡ k) × (r.answer.second ≡ n)
       → Settles m r kept holds after
   settled_9 k n e (p, q, s) =
       let stops = stopped (broken m) a e in
@@ -106,7 +106,7 @@ module _ (m : Monitor) (r : Settled) (kept holds after : List ℕ) {x : Broken} 
       }
 
   -- 0
-  pub settled_0 : x ≡ Never → (r.answer.number ≡ 0) × (r.answer.first ≡ 0) × (r.answer.second ≡ 0)
+  pub settled_0 : x ≡ None → (r.answer.number ≡ 0) × (r.answer.first ≡ 0) × (r.answer.second ≡ 0)
       → Settles m r kept holds after
   settled_0 e (p, q, s) =
       let none_stops = passed (broken m) a e in

@@ -11,7 +11,6 @@ ghost use Rattle.rows.specs.Filling.{Filling};
 ghost use Rattle.filling.specs.Filling.{Settles, Filled, AsLong, Leaves};
 
 use answers::Answer;
-use breaking::Broken;
 use choice::Choice;
 use layout::{Layout, Tries};
 use machine::StateNumber;
@@ -77,8 +76,8 @@ fn fill_states(
     );
     choice::strengthen(kept, tried, choice.chosen, bounds.states);
     match breaking::first_broken(bounds, numbers, regions, kept, holds, after) {
-        Broken::At(r, s) => with_choice(answers::say(9, r, s as usize), choice),
-        Broken::Never => with_choice(answers::say(0, 0, 0), choice),
+        Some((r, s)) => with_choice(answers::say(9, r, usize::from(s)), choice),
+        None => with_choice(answers::say(0, 0, 0), choice),
     }
 }
 

@@ -18,7 +18,7 @@ use Rattle.layout.specs.declared.Layout.{Layout}
 use Rattle.layout.specs.declared.Tries.{Tries}
 use Rattle.layout.proofs.Closes.{open_bracket, shut_bracket, open_brace, shut_brace, semicolon_kind}
 use Rattle.layout.proofs.Trees.{brackets_balanced, semicolons_balanced, braces_balanced}
-use Rattle.mentions.specs.Gathered.{Gathers, guard_at, InGuards, InBodies, Touches}
+use Rattle.mentions.specs.Gathered.{Gathers, guard_at, Touches}
 use Rattle.evaluator.specs.Coding.{Covers}
 use Rattle.mentions.specs.Mentioned.{Resolved, Mentioned}
 use Rattle.mentions.specs.declared.Mentions.{Mentions}
@@ -27,6 +27,11 @@ use Rattle.mentions.proofs.Touches.{HasSlots, has_slots, covers, touches}
 
 module _ {m : Monitor} {ls : List Lexeme} {kinds values : List ℕ} {n : ℕ} {l : Layout} {t : Tries}
     (known : Resolved m ls kinds values n l t) where
+  -- sets have the slots of so many texts
+  abbrev pub InTexts : Bool → ℕ → ℕ → (ℕ → ℕ) → ℕ → List ℕ → Type 0
+  InTexts left opener closer at count sets =
+      (i : ℕ) → i < count → i < 16 → Gathers kinds left values opener closer (at i) (get_or sets i 0)
+
   -- a condition that ends at a semicolon
   condition_covers : (c : Cond) (at set : ℕ) (us : List Lexeme) → drop at ls ≡ spell_cond c ++ (mark semicolon ∷ us)
       → Gathers kinds false values no_kind semicolon_kind at set → Covers (vars m) (spell_cond c) set
@@ -44,7 +49,7 @@ module _ {m : Monitor} {ls : List Lexeme} {kinds values : List ℕ} {n : ℕ} {l
       let (us, e) = known.tries_laid.stand i h in
       rw (get_d_below m.tries i no_try no_guard h) at (condition_covers _ (get_or t.ats i 0) set us e g)
 
-  body_slots : (left : Bool) (sets : List ℕ) → InBodies kinds left values l sets → (q : ℕ) → q < length (regions m)
+  body_slots : (left : Bool) (sets : List ℕ) → InTexts left open_brace shut_brace (λ q. get_or l.bodies_at q 0) l.regions sets → (q : ℕ) → q < length (regions m)
       → HasSlots left (vars m) (spell_block (region m q).body) (get_or sets q 0)
   unfolding kind_of mark_number
   body_slots left sets g q h =
@@ -52,12 +57,12 @@ module _ {m : Monitor} {ls : List Lexeme} {kinds values : List ℕ} {n : ℕ} {l
       has_slots known.codes left open_brace shut_brace (get_or l.bodies_at q 0) (get_or sets q 0)
       (spell_block (region m q).body) stands.behind_body (mark rbrace) (braces_balanced (region m q).body)
       (λ e. omega arith) refl (λ e. omega arith) stands.body_stands
-      (g.each q (omega (arith, known.laid.region_count)) (omega (arith, known.few_regions)))
+      (g q (omega (arith, known.laid.region_count)) (omega (arith, known.few_regions)))
 
   guard_few : (g : ℕ) → g < length (guards m) → g < 16
   guard_few g h = omega (arith, few_guards known.laid known.few_regions)
 
-  guard_slots : (sets : List ℕ) → InGuards kinds false values l sets → (g : ℕ) → g < length (guards m)
+  guard_slots : (sets : List ℕ) → InTexts false open_bracket shut_bracket (guard_at l) l.guards sets → (g : ℕ) → g < length (guards m)
       → HasSlots false (vars m) (spell_cond (get_or (guards m) g no_guard)) (get_or sets g 0)
   unfolding kind_of mark_number
   guard_slots sets gathers g h =
@@ -65,15 +70,15 @@ module _ {m : Monitor} {ls : List Lexeme} {kinds values : List ℕ} {n : ℕ} {l
       has_slots known.codes false open_bracket shut_bracket (guard_at l g) (get_or sets g 0)
       (spell_cond (get_or (guards m) g no_guard)) us (mark rparen) (brackets_balanced (get_or (guards m) g no_guard))
       (λ e. omega arith) refl (λ e. omega arith) e
-      (gathers.each g (omega (arith, known.laid.guard_count)) (guard_few g h))
+      (gathers g (omega (arith, known.laid.guard_count)) (guard_few g h))
 
   -- all sets of the file
   module _ (r : Mentions) (assigned : List ℕ)
       (keep : Gathers kinds false values no_kind semicolon_kind l.keep r.keep)
-      (tries : (i : ℕ) → i < t.count → i < 16
-      → Gathers kinds false values no_kind semicolon_kind (get_or t.ats i 0) (get_or r.tries i 0))
-      (named : InGuards kinds false values l r.guards) (bodies : InBodies kinds false values l r.bodies)
-      (lefts : InBodies kinds true values l assigned)
+      (tries : InTexts false no_kind semicolon_kind (λ i. get_or t.ats i 0) t.count r.tries)
+      (named : InTexts false open_bracket shut_bracket (guard_at l) l.guards r.guards)
+      (bodies : InTexts false open_brace shut_brace (λ q. get_or l.bodies_at q 0) l.regions r.bodies)
+      (lefts : InTexts true open_brace shut_brace (λ q. get_or l.bodies_at q 0) l.regions assigned)
       (meeting : (q : ℕ) → q < 16
       → Touches l.guards n r.guards (get_or assigned q 0) (get_or r.touched q 0)) where
     pub mentioned : Mentioned m r

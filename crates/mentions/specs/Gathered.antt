@@ -1,17 +1,24 @@
 -- What the scan of a text's tokens gathers, by the slices of kinds and operands alone: the slots of its names; and which
 -- sets have a slot in common.
-use Rattle.std.specs.Prelude.{ℕ, ◌+◌, ◌%◌, ◌<◌, ◌≡◌, Bool, not, ◌&&◌, ◌||◌, List, get_or, drop, eqb, ltb}
+use Rattle.std.specs.Prelude.{ℕ, ◌+◌, ◌%◌, ◌≡◌, Bool, true, false, not, ◌&&◌, ◌||◌, List, get_or, drop, eqb, ltb}
 use Rattle.sets.specs.Set.{member}
 use Rattle.machine.specs.Limits.{most_regions}
-use Rattle.syntax.specs.Token.{mark, lbrace, rbrace, lparen, rparen, becomes}
+use Rattle.syntax.specs.Token.{mark, becomes}
 use Rattle.syntax.specs.Held.Kind.{kind_of, name_kind, no_kind}
 use Rattle.logic.specs.Tests.{any}
 use Rattle.layout.specs.Closing.{close_from}
 use Rattle.layout.specs.declared.Layout.{Layout}
+use Rattle.mentions.specs.declared.Which.{Which}
+use Rattle.mentions.specs.declared.Which.TheVariants.{Named, Assigned}
 
 -- what a set of bits has room for
 abbrev pub most_slots : ℕ
 most_slots = 16
+
+-- only left sides count
+unfoldable pub only_left : Which → Bool
+only_left Named = false
+only_left Assigned = true
 
 module _ (kinds : List ℕ) (left : Bool) where
   -- a token is a name, and where only left sides count, `:=` stands behind it
@@ -35,17 +42,6 @@ module _ (kinds : List ℕ) (left : Bool) where
 -- the token at which a guard begins: that of the first region that has it
 abbrev pub guard_at : Layout → ℕ → ℕ
 guard_at l g = get_or l.guards_at (get_or l.firsts g 0 % most_regions) 0
-
--- sets have the slots of each guard, and of each body
-module _ (kinds : List ℕ) (left : Bool) (values : List ℕ) (l : Layout) (sets : List ℕ) where
-  pub record InGuards : Type 0 where
-    pub each : (g : ℕ) → g < l.guards → g < most_regions
-        → Gathers kinds left values (kind_of (mark lparen)) (kind_of (mark rparen)) (guard_at l g) (get_or sets g 0)
-
-  pub record InBodies : Type 0 where
-    pub each : (q : ℕ) → q < l.regions → q < most_regions
-        → Gathers kinds left values (kind_of (mark lbrace)) (kind_of (mark rbrace)) (get_or l.bodies_at q 0)
-        (get_or sets q 0)
 
 -- two sets have one of the first n slots in common
 unfoldable pub meet_below : ℕ → ℕ → ℕ → Bool

@@ -2,13 +2,13 @@
 // the guards that it touches: those that name a variable which its body assigns. By one scan of each text's tokens.
 #![tactic(auto)]
 
-ghost use Rattle.std.specs.Prelude.{◌≡◌, false, List, ℕ, ◌-◌, ◌<◌, ◌≤◌, get_or};
+ghost use Rattle.std.specs.Prelude.{◌≡◌, List, ℕ, ◌-◌, ◌<◌, ◌≤◌, get_or};
 ghost use Rattle.machine.specs.Limits.{most_regions};
 ghost use Rattle.sets.specs.Set.{member, size};
 ghost use Rattle.meaning.specs.Decide.Touch.{sum_of};
 ghost use Rattle.syntax.specs.Token.{Lexeme};
 ghost use Rattle.syntax.specs.Tree.{Monitor};
-ghost use Rattle.mentions.specs.Gathered.{counts_at, gathered, Gathers, guard_at, InGuards, InBodies};
+ghost use Rattle.mentions.specs.Gathered.{only_left, counts_at, gathered, Gathers, guard_at};
 ghost use Rattle.mentions.specs.Gathered.{meet_below, Touches};
 ghost use Rattle.mentions.specs.Mentioned.{Resolved, Mentioned};
 
@@ -28,74 +28,71 @@ pub struct Mentions {
 // How many tokens behind a left side `:=` stands.
 const TO_BECOMES: usize = 1;
 
+// Which tokens of a text count: all its names, or those that are left sides.
+#[derive(Clone, Copy)]
+enum Which {
+    Named,
+    Assigned,
+}
+
+impl Which {
+    // Whether a token is one of them.
+    fn counts(self, kinds: &[u8], i: usize) -> bool
+        ensures { result ≡ counts_at kinds.now (only_left self) i }
+    {
+        layout::kind_at(kinds, i) == syntax::NAME
+            && match self {
+                Which::Named => true,
+                Which::Assigned => layout::kind_at(kinds, i + TO_BECOMES) == syntax::BECOMES,
+            }
+    }
+}
+
+// The kinds of the tokens between which a text stands: it ends before the closer that no opener in it has.
+#[derive(Clone, Copy)]
+struct Ends {
+    opener: u8,
+    closer: u8,
+}
+
 // The tokens at which the guards begin, by guard.
 pub fn guards_at(layout: Layout) -> [u16; machine::REGIONS]
     ensures { (g : ℕ) → g < most_regions → get_or result g 0 ≡ guard_at layout g }
 {
-    let mut ats = [0u16; machine::REGIONS];
-    let mut g = 0;
-    while g < machine::REGIONS {
-        ats[g] = layout.guards_at[(layout.firsts[g] % machine::REGION_END) as usize];
-        g += 1;
-    }
-    ats
-}
-
-// The place of a token, as wide as an index.
-fn wide(at: u16) -> usize
-    ensures { result ≡ at }
-{
-    at as usize
+    let firsts = layout.firsts;
+    firsts.map(|first| layout.guards_at[usize::from(first % machine::REGION_END)])
 }
 
 // What is held at a token, 0 past the last.
 fn slot_at(values: &[u16], at: usize) -> u32
     ensures { result ≡ get_or values.now at 0 }
 {
-    if at < values.len() {
-        values[at] as u32
-    } else {
-        0
+    match values.get(at) {
+        Some(slot) => u32::from(*slot),
+        None => 0,
     }
 }
 
-// Whether a token is a name, or a left side where only these count.
-fn counts(kinds: &[u8], i: usize, left: bool) -> bool
-    ensures { result ≡ counts_at kinds.now left i }
-{
-    if layout::kind_at(kinds, i) != syntax::NAME {
-        return false;
-    }
-    !left | (layout::kind_at(kinds, i + TO_BECOMES) == syntax::BECOMES)
-}
-
-// The slots of the names from one token to another, or of the left sides there.
-fn gather(kinds: &[u8], values: &[u16], from: usize, to: usize, left: bool) -> u16
+// The slots of the tokens that count, from one token to another.
+fn gather(kinds: &[u8], values: &[u16], from: usize, to: usize, which: Which) -> u16
     ensures { (k : ℕ) → member result k
-        ≡ gathered kinds.now left values.now from (to - from) k }
+        ≡ gathered kinds.now (only_left which) values.now from (to - from) k }
 {
     let mut set: u16 = 0;
-    let mut i = from;
-    while i < to {
-        if counts(kinds, i, left) {
+    for i in from..to {
+        if which.counts(kinds, i) {
             set = sets::with(set, slot_at(values, i));
         }
-        i += 1;
     }
     set
 }
 
-// The same of the text that begins at a token and ends before the one that closes.
-fn gather_from(kinds: &[u8], values: &[u16], at: usize, opener: u8, closer: u8, left: bool) -> u16
-    ensures { Gathers kinds.now left values.now opener closer at result }
+// The same of the text that begins at a token.
+fn gather_from(kinds: &[u8], values: &[u16], at: usize, ends: Ends, which: Which) -> u16
+    ensures { Gathers kinds.now (only_left which) values.now ends.opener ends.closer at result }
 {
-    gather(
-        kinds,
-        values,
-        at,
-        layout::closing(kinds, at, opener, closer),
-        left,
-    )
+    let to = layout::closing(kinds, at, ends.opener, ends.closer);
+    gather(kinds, values, at, to, which)
 }
 
 // The same of some texts, at most sixteen.
@@ -104,20 +101,17 @@ fn gather_all(
     values: &[u16],
     ats: [u16; machine::REGIONS],
     count: usize,
-    opener: u8,
-    closer: u8,
-    left: bool,
+    ends: Ends,
+    which: Which,
 ) -> [u16; machine::REGIONS]
     ensures { (i : ℕ) → i < count → i < most_regions
-        → Gathers kinds.now left values.now opener closer (get_or ats i 0) (get_or result i 0) }
+        → Gathers kinds.now (only_left which) values.now ends.opener ends.closer (get_or ats i 0) (get_or result i 0) }
 {
     let mut all = [0u16; machine::REGIONS];
-    let mut i: usize = 0;
-    while i < machine::REGIONS {
+    for i in 0..machine::REGIONS {
         if i < count {
-            all[i] = gather_from(kinds, values, wide(ats[i]), opener, closer, left);
+            all[i] = gather_from(kinds, values, usize::from(ats[i]), ends, which);
         }
-        i += 1;
     }
     all
 }
@@ -134,12 +128,10 @@ fn touched_by(assigned: u16, named: [u16; machine::REGIONS], guards: usize, vari
     ensures { Touches guards variables named assigned result }
 {
     let mut set: u16 = 0;
-    let mut guard: usize = 0;
-    while guard < machine::REGIONS {
+    for guard in 0..machine::REGIONS {
         if (guard < guards) & meets(named[guard], assigned, variables) {
             set = sets::with(set, guard as u32);
         }
-        guard += 1;
     }
     set
 }
@@ -154,44 +146,10 @@ fn touched_all(
     ensures { (q : ℕ) → q < most_regions → Touches guards variables named (get_or assigned q 0) (get_or result q 0) }
 {
     let mut all = [0u16; machine::REGIONS];
-    let mut q: usize = 0;
-    while q < machine::REGIONS {
+    for q in 0..machine::REGIONS {
         all[q] = touched_by(assigned[q], named, guards, variables);
-        q += 1;
     }
     all
-}
-
-// What each guard names.
-fn in_guards(kinds: &[u8], values: &[u16], layout: Layout) -> [u16; machine::REGIONS]
-    ensures { InGuards kinds.now false values.now layout result }
-{
-    let ats = guards_at(layout);
-    gather_all(
-        kinds,
-        values,
-        ats,
-        layout.guards,
-        syntax::LPAREN,
-        syntax::RPAREN,
-        false,
-    )
-}
-
-// What each body names, or what it assigns.
-fn in_bodies(kinds: &[u8], values: &[u16], layout: Layout, left: bool) -> [u16; machine::REGIONS]
-    ensures { InBodies kinds.now left values.now layout result }
-{
-    let ats = layout.bodies_at;
-    gather_all(
-        kinds,
-        values,
-        ats,
-        layout.regions,
-        syntax::LBRACE,
-        syntax::RBRACE,
-        left,
-    )
 }
 
 // What the texts of a file name, and what its regions touch, once names are resolved: how many variables the file has,
@@ -206,26 +164,29 @@ pub fn survey(
     ensures { (m : Monitor) (ls : List Lexeme)
         → Resolved m ls kinds.now values.now variables layout tries → Mentioned m result }
 {
-    let at = layout.keep;
-    let keep = gather_from(kinds, values, at, syntax::NO_KIND, syntax::SEMICOLON, false);
-    let ats = tries.ats;
-    let tried = gather_all(
-        kinds,
-        values,
-        ats,
-        tries.count,
-        syntax::NO_KIND,
-        syntax::SEMICOLON,
-        false,
-    );
-    let guards = in_guards(kinds, values, layout);
-    let bodies = in_bodies(kinds, values, layout, false);
-    let assigned = in_bodies(kinds, values, layout, true);
+    let condition = Ends {
+        opener: syntax::NO_KIND,
+        closer: syntax::SEMICOLON,
+    };
+    let guard = Ends {
+        opener: syntax::LPAREN,
+        closer: syntax::RPAREN,
+    };
+    let body = Ends {
+        opener: syntax::LBRACE,
+        closer: syntax::RBRACE,
+    };
+    let named = Which::Named;
+    let guards_at = guards_at(layout);
+    let guards = gather_all(kinds, values, guards_at, layout.guards, guard, named);
+    let bodies_at = layout.bodies_at;
+    let regions = layout.regions;
+    let assigned = gather_all(kinds, values, bodies_at, regions, body, Which::Assigned);
     Mentions {
-        keep: keep,
-        guards: guards,
-        tries: tried,
-        bodies: bodies,
+        keep: gather_from(kinds, values, layout.keep, condition, named),
+        guards,
+        tries: gather_all(kinds, values, tries.ats, tries.count, condition, named),
+        bodies: gather_all(kinds, values, bodies_at, regions, body, named),
         touched: touched_all(assigned, guards, layout.guards, variables),
     }
 }
@@ -235,13 +196,8 @@ pub fn pairs_of(touched: [u16; machine::REGIONS], regions: usize) -> u16
     ensures { regions ≤ most_regions → result ≡ sum_of regions (λ q. size (get_or touched q 0) most_regions) }
 {
     let mut pairs: u16 = 0;
-    let mut q: usize = 0;
-    while q < machine::REGIONS {
-        if regions <= q {
-            return pairs;
-        }
+    for q in 0..regions.min(machine::REGIONS) {
         pairs += sets::count(touched[q]) as u16;
-        q += 1;
     }
     pairs
 }

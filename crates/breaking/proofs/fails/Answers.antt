@@ -11,8 +11,8 @@ pub returns-then-to-eq-FAULT : goal.returns-then-to-eq-FAULT
 unfolding fails_by
 returns-then-to-eq-FAULT c = rw (eq-eqb _ 4096 c.if-to-eq-FAULT.true)
 
-pub returns : goal.returns
+pub returns-else-to-eq-FAULT : goal.returns-else-to-eq-FAULT
 unfolding fails_by
-returns c =
+returns-else-to-eq-FAULT c =
     rw (ne_eqb c.args.to 4096 c.if-to-eq-FAULT.false)
     (ap (λ (n : ℕ). not (eqb n 1)) c.byte_at.ensures)

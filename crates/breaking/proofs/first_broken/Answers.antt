@@ -3,21 +3,19 @@ use Prim.Native.Nat.{ℕ, ◌+◌, ◌-◌, ◌*◌, ◌<◌}
 use native.Mathlib.Omega.{arith}
 use mathlib.Core.Path.{◌≡◌, sym, ap, ◌∙◌}
 use lib.ListN.{get_or, take, drop}
-use Rattle.meaning.specs.State.{count}
-use Rattle.meaning.specs.Model.{vars}
 use Rattle.breaking.specs.Broken.{breaks_by}
 use Rattle.logic.proofs.Lists.{passed}
 use Rattle.states.proofs.Regions.{part_at}
-use Rattle.breaking.proofs.Breaking.{never, stops}
+use Rattle.breaking.proofs.Breaking.{found, nowhere, never, stops}
 use Rattle.breaking.proofs.first_broken.Goals as goal
-use Rattle.breaking.proofs.first_broken.Goals.{After-first_in_row-s}
+use Rattle.breaking.proofs.first_broken.Goals.{After-first_in_row}
 use Rattle.breaking.proofs.first_broken.Invariants.{Quiet}
 
 pub loop-r-init : goal.loop-r-init
-loop-r-init c = (omega arith, λ j h. absurd (omega arith))
+loop-r-init c = λ j h. absurd (omega arith)
 
 -- region r at a state, by the slices and by the row that was lent
-at_row : (c : After-first_in_row-s) (s : ℕ) → s < 4096 →
+at_row : (c : After-first_in_row) (s : ℕ) → s < 4096 →
     let r = c.loop-r.r in
     let a = c.args in
     breaks_by a.kept.now a.holds.now (get_or a.guard_of r 0) s (get_or a.after.now (r * 4096 + s) 0)
@@ -29,29 +27,30 @@ at_row c s h =
     ap (breaks_by a.kept.now a.holds.now (get_or a.guard_of r 0) s)
     (sym (part_at a.after.now r (r * 4096 + 4096 - r * 4096) s (omega arith) h))
 
-pub returns-then-s-states : goal.returns-then-s-states
-returns-then-s-states c m b counted small numbers l₁ l₂ l₃ k h o =
+pub returns-in-Some : goal.returns-in-Some
+returns-in-Some c m b counted small numbers l₁ l₂ l₃ k h o =
     let i = c.loop-r in
-    let low : c.first_in_row-s.result < count (vars m) = omega (arith, b.states) in
-    stops m _ o _ _ _ b.good b.few_states k h numbers i.r c.first_in_row-s.result (omega arith) low
-    (at_row (goal.at.returns-then-s-states c).After-first_in_row-s _ (omega (arith, b.few_states)) ∙ c.first_in_row-s.ensures.passes c.if-s-states.true)
-    (λ s l. at_row (goal.at.returns-then-s-states c).After-first_in_row-s s (omega (arith, b.few_states)) ∙ c.first_in_row-s.ensures.lower s l)
-    (λ j l s below. i.invariant.1 j l s (omega (arith, b.states)) (omega (arith, b.few_states)))
+    let s = c.in-Some.s in
+    let low = found c.in-Some.is c.first_in_row.ensures in
+    let row = at_row (goal.at.returns-in-Some c).After-first_in_row in
+    stops m _ o _ _ _ b.good b.few_states k h numbers i.r s (omega arith) (omega (arith, b.states, low.within))
+    (row _ (omega (arith, b.few_states, b.states, low.within)) ∙ low.passes)
+    (λ t l. row t (omega (arith, b.few_states, b.states, low.within)) ∙ low.lower t l)
+    (λ j l t below. i.invariant j l t (omega (arith, b.states)) (omega (arith, b.few_states)))
 
 pub loop-r-preserved : goal.loop-r-preserved
 loop-r-preserved c =
     let i = c.loop-r in
-    let a = c.args in (
-      omega arith,
-      passed (Quiet a.kept.now a.holds.now a.after.now a.guard_of a.bounds.states) i.r i.invariant.1
-          (λ s below h. at_row (goal.at.loop-r-preserved c).After-first_in_row-s s h ∙ c.first_in_row-s.ensures.lower s (omega arith)),
-    )
+    let a = c.args in
+    passed (Quiet a.kept.now a.holds.now a.after.now a.guard_of a.bounds.states) i.r i.invariant
+    (λ s below h. at_row (goal.at.loop-r-preserved c).After-first_in_row s h
+    ∙ nowhere _ _ c.in_default.is c.first_in_row.ensures s below)
 
 pub returns : goal.returns
 returns c m b counted small numbers l₁ l₂ l₃ k h o =
     never m _ o _ _ _ b.good b.few_states k h numbers
     (λ j low s below.
-    c.loop-r.invariant.1 j (omega arith) s (omega (arith, b.states)) (omega (arith, b.few_states)))
+    c.loop-r.invariant j (omega arith) s (omega (arith, b.states)) (omega (arith, b.few_states)))
 
 pub returns-then-kept-lt-STATES : goal.returns-then-kept-lt-STATES
 returns-then-kept-lt-STATES = λ c m b counted small numbers l₁ l₂ l₃ k h o. absurd (omega arith)

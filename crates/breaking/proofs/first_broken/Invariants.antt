@@ -1,4 +1,4 @@
-use Prim.Native.Nat.{ℕ, ◌+◌, ◌-◌, ◌*◌, ◌≤◌, ◌<◌}
+use Prim.Native.Nat.{ℕ, ◌+◌, ◌*◌, ◌<◌}
 use mathlib.Core.Path.{◌≡◌}
 use mathlib.Core.Bool.{false}
 use mathlib.Core.List.{List}
@@ -12,8 +12,4 @@ Quiet kept holds after numbers states j =
     (s : ℕ) → s < states → s < 4096 → breaks_by kept holds (get_or numbers j 0) s (get_or after (j * 4096 + s) 0) ≡ false
 
 abbrev pub invariant-loop-r : goal.invariant-loop-r
-invariant-loop-r l =
-    (l.r ≤ l.count) × ((j : ℕ) → j < l.r → Quiet l.kept l.holds l.after l.guard_of l.states j)
-
-abbrev pub decreases-loop-r : goal.decreases-loop-r
-decreases-loop-r l = l.count - l.r
+invariant-loop-r l = (j : ℕ) → j < l.r → Quiet l.kept l.holds l.after l.guard_of l.states j

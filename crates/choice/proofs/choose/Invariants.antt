@@ -1,4 +1,4 @@
-use Prim.Native.Nat.{◌-◌, ◌^◌, ◌≤◌, ◌<◌}
+use Prim.Native.Nat.{◌^◌, ◌≤◌, ◌<◌}
 use Rattle.syntax.specs.Tree.{Monitor}
 use Rattle.choice.specs.Chosen.{Tried}
 use Rattle.choice.proofs.Staging.{Stage}
@@ -8,6 +8,3 @@ abbrev pub invariant-loop-k : goal.invariant-loop-k
 invariant-loop-k l =
     (l.k ≤ l.tries) × (l.choice.chosen < 2 ^ 16)
     × ((m : Monitor) → Tried m l.states l.guard_of l.regions l.start l.tries l.keep l.holds l.after l.tried → Stage m l.k l.choice)
-
-abbrev pub decreases-loop-k : goal.decreases-loop-k
-decreases-loop-k l = l.tries - l.k

@@ -1,4 +1,4 @@
-use Prim.Native.Nat.{ℕ, ◌-◌, ◌≤◌, ◌<◌}
+use Prim.Native.Nat.{ℕ, ◌≤◌, ◌<◌}
 use mathlib.Core.Path.{◌≡◌}
 use Rattle.sets.specs.Set.{member}
 use Rattle.choice.specs.Slots.{slot_of, mark_if}
@@ -8,6 +8,3 @@ abbrev pub invariant-loop-i : goal.invariant-loop-i
 invariant-loop-i l =
     (l.i ≤ 16) × ((u : ℕ) → u < l.i → slot_of l.next u ≡ mark_if (member l.lost u) l.pass l.region l.state (slot_of l.initial.next u))
     × ((u : ℕ) → l.i ≤ u → u < 16 → slot_of l.next u ≡ slot_of l.initial.next u)
-
-abbrev pub decreases-loop-i : goal.decreases-loop-i
-decreases-loop-i l = 16 - l.i

@@ -1,4 +1,4 @@
-use Prim.Native.Nat.{ℕ, ◌-◌, ◌≤◌, ◌<◌}
+use Prim.Native.Nat.{ℕ, ◌≤◌, ◌<◌}
 use mathlib.Core.Path.{◌≡◌}
 use Rattle.choice.specs.Slots.{breaks_by, slot_of, rows_slot}
 use Rattle.choice.proofs.drop_pass.Given as goal
@@ -8,6 +8,3 @@ invariant-loop-r l =
     (l.r ≤ l.regions)
     × ((u : ℕ) → u < 16 → slot_of l.choice u ≡ rows_slot l.r l.states (breaks_by l.after l.guard_of l.keep l.holds l.tried l.set u) l.pass
     (slot_of l.initial.choice u))
-
-abbrev pub decreases-loop-r : goal.decreases-loop-r
-decreases-loop-r l = l.regions - l.r

@@ -1,4 +1,4 @@
-use Prim.Native.Nat.{ℕ, ◌-◌, ◌≤◌, ◌<◌}
+use Prim.Native.Nat.{ℕ, ◌≤◌, ◌<◌}
 use mathlib.Core.Path.{◌≡◌}
 use Rattle.choice.specs.Slots.{breaks_row, slot_of, row_slot}
 use Rattle.choice.proofs.drop_row.Given as goal
@@ -8,6 +8,3 @@ invariant-loop-s l =
     (l.s ≤ l.states)
     × ((u : ℕ) → u < 16 → slot_of l.choice u ≡ row_slot l.s (breaks_row l.row l.guard l.keep l.holds l.tried l.set u) l.pass l.region
     (slot_of l.initial.choice u))
-
-abbrev pub decreases-loop-s : goal.decreases-loop-s
-decreases-loop-s l = l.states - l.s

@@ -1,4 +1,4 @@
-use Prim.Native.Nat.{ℕ, ◌-◌, ◌≤◌, ◌<◌}
+use Prim.Native.Nat.{ℕ, ◌≤◌, ◌<◌}
 use mathlib.Core.Path.{◌≡◌}
 use mathlib.Core.Bool.{Bool, not, ◌&&◌}
 use mathlib.Core.List.{List}
@@ -17,6 +17,3 @@ invariant-loop-s l =
     (l.s ≤ l.states) × (length l.kept ≡ length l.initial.kept)
     × ((u : ℕ) → u < l.s → Strong l.tried l.chosen u (get_or l.initial.kept u 0) (get_or l.kept u 0))
     × ((u : ℕ) → l.s ≤ u → get_or l.kept u 0 ≡ get_or l.initial.kept u 0)
-
-abbrev pub decreases-loop-s : goal.decreases-loop-s
-decreases-loop-s l = l.states - l.s

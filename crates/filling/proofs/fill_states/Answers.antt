@@ -115,50 +115,50 @@ module _ (c : At) {m : Monitor} {ls : List Lexeme} (f : Given c m ls) (named : M
 tried_long : (c : At) → length (tried_row c) ≡ length c.args.tried.now
 tried_long c = omega (arith, c.fill_rows.auto.tried)
 
-pub returns-in-At : goal.returns-in-At
-returns-in-At c =
-    let g = (goal.at.returns-in-At c).After-first_broken in
+pub returns-in-Some : goal.returns-in-Some
+returns-in-Some c =
+    let g = (goal.at.returns-in-Some c).After-first_broken in
     let w = c.with_choice.ensures in
-    let nine = said w.0 c.say.ensures in
+    let nine = said w.0 (rw c.from.ensures at c.say.ensures) in
     record {
       settles = λ m ls f n l₁ l₂ l₃ l₄.
           settled_9 m _ _ _ _ (broken_as g f n l₁ l₂ l₃ l₄) (full g f n l₁ l₂ l₃ l₄)
-          (subst (Chooses m) (sym w.1) (chooses g f n l₁ l₂ l₃ l₄)) _ _ c.in-At.is nine;
+          (subst (Chooses m) (sym w.1) (chooses g f n l₁ l₂ l₃ l₄)) _ _ c.in-Some.is nine;
       fact = (inl nine.0, long g);
     }
 
-pub returns-in-Never : goal.returns-in-Never
-returns-in-Never c =
-    let g = (goal.at.returns-in-Never c).After-first_broken in
-    let w = c.with_choice-in-Never.ensures in
-    let zero = said w.0 c.say-in-Never.ensures in
+pub returns-in-None : goal.returns-in-None
+returns-in-None c =
+    let g = (goal.at.returns-in-None c).After-first_broken in
+    let w = c.with_choice-in-None.ensures in
+    let zero = said w.0 c.say-in-None.ensures in
     record {
       settles = λ m ls f n l₁ l₂ l₃ l₄.
           settled_0 m _ _ _ _ (broken_as g f n l₁ l₂ l₃ l₄) (full g f n l₁ l₂ l₃ l₄)
-          (subst (Chooses m) (sym w.1) (chooses g f n l₁ l₂ l₃ l₄)) c.in-Never.is zero;
+          (subst (Chooses m) (sym w.1) (chooses g f n l₁ l₂ l₃ l₄)) c.in-None.is zero;
       fact = (inr zero.0, long g);
     }
 
-pub shape_of-kept-in-At : goal.shape_of-kept-in-At
-shape_of-kept-in-At = λ c. (long (goal.at.shape_of-kept-in-At c).After-first_broken).0
+pub shape_of-kept-in-Some : goal.shape_of-kept-in-Some
+shape_of-kept-in-Some = λ c. (long (goal.at.shape_of-kept-in-Some c).After-first_broken).0
 
-pub shape_of-holds-in-At : goal.shape_of-holds-in-At
-shape_of-holds-in-At = λ c. (long (goal.at.shape_of-holds-in-At c).After-first_broken).1
+pub shape_of-holds-in-Some : goal.shape_of-holds-in-Some
+shape_of-holds-in-Some = λ c. (long (goal.at.shape_of-holds-in-Some c).After-first_broken).1
 
-pub shape_of-after-in-At : goal.shape_of-after-in-At
-shape_of-after-in-At = λ c. (long (goal.at.shape_of-after-in-At c).After-first_broken).2
+pub shape_of-after-in-Some : goal.shape_of-after-in-Some
+shape_of-after-in-Some = λ c. (long (goal.at.shape_of-after-in-Some c).After-first_broken).2
 
-pub shape_of-tried-in-At : goal.shape_of-tried-in-At
-shape_of-tried-in-At = λ c. tried_long (goal.at.shape_of-tried-in-At c).After-first_broken
+pub shape_of-tried-in-Some : goal.shape_of-tried-in-Some
+shape_of-tried-in-Some = λ c. tried_long (goal.at.shape_of-tried-in-Some c).After-first_broken
 
-pub shape_of-kept-in-Never : goal.shape_of-kept-in-Never
-shape_of-kept-in-Never = λ c. (long (goal.at.shape_of-kept-in-Never c).After-first_broken).0
+pub shape_of-kept-in-None : goal.shape_of-kept-in-None
+shape_of-kept-in-None = λ c. (long (goal.at.shape_of-kept-in-None c).After-first_broken).0
 
-pub shape_of-holds-in-Never : goal.shape_of-holds-in-Never
-shape_of-holds-in-Never = λ c. (long (goal.at.shape_of-holds-in-Never c).After-first_broken).1
+pub shape_of-holds-in-None : goal.shape_of-holds-in-None
+shape_of-holds-in-None = λ c. (long (goal.at.shape_of-holds-in-None c).After-first_broken).1
 
-pub shape_of-after-in-Never : goal.shape_of-after-in-Never
-shape_of-after-in-Never = λ c. (long (goal.at.shape_of-after-in-Never c).After-first_broken).2
+pub shape_of-after-in-None : goal.shape_of-after-in-None
+shape_of-after-in-None = λ c. (long (goal.at.shape_of-after-in-None c).After-first_broken).2
 
-pub shape_of-tried-in-Never : goal.shape_of-tried-in-Never
-shape_of-tried-in-Never = λ c. tried_long (goal.at.shape_of-tried-in-Never c).After-first_broken
+pub shape_of-tried-in-None : goal.shape_of-tried-in-None
+shape_of-tried-in-None = λ c. tried_long (goal.at.shape_of-tried-in-None c).After-first_broken

@@ -3,6 +3,7 @@ use Prim.Native.Nat.{◌+◌, ◌-◌}
 use native.Mathlib.Omega.{arith}
 use mathlib.Core.Path.{◌≡◌, sym, ◌∙◌}
 use Rattle.mentions.proofs.Growing.{gather_none, gather_over, gather_more}
+use Rattle.mentions.specs.Gathered.{only_left}
 use Rattle.mentions.proofs.gather.Goals as goal
 use Rattle.mentions.proofs.gather.Goals.{then-counts, else-counts}
 
@@ -10,7 +11,7 @@ pub loop-i-init : goal.loop-i-init
 loop-i-init c =
     let a = c.args in
     let e : a.from - a.from ≡ 0 = omega arith in
-    (omega arith, omega arith, λ k. rw e (gather_none a.kinds.now a.values.now a.left a.from k))
+    (omega arith, omega arith, λ k. rw e (gather_none a.kinds.now a.values.now (only_left a.which) a.from k))
 
 pub loop-i-preserved : goal.loop-i-preserved
 loop-i-preserved c =

@@ -3,7 +3,7 @@ use Prim.Native.Nat.{◌<◌}
 use native.Mathlib.Omega.{arith}
 use mathlib.Core.Path.{refl}
 use lib.ListN.{get_or, length-set}
-use Rattle.mentions.specs.Gathered.{Gathers}
+use Rattle.mentions.specs.Gathered.{only_left, Gathers}
 use Rattle.logic.proofs.Lists.{stored}
 use Rattle.mentions.proofs.gather_all.Goals as goal
 use Rattle.mentions.proofs.gather_all.Goals.{then-i-count, else-i-count}
@@ -22,8 +22,8 @@ loop-i-preserved c =
       ],
       elim c.if-i-count.branch [
         | then-i-count w ↦ rw w.all-is (stored (λ u x. u < a.count
-            → Gathers a.kinds.now a.left a.values.now a.opener a.closer (get_or a.ats u 0) x)
-            i.all i.i w.gather_from.result (omega arith) i.invariant.2 (λ _. rw w.wide.ensures at w.gather_from.ensures))
+            → Gathers a.kinds.now (only_left a.which) a.values.now a.ends.opener a.ends.closer (get_or a.ats u 0) x)
+            i.all i.i w.gather_from.result (omega arith) i.invariant.2 (λ _. rw w.from.ensures at w.gather_from.ensures))
         | else-i-count w ↦ λ u low h. rw w.all-is (i.invariant.2 u (omega (arith, w.if-i-count.false)) h)
       ],
     )

@@ -9,7 +9,7 @@ use Rattle.mentions.proofs.gather_from.Goals as goal
 pub returns : goal.returns
 returns c =
     let a = c.args in
-    let end = c.closing in
-    let e : end.result - a.at ≡ close_from a.opener a.closer 0 (drop a.at a.kinds.now) =
+    let end = c.closing-to in
+    let e : end.result - a.at ≡ close_from a.ends.opener a.ends.closer 0 (drop a.at a.kinds.now) =
     omega (arith, end.ensures) in
     record { members = λ k. rw e at (c.gather.ensures k) }

@@ -1,4 +1,4 @@
-use Prim.Native.Nat.{◌-◌, ◌*◌, ◌≤◌}
+use Prim.Native.Nat.{◌*◌, ◌≤◌}
 use mathlib.Core.Path.{◌≡◌}
 use lib.ListN.{get_or}
 use Rattle.sets.specs.Set.{size}
@@ -7,7 +7,4 @@ use Rattle.mentions.proofs.pairs_of.Given as goal
 
 abbrev pub invariant-loop-q : goal.invariant-loop-q
 invariant-loop-q l =
-    (l.q ≤ 16) × (l.q ≤ l.regions) × (l.pairs ≤ 16 * l.q) × (l.pairs ≡ sum_of l.q (λ k. size (get_or l.touched k 0) 16))
-
-abbrev pub decreases-loop-q : goal.decreases-loop-q
-decreases-loop-q l = 16 - l.q
+    (l.pairs ≤ 16 * l.q) × (l.pairs ≡ sum_of l.q (λ k. size (get_or l.touched k 0) 16))

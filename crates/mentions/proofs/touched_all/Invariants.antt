@@ -1,4 +1,4 @@
-use Prim.Native.Nat.{ℕ, ◌-◌, ◌≤◌, ◌<◌}
+use Prim.Native.Nat.{ℕ, ◌≤◌, ◌<◌}
 use mathlib.Core.Path.{◌≡◌}
 use lib.ListN.{length, get_or}
 use Rattle.mentions.specs.Gathered.{Touches}
@@ -8,6 +8,3 @@ abbrev pub invariant-loop-q : goal.invariant-loop-q
 invariant-loop-q l =
     (l.q ≤ 16) × (length l.all ≡ 16)
     × ((u : ℕ) → u < l.q → Touches l.guards l.variables l.named (get_or l.assigned u 0) (get_or l.all u 0))
-
-abbrev pub decreases-loop-q : goal.decreases-loop-q
-decreases-loop-q l = 16 - l.q
