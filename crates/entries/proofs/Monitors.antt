@@ -171,10 +171,3 @@ module _ (m : Monitor) (kept holds after guard_of touched : List ℕ) (states re
       let counts : Counts states regions guards =
       record { few_states = omega arith; few_regions = omega arith; few_guards = omega arith } in
       (fills.filled counts).standing r g (omega arith) (omega arith) ∙ code_is r g hr hg
-
--- a count that is too large: nothing is filled
-pub not_filled :
-    {kept holds after guard_of touched : List ℕ} {states regions guards : ℕ} {entries : List ℕ}
-    → (Counts states regions guards → ⊥)
-    → FillsEntries kept holds after guard_of touched states regions guards entries entries
-not_filled large = record { filled = λ n. absurd (large n); refused = λ _. refl }

@@ -9,35 +9,24 @@ ghost use Rattle.entries.specs.Slices.{runs_at, Swept, Found, made, swept_code, 
 
 use machine::StateNumber;
 
-// A guard's number; in slices that hold a monitor the remainder is the number itself.
-fn guard(x: u8) -> u32
-    ensures { result ≡ x % most_regions }
-{
-    x as u32 % 16
+// The states that a sweep goes through: where the kept condition holds (1), the guards that hold in each, and the state
+// after each region's body, at region * 4096 + state.
+#[derive(Clone, Copy)]
+struct States<'a> {
+    kept: &'a [u8; machine::STATES],
+    holds: &'a [u16; machine::STATES],
+    after: &'a [StateNumber; machine::AFTER],
+    count: StateNumber,
+    ghost few: { count ≤ most_states },
 }
 
-// A state's number; in slices that hold a monitor the remainder is the number itself.
-fn state(x: StateNumber) -> StateNumber
-    ensures { result ≡ x % most_states }
-{
-    x % machine::STATE_END
-}
-
-// May a region's body run from state s: do the kept condition and the region's guard hold?
-fn may_run(
-    kept: &[u8; machine::STATES],
-    holds: &[u16; machine::STATES],
+// A region by its number, with its guard's.
+#[derive(Clone, Copy)]
+struct Region {
+    number: usize,
     guard: u32,
-    s: StateNumber,
-) -> bool
-    requires { s < most_states }
-    ensures { result ≡ runs_at kept.now holds.now guard s }
-{
-    let at = s as usize;
-    if kept[at] != 1 {
-        return false;
-    }
-    sets::has(holds[at], guard)
+    ghost in_table: { number < most_regions },
+    ghost of_sixteen: { guard < most_regions },
 }
 
 // What a region's body does to guards over the states it may run from, as sets: those that it makes true from some
@@ -49,87 +38,75 @@ struct Sweep {
     left: u16,
 }
 
-// A sweep of the states before s, and s.
-fn visit(
-    kept: &[u8; machine::STATES],
-    holds: &[u16; machine::STATES],
-    after: &[StateNumber; machine::AFTER],
-    guard: u32,
-    r: usize,
-    s: StateNumber,
-    w: Sweep,
-) -> Sweep
-    requires { (guard < most_regions) × (r < most_regions) × (s < most_states) × Swept kept.now holds.now
-        after.now s
-        guard r w }
-    ensures { Swept kept.now holds.now after.now (s + 1) guard r result }
-{
-    if !may_run(kept, holds, guard, s) {
-        return w;
-    }
-    let at = s as usize;
-    let here = holds[at];
-    let t = state(after[r * machine::STATES + at]);
-    let there = holds[t as usize];
-    let either = here | there;
-    Sweep {
-        raised: either ^ here | w.raised,
-        covered: either & w.covered,
-        left: there | w.left,
-    }
-}
+// The sweep of no state.
+const NO_SWEEP: Sweep = Sweep {
+    raised: 0,
+    covered: 65535,
+    left: 0,
+};
 
-// The sweep of all states.
-fn sweep_states(
-    kept: &[u8; machine::STATES],
-    holds: &[u16; machine::STATES],
-    after: &[StateNumber; machine::AFTER],
-    states: StateNumber,
-    guard: u32,
-    r: usize,
-) -> Sweep
-    requires { (states ≤ most_states) × (guard < most_regions) × (r < most_regions) }
-    ensures { Swept kept.now holds.now after.now states guard r result }
-{
-    let mut w = Sweep {
-        raised: 0,
-        covered: 65535,
-        left: 0,
-    };
-    let mut s: StateNumber = 0;
-    while s < states {
-        w = visit(kept, holds, after, guard, r, s, w);
-        s += 1;
+impl States<'_> {
+    // May a region's body run from state s: do the kept condition and the region's guard hold?
+    fn may_run(self, region: Region, s: StateNumber) -> bool
+        requires { s < most_states }
+        ensures { result ≡ runs_at self.entry.kept.now self.entry.holds.now region.guard s }
+    {
+        let at = usize::from(s);
+        self.kept[at] == 1 && sets::has(self.holds[at], region.guard)
     }
-    w
-}
 
-// How many states are gone through for a region that touches the guards of a set: none where it touches none.
-fn needed(touched: u16, states: StateNumber) -> StateNumber
-    ensures { (result ≤ states) × (touched ≡ 0 → result ≡ 0) × (1 ≤ touched → result ≡ states) }
-{
-    if touched == 0 { 0 } else { states }
-}
+    // A sweep of the states before s, and s. In slices that hold a monitor the remainder is the state's number itself.
+    fn visit(self, region: Region, s: StateNumber, sweep: Sweep) -> Sweep
+        requires { (s < most_states)
+            × Swept self.kept.now self.holds.now self.after.now s
+            region.guard region.number sweep }
+        ensures { Swept self.entry.kept.now self.entry.holds.now self.entry.after.now (s + 1) region.guard region.number result }
+    {
+        if !self.may_run(region, s) {
+            return sweep;
+        }
+        let at = usize::from(s);
+        let here = self.holds[at];
+        let t = self.after[region.number * machine::STATES + at] % machine::STATE_END;
+        let there = self.holds[usize::from(t)];
+        let either = here | there;
+        Sweep {
+            raised: either ^ here | sweep.raised,
+            covered: either & sweep.covered,
+            left: there | sweep.left,
+        }
+    }
 
-// What is found of a region that touches the guards of a set: its sweep, cut down to these. One that touches none
-// is not swept.
-fn sweep_region(
-    kept: &[u8; machine::STATES],
-    holds: &[u16; machine::STATES],
-    after: &[StateNumber; machine::AFTER],
-    states: StateNumber,
-    guard: u32,
-    r: usize,
-    touched: u16,
-) -> Sweep
-    requires { (states ≤ most_states) × (guard < most_regions) × (r < most_regions) }
-    ensures { Found kept.now holds.now after.now states guard r touched result }
-{
-    let w = sweep_states(kept, holds, after, needed(touched, states), guard, r);
-    Sweep {
-        raised: touched & w.raised,
-        covered: w.covered,
-        left: w.left,
+    // The sweep of the first so many states.
+    fn sweep_first(self, n: StateNumber, region: Region) -> Sweep
+        requires { n ≤ most_states }
+        ensures { Swept self.entry.kept.now self.entry.holds.now self.entry.after.now n region.guard region.number result }
+    {
+        let mut sweep = NO_SWEEP;
+        for s in 0..n {
+            sweep = self.visit(region, s, sweep);
+        }
+        sweep
+    }
+
+    // How many states are gone through for a region that touches the guards of a set: none where it touches none.
+    fn needed(self, touched: u16) -> StateNumber
+        ensures { (result ≤ self.entry.count) × (touched ≡ 0 → result ≡ 0) × (1 ≤ touched → result ≡ self.entry.count) }
+    {
+        if touched == 0 { 0 } else { self.count }
+    }
+
+    // What is found of a region that touches the guards of a set: its sweep, cut down to these. One that touches none
+    // is not swept.
+    fn sweep(self, region: Region, touched: u16) -> Sweep
+        ensures { Found self.entry.kept.now self.entry.holds.now self.entry.after.now
+            self.entry.count region.guard region.number touched result }
+    {
+        let sweep = self.sweep_first(self.needed(touched), region);
+        Sweep {
+            raised: touched & sweep.raised,
+            ..sweep
+        }
     }
 }
 
@@ -137,75 +114,68 @@ fn sweep_region(
 fn code(stands: bool, always: bool, wide: bool) -> u8
     ensures { result ≡ code_of (made stands always wide) }
 {
-    if stands {
-        if always {
-            if wide { 7 } else { 3 }
-        } else {
-            if wide { 5 } else { 1 }
-        }
-    } else {
-        0
+    match (stands, always, wide) {
+        (false, _, _) => 0,
+        (true, false, false) => 1,
+        (true, true, false) => 3,
+        (true, false, true) => 5,
+        (true, true, true) => 7,
     }
 }
 
-// The entries of a region, at region * 16 + guard, by its sweep and the set of guards whose entries are broadcasts.
-fn fill_region(w: Sweep, wide: u16, guards: usize, r: usize, entries: &mut [u8])
-    requires { (guards ≤ most_regions) × (r < most_regions) × (length entries.old ≡ most_entries) }
-    ensures by_index { (g : ℕ) → g < guards → get_or entries.new (r * most_regions + g) 0
-        ≡ swept_code w wide g }
-    ensures by_index_2 { (q g : ℕ) → g < most_regions → (q ≡ r → g < guards → ⊥)
-        → get_or entries.new (q * most_regions + g) 0 ≡ get_or entries.old (q * most_regions + g) 0 }
-{
-    let mut g = 0;
-    while g < guards {
-        let t = g as u32;
-        entries[r * machine::REGIONS + g] = code(
-            sets::has(w.raised, t),
-            sets::has(w.covered, t),
-            sets::has(wide, t),
-        );
-        g += 1;
+impl Sweep {
+    // The entries of a region, at region * 16 + guard, by its sweep and the set of guards whose entries are broadcasts.
+    fn fill(self, wide: u16, guards: usize, r: usize, entries: &mut [u8])
+        requires { (guards ≤ most_regions) × (r < most_regions) × (length entries.old ≡ most_entries) }
+        ensures own { (g : ℕ) → g < guards → get_or entries.new (r * most_regions + g) 0
+            ≡ swept_code self wide g }
+        ensures others { (q g : ℕ) → g < most_regions → (q ≡ r → g < guards → ⊥)
+            → get_or entries.new (q * most_regions + g) 0
+            ≡ get_or entries.old (q * most_regions + g) 0 }
+    {
+        for g in 0..guards {
+            let t = g as u32;
+            entries[r * machine::REGIONS + g] = code(
+                sets::has(self.raised, t),
+                sets::has(self.covered, t),
+                sets::has(wide, t),
+            );
+        }
     }
 }
 
 // The entries of all regions. A guard's are broadcasts where some region that has it leaves it true. One that does not
 // touch it does so, and no state is looked at: an entry of the guard leads to a state from which that region may run.
 fn fill_regions(
-    kept: &[u8; machine::STATES],
-    holds: &[u16; machine::STATES],
-    after: &[StateNumber; machine::AFTER],
+    states: States<'_>,
     guard_of: &[u8; machine::REGIONS],
     touched: &[u16; machine::REGIONS],
-    states: StateNumber,
     regions: usize,
     guards: usize,
     entries: &mut [u8],
 )
-    requires { (states ≤ most_states) × (regions ≤ most_regions) × (guards ≤ most_regions)
-        × (length entries.old ≡ most_entries) }
-    ensures { Filled kept.now holds.now after.now guard_of.now
-        touched.now states regions guards entries.old entries.new }
+    requires { (regions ≤ most_regions) × (guards ≤ most_regions) × (length entries.old ≡ most_entries) }
+    ensures { Filled states.entry.kept.now states.entry.holds.now states.entry.after.now
+        guard_of.now touched.now states.entry.count regions guards entries.old entries.new }
 {
-    let mut sweeps = [Sweep {
-        raised: 0,
-        covered: 0,
-        left: 0,
-    }; 16];
+    let mut sweeps = [NO_SWEEP; machine::REGIONS];
     let mut wide = 0;
-    let mut r = 0;
-    while r < regions {
-        let own = guard(guard_of[r]);
+    for r in 0..regions {
+        // in slices that hold a monitor the remainder is the guard's number itself
+        let own = u32::from(guard_of[r]) % 16;
         let t = touched[r];
-        let w = sweep_region(kept, holds, after, states, own, r, t);
-        sweeps[r] = w;
-        wide = 1 << own & (t ^ 65535 | w.left) | wide;
-        r += 1;
+        let sweep = states.sweep(
+            Region {
+                number: r,
+                guard: own,
+            },
+            t,
+        );
+        sweeps[r] = sweep;
+        wide = 1 << own & (t ^ 65535 | sweep.left) | wide;
     }
-    r = 0;
-    while r < regions {
-        let w = sweeps[r];
-        fill_region(w, wide, guards, r, entries);
-        r += 1;
+    for r in 0..regions {
+        sweeps[r].fill(wide, guards, r, entries);
     }
 }
 
@@ -226,16 +196,14 @@ pub fn fill_entries(
         guard_of.now touched.now states regions guards entries.old
         entries.new }
 {
-    if states > machine::STATE_END {
+    if states > machine::STATE_END || regions > machine::REGIONS || guards > machine::REGIONS {
         return;
     }
-    if regions > machine::REGIONS {
-        return;
-    }
-    if guards > machine::REGIONS {
-        return;
-    }
-    fill_regions(
-        kept, holds, after, guard_of, touched, states, regions, guards, entries,
-    );
+    let states = States {
+        kept,
+        holds,
+        after,
+        count: states,
+    };
+    fill_regions(states, guard_of, touched, regions, guards, entries);
 }

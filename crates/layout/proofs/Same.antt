@@ -8,7 +8,7 @@ use mathlib.Core.List.{List, [], ◌∷◌, map, Memᴰ}
 use lib.ListN.{length, drop, take, get_or, length-drop, length-map}
 use lib.Seq.{drop-cons, length-take-le}
 use lib.Dec.{eqb}
-use borrow.Author.Tests.{eq-eqb, ne_eqb}
+use Rattle.std.specs.Str.{bytes_eq}
 use Rattle.syntax.specs.Bytes.{same_bytes}
 use Rattle.syntax.specs.Token.{Token, lexemes, Lexeme, name, mark, rbrace}
 use Rattle.syntax.specs.Held.Kind.{kind_of, value_of, name_kind, Words}
@@ -56,29 +56,13 @@ module _ {A : Type 0} (agree : List A → List A → Bool) (one : A → A → Bo
     left_differs : one (get_or l (a + i) d) (get_or l (b + i) d) ≡ false → left agree l a b n i ≡ false
     left_differs e = left_turn ∙ ap (λ (t : Bool). t && left agree l a b n (i + 1)) e
 
--- bytes
-module _ (file : List ℕ) (a b n : ℕ) where
-  pub bytes_start : left same_bytes file a b n 0 ≡ same_bytes (take n (drop a file)) (take n (drop b file))
-  unfolding same_bytes
-  bytes_start = left_start same_bytes eqb refl (λ x y xs ys. refl) file 0 a b n
-
-  pub bytes_over : (i : ℕ) → n ≤ i → left same_bytes file a b n i ≡ true
-  unfolding same_bytes
-  bytes_over = left_over same_bytes eqb refl (λ x y xs ys. refl) file 0 a b n
-
-  module _ (i : ℕ) (h : i < n) (p : a + n ≤ length file) (q : b + n ≤ length file) where
-    pub bytes_turn : get_or file (a + i) 0 ≡ get_or file (b + i) 0
-        → left same_bytes file a b n (i + 1) ≡ left same_bytes file a b n i
-    unfolding same_bytes
-    bytes_turn e =
-        left_same same_bytes eqb refl (λ x y xs ys. refl) file 0 a b n i h p q
-        (eq-eqb (get_or file (a + i) 0) (get_or file (b + i) 0) e)
-
-    pub bytes_differ : (get_or file (a + i) 0 ≡ get_or file (b + i) 0 → ⊥) → left same_bytes file a b n i ≡ false
-    unfolding same_bytes
-    bytes_differ e =
-        left_differs same_bytes eqb refl (λ x y xs ys. refl) file 0 a b n i h p q
-        (ne_eqb (get_or file (a + i) 0) (get_or file (b + i) 0) e)
+-- bytes, as `==` compares them
+pub bytes_same : (xs ys : List ℕ) → bytes_eq xs ys ≡ same_bytes xs ys
+unfolding same_bytes
+bytes_same [] [] = refl
+bytes_same [] (y ∷ ys) = refl
+bytes_same (x ∷ xs) [] = refl
+bytes_same (x ∷ xs) (y ∷ ys) = ap (λ (t : Bool). eqb x y && t) (bytes_same xs ys)
 
 -- lexemes
 module _ (ls : List Lexeme) (a b n : ℕ) where

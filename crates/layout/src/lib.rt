@@ -52,6 +52,16 @@ struct Spot {
     at: usize,
 }
 
+// The tokens of a file, each by its kind, its value and its place, and the file's bytes.
+#[derive(Clone, Copy)]
+struct Tokens<'a> {
+    file: &'a [u8],
+    kinds: &'a [u8],
+    values: &'a [u16],
+    places: &'a [u16],
+    ghost sized: { Sized kinds.now values.now places.now },
+}
+
 // How many tokens on a part begins: the condition from `keep` or `try`, a method's regions from `method`
 // (`method NAME {`), a guard from `waituntil` (`waituntil (`), a body from the bracket that closes the guard (`) {`),
 // and what stands behind a token that closes.
@@ -69,11 +79,7 @@ const PAST: usize = 1;
 pub fn kind_at(kinds: &[u8], at: usize) -> u8
     ensures { result ≡ get_or kinds.now at no_kind }
 {
-    if at < kinds.len() {
-        kinds[at]
-    } else {
-        syntax::NO_KIND
-    }
+    kinds.get(at).copied().unwrap_or(syntax::NO_KIND)
 }
 
 // The token that closes what was opened before a token: brackets or braces, by their kinds.
@@ -81,8 +87,7 @@ pub fn closing(kinds: &[u8], at: usize, opener: u8, closer: u8) -> usize
     ensures { result ≡ at + close_from opener closer 0 (drop at kinds.now) }
 {
     let mut depth: usize = 0;
-    let mut i = at;
-    while i < kinds.len() {
+    for i in at..kinds.len() {
         let kind = kinds[i];
         if kind == opener {
             depth += 1;
@@ -92,186 +97,59 @@ pub fn closing(kinds: &[u8], at: usize, opener: u8, closer: u8) -> usize
             }
             depth -= 1;
         }
-        i += 1;
     }
-    i
+    at.max(kinds.len())
 }
 
-// Whether two runs of bytes of the file are the same.
-fn same_name(file: &[u8], a: usize, b: usize, n: usize) -> bool
-    requires { (a + n ≤ length file.now) × (b + n ≤ length file.now) }
-    ensures { result ≡ same_bytes (take n (drop a file.now)) (take n (drop b file.now)) }
-{
-    let mut i: usize = 0;
-    while i < n {
-        if file[a + i] != file[b + i] {
-            return false;
+impl Layout {
+    // No regions, and the kept condition at a token.
+    pub fn empty(keep: usize) -> Layout
+        ensures { (result.keep ≡ keep) × (result.regions ≡ 0) × (result.guards ≡ 0) × Room result }
+    {
+        Layout {
+            keep,
+            regions: 0,
+            guards: 0,
+            guards_at: [0; machine::REGIONS],
+            bodies_at: [0; machine::REGIONS],
+            guard_of: [0; machine::REGIONS],
+            begins: [0; machine::REGIONS],
+            goes_on: [0; machine::REGIONS],
+            firsts: [0; machine::REGIONS],
         }
-        i += 1;
     }
-    true
-}
 
-// A number of a slice, to count with.
-fn small(x: u8) -> usize
-    ensures { result ≡ x }
-{
-    x as usize
-}
+    // The next region has a guard of its own.
+    fn with_guard(mut self) -> Layout
+        requires { (self.regions < most_regions) × (self.guards < most_regions) }
+        ensures { result ≡ with_guard self }
+    {
+        self.firsts[self.guards] = self.regions as u8;
+        self.guards += 1;
+        self
+    }
 
-fn wide(x: u16) -> usize
-    ensures { (result ≡ x) × (result < 65536) }
-{
-    x as usize
-}
-
-// Whether two tokens are equal, numbers by value; a name's value is its length.
-fn same_token(file: &[u8], kinds: &[u8], values: &[u16], places: &[u16], a: usize, b: usize) -> bool
-    requires { Sized kinds.now values.now places.now × (a < length kinds.now) × (b < length kinds.now) }
-    ensures { SameToken file.now kinds.now values.now
-        places.now a b result }
-{
-    if kinds[a] != kinds[b] {
-        return false;
+    // One region more, with a guard's number.
+    fn with_region(
+        mut self,
+        guard_at: u16,
+        body_at: u16,
+        number: u8,
+        begins: u8,
+        goes_on: u8,
+    ) -> Layout
+        requires { self.regions < most_regions }
+        ensures { result ≡ with_region self guard_at body_at number begins goes_on }
+    {
+        let r = self.regions;
+        self.guards_at[r] = guard_at;
+        self.bodies_at[r] = body_at;
+        self.guard_of[r] = number;
+        self.begins[r] = begins;
+        self.goes_on[r] = goes_on;
+        self.regions += 1;
+        self
     }
-    if values[a] != values[b] {
-        return false;
-    }
-    if kinds[a] != syntax::NAME {
-        return true;
-    }
-    let n = wide(values[a]);
-    let x = wide(places[a]);
-    let y = wide(places[b]);
-    if file.len() < x + n {
-        return false;
-    }
-    if file.len() < y + n {
-        return false;
-    }
-    same_name(file, x, y, n)
-}
-
-// Whether n tokens from one on equal those from another on.
-fn same_tokens(
-    file: &[u8],
-    kinds: &[u8],
-    values: &[u16],
-    places: &[u16],
-    a: usize,
-    b: usize,
-    n: usize,
-) -> bool
-    requires { Sized kinds.now values.now places.now × (a + n ≤ length kinds.now)
-        × (b + n ≤ length kinds.now) }
-    ensures { SameTokens file.now kinds.now values.now
-        places.now a b n result }
-{
-    let mut i: usize = 0;
-    while i < n {
-        if !same_token(file, kinds, values, places, a + i, b + i) {
-            return false;
-        }
-        i += 1;
-    }
-    true
-}
-
-// Whether the guards that begin at two tokens are one.
-fn same_guard(file: &[u8], kinds: &[u8], values: &[u16], places: &[u16], a: usize, b: usize) -> bool
-    requires { Sized kinds.now values.now places.now }
-    ensures { SameGuard file.now kinds.now values.now
-        places.now a b result }
-{
-    if kinds.len() < a {
-        return false;
-    }
-    if kinds.len() < b {
-        return false;
-    }
-    let m = closing(kinds, a, syntax::LPAREN, syntax::RPAREN) - a;
-    let n = closing(kinds, b, syntax::LPAREN, syntax::RPAREN) - b;
-    if m != n {
-        return false;
-    }
-    same_tokens(file, kinds, values, places, a, b, n)
-}
-
-// No regions, and the kept condition at a token.
-pub fn empty(keep: usize) -> Layout
-    ensures { (result.keep ≡ keep) × (result.regions ≡ 0) × (result.guards ≡ 0) × Room result }
-{
-    Layout {
-        keep: keep,
-        regions: 0,
-        guards: 0,
-        guards_at: [0u16; machine::REGIONS],
-        bodies_at: [0u16; machine::REGIONS],
-        guard_of: [0u8; machine::REGIONS],
-        begins: [0u8; machine::REGIONS],
-        goes_on: [0u8; machine::REGIONS],
-        firsts: [0u8; machine::REGIONS],
-    }
-}
-
-// The number of the guard that begins at a token, and the count of guards where it is new.
-fn guard_number(
-    file: &[u8],
-    kinds: &[u8],
-    values: &[u16],
-    places: &[u16],
-    layout: Layout,
-    at: usize,
-) -> usize
-    requires { Sized kinds.now values.now places.now × Room layout }
-    ensures { (result ≤ layout.guards)
-        × Numbers file.now kinds.now values.now places.now layout at result }
-{
-    let mut g = 0;
-    while g < layout.guards {
-        let first = small(layout.firsts[g]) % machine::REGIONS;
-        let other = wide(layout.guards_at[first]);
-        if same_guard(file, kinds, values, places, at, other) {
-            return g;
-        }
-        g += 1;
-    }
-    g
-}
-
-// The next region has a guard of its own.
-fn with_guard(layout: Layout) -> Layout
-    requires { (layout.regions < most_regions) × (layout.guards < most_regions) }
-    ensures { result ≡ with_guard layout }
-{
-    let mut next = layout;
-    let g = layout.guards;
-    next.firsts[g] = layout.regions as u8;
-    next.guards = g + 1;
-    next
-}
-
-// One region more, with a guard's number.
-fn with_region(
-    layout: Layout,
-    guard_at: u16,
-    body_at: u16,
-    number: u8,
-    begins: u8,
-    goes_on: u8,
-) -> Layout
-    requires { layout.regions < most_regions }
-    ensures { result ≡ with_region layout guard_at body_at number begins goes_on }
-{
-    let mut next = layout;
-    let r = layout.regions;
-    next.guards_at[r] = guard_at;
-    next.bodies_at[r] = body_at;
-    next.guard_of[r] = number;
-    next.begins[r] = begins;
-    next.goes_on[r] = goes_on;
-    next.regions = r + 1;
-    next
 }
 
 // A token's place in the list, as it is held.
@@ -285,83 +163,126 @@ fn held(at: usize) -> u16
 fn flag(kinds: &[u8], at: usize) -> u8
     ensures { result ≡ flag_at kinds.now at }
 {
-    if kind_at(kinds, at) == syntax::KEY_WAITUNTIL {
-        1
-    } else {
-        0
-    }
+    u8::from(kind_at(kinds, at) == syntax::KEY_WAITUNTIL)
 }
 
-// The region whose `waituntil` stands at a token.
-fn add_region(
-    file: &[u8],
-    kinds: &[u8],
-    values: &[u16],
-    places: &[u16],
-    layout: Layout,
-    at: usize,
-    begins: u8,
-) -> Spot
-    requires { Sized kinds.now values.now places.now × (at < length kinds.now) × Room layout
-        × (layout.regions < most_regions) }
-    ensures { Grown kinds.now layout at result × (at < result.at) × (result.layout.regions ≡ layout.regions + 1)
-        × AddsRegion file.now kinds.now values.now places.now
-        layout at begins result }
-{
-    let guard_at = at + TO_GUARD;
-    let body_at = closing(kinds, guard_at, syntax::LPAREN, syntax::RPAREN) + TO_BODY;
-    let next = closing(kinds, body_at, syntax::LBRACE, syntax::RBRACE) + PAST;
-    let number = guard_number(file, kinds, values, places, layout, guard_at);
-    let mut numbered = layout;
-    if number == layout.guards {
-        numbered = with_guard(layout);
-    }
-    Spot {
-        layout: with_region(
-            numbered,
-            held(guard_at),
-            held(body_at),
-            number as u8,
-            begins,
-            flag(kinds, next),
-        ),
-        at: next,
-    }
-}
-
-// The regions of a method, from a token on.
-fn add_method(
-    file: &[u8],
-    kinds: &[u8],
-    values: &[u16],
-    places: &[u16],
-    layout: Layout,
-    at: usize,
-) -> Spot
-    requires { Sized kinds.now values.now places.now × (at ≤ length kinds.now + overrun) × Room layout }
-    ensures { Grown kinds.now layout at result
-        × AddsMethod file.now kinds.now values.now places.now
-        layout at result }
-{
-    let mut so_far = layout;
-    let mut i = at;
-    let mut begins: u8 = 1;
-    while kind_at(kinds, i) == syntax::KEY_WAITUNTIL {
-        if machine::REGIONS <= so_far.regions {
-            return Spot {
-                layout: so_far,
-                at: i,
-            };
+impl Tokens<'_> {
+    // Whether two tokens are equal, numbers by value; a name's value is its length.
+    fn same_token(self, a: usize, b: usize) -> bool
+        requires { (a < length self.kinds.now) × (b < length self.kinds.now) }
+        ensures { SameToken self.entry.file.now self.entry.kinds.now self.entry.values.now self.entry.places.now a b result }
+    {
+        if self.kinds[a] != self.kinds[b] {
+            return false;
         }
-        let spot = add_region(file, kinds, values, places, so_far, i, begins);
-        let next = spot.layout;
-        so_far = next;
-        i = spot.at;
-        begins = 0;
+        if self.values[a] != self.values[b] {
+            return false;
+        }
+        if self.kinds[a] != syntax::NAME {
+            return true;
+        }
+        let n = usize::from(self.values[a]);
+        let x = usize::from(self.places[a]);
+        let y = usize::from(self.places[b]);
+        if self.file.len() < x + n {
+            return false;
+        }
+        if self.file.len() < y + n {
+            return false;
+        }
+        self.file[x..x + n] == self.file[y..y + n]
     }
-    Spot {
-        layout: so_far,
-        at: i,
+
+    // Whether n tokens from one on equal those from another on.
+    fn same_tokens(self, a: usize, b: usize, n: usize) -> bool
+        requires { (a + n ≤ length self.kinds.now) × (b + n ≤ length self.kinds.now) }
+        ensures { SameTokens self.entry.file.now self.entry.kinds.now self.entry.values.now self.entry.places.now a b n result }
+    {
+        for i in 0..n {
+            if !self.same_token(a + i, b + i) {
+                return false;
+            }
+        }
+        true
+    }
+
+    // Whether the guards that begin at two tokens are one.
+    fn same_guard(self, a: usize, b: usize) -> bool
+        ensures { SameGuard self.entry.file.now self.entry.kinds.now self.entry.values.now self.entry.places.now a b result }
+    {
+        if self.kinds.len() < a {
+            return false;
+        }
+        if self.kinds.len() < b {
+            return false;
+        }
+        let m = closing(self.kinds, a, syntax::LPAREN, syntax::RPAREN) - a;
+        let n = closing(self.kinds, b, syntax::LPAREN, syntax::RPAREN) - b;
+        m == n && self.same_tokens(a, b, n)
+    }
+
+    // The number of the guard that begins at a token, and the count of guards where it is new.
+    fn guard_number(self, layout: Layout, at: usize) -> usize
+        requires { Room layout }
+        ensures { (result ≤ layout.guards)
+            × Numbers self.entry.file.now self.entry.kinds.now self.entry.values.now self.entry.places.now layout at result }
+    {
+        for g in 0..layout.guards {
+            let first = usize::from(layout.firsts[g]) % machine::REGIONS;
+            let other = usize::from(layout.guards_at[first]);
+            if self.same_guard(at, other) {
+                return g;
+            }
+        }
+        layout.guards
+    }
+
+    // The region whose `waituntil` stands where a layout goes on.
+    fn add_region(self, spot: Spot, begins: u8) -> Spot
+        requires { (spot.at < length self.kinds.now) × Room spot.layout
+            × (spot.layout.regions < most_regions) }
+        ensures { Grown self.entry.kinds.now spot.layout spot.at result × (spot.at < result.at)
+            × (result.layout.regions ≡ spot.layout.regions + 1)
+            × AddsRegion self.entry.file.now self.entry.kinds.now self.entry.values.now self.entry.places.now spot.layout spot.at begins result }
+    {
+        let layout = spot.layout;
+        let guard_at = spot.at + TO_GUARD;
+        let body_at = closing(self.kinds, guard_at, syntax::LPAREN, syntax::RPAREN) + TO_BODY;
+        let next = closing(self.kinds, body_at, syntax::LBRACE, syntax::RBRACE) + PAST;
+        let number = self.guard_number(layout, guard_at);
+        let numbered = if number == layout.guards {
+            layout.with_guard()
+        } else {
+            layout
+        };
+        Spot {
+            layout: numbered.with_region(
+                held(guard_at),
+                held(body_at),
+                number as u8,
+                begins,
+                flag(self.kinds, next),
+            ),
+            at: next,
+        }
+    }
+
+    // The regions of a method, from where a layout goes on.
+    fn add_method(self, from: Spot) -> Spot
+        requires { (from.at ≤ length self.kinds.now + overrun) × Room from.layout }
+        ensures { Grown self.entry.kinds.now from.layout from.at result
+            × AddsMethod self.entry.file.now self.entry.kinds.now self.entry.values.now self.entry.places.now from.layout from.at result }
+    {
+        let mut spot = from;
+        let mut begins = 1;
+        while kind_at(self.kinds, spot.at) == syntax::KEY_WAITUNTIL {
+            if machine::REGIONS <= spot.layout.regions {
+                return spot;
+            }
+            spot = self.add_region(spot, begins);
+            begins = 0;
+        }
+        spot
     }
 }
 
@@ -378,33 +299,24 @@ pub fn tries_of(kinds: &[u8], keep: usize) -> Tries
     ensures { (m : Monitor) (ls : List Lexeme) → Kinds ls kinds.now → length ls ≤ most_tokens
         → length m.tries ≤ most_tries → IsKeep m ls keep → TriesLaid m ls result }
 {
-    let mut ats = [0u16; syntax::TRIES];
+    let mut tries = Tries {
+        count: 0,
+        ats: [0; syntax::TRIES],
+        next: 0,
+    };
     if kinds.len() <= keep {
-        return Tries {
-            count: 0,
-            ats: ats,
-            next: 0,
-        };
+        return tries;
     }
-    let mut count: usize = 0;
-    let mut i = behind(kinds, keep);
-    while kind_at(kinds, i) == syntax::KEY_TRY {
-        if syntax::TRIES <= count {
-            return Tries {
-                count: count,
-                ats: ats,
-                next: i,
-            };
+    tries.next = behind(kinds, keep);
+    while kind_at(kinds, tries.next) == syntax::KEY_TRY {
+        if syntax::TRIES <= tries.count {
+            return tries;
         }
-        ats[count] = held(i + TO_CONDITION);
-        count += 1;
-        i = behind(kinds, i);
+        tries.ats[tries.count] = held(tries.next + TO_CONDITION);
+        tries.count += 1;
+        tries.next = behind(kinds, tries.next);
     }
-    Tries {
-        count: count,
-        ats: ats,
-        next: i,
-    }
+    tries
 }
 
 // The layout of a file of the grammar, whose `keep` stands at a token, and its first method at another.
@@ -422,27 +334,29 @@ pub fn lay_out(
         → drop first (lexemes ts) ≡ each spell_method (all m.methods) ++ (mark rbrace ∷ [])
         → Laid m (lexemes ts) result }
 {
-    if kinds.len() <= keep {
-        return empty(0);
+    if kinds.len() <= keep
+        || kinds.len() < first
+        || values.len() != kinds.len()
+        || places.len() != kinds.len()
+    {
+        return Layout::empty(0);
     }
-    if values.len() != kinds.len() {
-        return empty(0);
+    let mut spot = Spot {
+        layout: Layout::empty(keep + TO_CONDITION),
+        at: first,
+    };
+    let tokens = Tokens {
+        file,
+        kinds,
+        values,
+        places,
+    };
+    while kind_at(kinds, spot.at) == syntax::KEY_METHOD {
+        spot.at += TO_REGIONS;
+        spot = tokens.add_method(spot);
+        spot.at += PAST;
     }
-    if places.len() != kinds.len() {
-        return empty(0);
-    }
-    if kinds.len() < first {
-        return empty(0);
-    }
-    let mut layout = empty(keep + TO_CONDITION);
-    let mut i = first;
-    while kind_at(kinds, i) == syntax::KEY_METHOD {
-        let spot = add_method(file, kinds, values, places, layout, i + TO_REGIONS);
-        let next = spot.layout;
-        layout = next;
-        i = spot.at + PAST;
-    }
-    layout
+    spot.layout
 }
 
 // At each opening brace the operand becomes the token of the closing one; the others stay.
@@ -454,11 +368,9 @@ pub fn link_braces(kinds: &[u8], operands: &mut [u16])
     if operands.len() != kinds.len() {
         return;
     }
-    let mut i = 0;
-    while i < kinds.len() {
-        if kinds[i] == syntax::LBRACE {
+    for (i, &kind) in kinds.iter().enumerate() {
+        if kind == syntax::LBRACE {
             operands[i] = held(closing(kinds, i + PAST, syntax::LBRACE, syntax::RBRACE));
         }
-        i += 1;
     }
 }

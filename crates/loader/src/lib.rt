@@ -37,7 +37,7 @@ fn not_loaded(answer: Answer) -> Loaded
     Loaded {
         answer: answer,
         bounds: variables::no_bounds(),
-        layout: layout::empty(0),
+        layout: Layout::empty(0),
         tries: 0,
         choice: choice::undropped(0),
         touched: [0u16; machine::REGIONS],

@@ -4,22 +4,22 @@ use Rattle.machine.specs.Held.{code_of}
 use Rattle.entries.specs.Slices.{made}
 use Rattle.entries.proofs.code.Goals as goal
 
-pub returns-then-wide : goal.returns-then-wide
+pub returns-in-true-true-true : goal.returns-in-true-true-true
 unfolding code_of made bit
-returns-then-wide c = simp (c.if-stands.true, c.if-always.true, c.if-wide.true)
+returns-in-true-true-true c = simp (c.in-true-true-true.is-0, c.in-true-true-true.is-1, c.in-true-true-true.is-2)
 
-pub returns-else-wide : goal.returns-else-wide
+pub returns-in-true-true-false : goal.returns-in-true-true-false
 unfolding code_of made bit
-returns-else-wide c = simp (c.if-stands.true, c.if-always.true, c.if-wide.false)
+returns-in-true-true-false c = simp (c.in-true-true-false.is-0, c.in-true-true-false.is-1, c.in-true-true-false.is-2)
 
-pub returns-then-wide-2 : goal.returns-then-wide-2
+pub returns-in-true-false-true : goal.returns-in-true-false-true
 unfolding code_of made bit
-returns-then-wide-2 c = simp (c.if-stands.true, c.if-always.false, c.if-wide-2.true)
+returns-in-true-false-true c = simp (c.in-true-false-true.is-0, c.in-true-false-true.is-1, c.in-true-false-true.is-2)
 
-pub returns-else-wide-2 : goal.returns-else-wide-2
+pub returns-in-true-false-false : goal.returns-in-true-false-false
 unfolding code_of made bit
-returns-else-wide-2 c = simp (c.if-stands.true, c.if-always.false, c.if-wide-2.false)
+returns-in-true-false-false c = simp (c.in-true-false-false.is-0, c.in-true-false-false.is-1, c.in-true-false-false.is-2)
 
-pub returns-else-stands : goal.returns-else-stands
+pub returns-in-false-default-default : goal.returns-in-false-default-default
 unfolding code_of made bit
-returns-else-stands c = simp c.if-stands.false
+returns-in-false-default-default c = simp c.in-false-default-default.is-0

@@ -15,52 +15,30 @@ use Rattle.entries.proofs.fill_regions.Goals as goal
 
 pub loop-r-init : goal.loop-r-init
 unfolding wide_at any
-loop-r-init c = (omega arith, refl, λ k h. absurd (omega arith), member_none)
+loop-r-init c = (refl, λ k h. absurd (omega arith), member_none)
 
 pub loop-r-preserved : goal.loop-r-preserved
 loop-r-preserved c =
-    let swept = c in
-    let own = swept in
-    let q = own in
-    let r = q.loop-r.r in
-    let ws = q.loop-r.sweeps in
-    let w = swept.sweep_region-w.result in (
-      omega arith,
-      length-set ws r w ∙ q.loop-r.invariant.1,
-      below_more _ _ (λ k h. rw (get_or-set_other ws r k w nothing (λ e. omega arith)) (q.loop-r.invariant.2 k h))
-          (rw (get_or-set_same ws r w nothing (omega arith), ← own.guard-own.ensures) swept.sweep_region-w.ensures),
-      wide_more _ _ _ _ _ _ r _ _ w own.guard-own.ensures (omega arith) swept.sweep_region-w.ensures
-          q.loop-r.invariant.3,
+    let r = c.loop-r.r in
+    let ws = c.loop-r.sweeps in
+    let w = c.sweep-sweep.result in
+    let found = rw c.from-own.ensures at c.sweep-sweep.ensures in (
+      length-set ws r w ∙ c.loop-r.invariant.0,
+      below_more _ _ (λ k h. rw (get_or-set_other ws r k w nothing (λ e. omega arith)) (c.loop-r.invariant.1 k h))
+          (rw (get_or-set_same ws r w nothing (omega arith)) found),
+      rw c.from-own.ensures (wide_more _ _ _ _ _ _ r _ _ w refl (omega arith) found c.loop-r.invariant.2),
     )
-
-pub loop-r-2-init : goal.loop-r-2-init
-loop-r-2-init c = (
-  omega arith,
-  c.requires.3,
-  λ k h. absurd (omega arith),
-  λ k g h other. refl,
-)
 
 pub loop-r-2-preserved : goal.loop-r-2-preserved
 loop-r-2-preserved c =
-    let e = c in
-    let q = e in
-    let l = q in
-    let r = q.loop-r-2.r in
-    let all : l.loop-r.r ≡ l.args.regions = omega arith in (
+    let r = c.loop-r-2.r in
+    let all : c.loop-r.r ≡ c.args.regions = omega arith in (
       omega arith,
-      omega arith,
-      below_more _ _ (λ k h g hg. e.fill_region.ensures.by_index_2 k g (omega arith) (λ p _. omega arith)
-          ∙ q.loop-r-2.invariant.2 k h g hg)
-          (λ g hg. e.fill_region.ensures.by_index g (omega arith)
-          ∙ found_code _ _ _ _ _ _ _ r _ g _ (l.loop-r.invariant.2 r (omega arith)) (rw all at (l.loop-r.invariant.3 g))
+      below_more _ _ (λ k h g hg. c.fill.ensures.others k g (omega arith) (λ p _. omega arith)
+          ∙ c.loop-r-2.invariant.1 k h g hg)
+          (λ g hg. c.fill.ensures.own g (omega arith)
+          ∙ found_code _ _ _ _ _ _ _ r _ g _ (c.loop-r.invariant.1 r (omega arith)) (rw all at (c.loop-r.invariant.2 g))
           (omega arith)),
-      λ k g hg other. e.fill_region.ensures.by_index_2 k g hg (λ p small. other (omega arith) (omega arith))
-          ∙ q.loop-r-2.invariant.3 k g hg other,
+      λ k g hg other. c.fill.ensures.others k g hg (λ p small. other (omega arith) (omega arith))
+          ∙ c.loop-r-2.invariant.2 k g hg other,
     )
-
-pub returns : goal.returns
-returns c = record {
-  standing = λ r g h hg. c.loop-r-2.invariant.2 r (omega arith) g hg;
-  others = c.loop-r-2.invariant.3;
-}

@@ -11,11 +11,11 @@ use Rattle.layout.specs.Promises.{Room}
 use Rattle.layout.proofs.Methods.{methods_ahead, AheadAll}
 use Rattle.layout.proofs.lay_out.Given as goal
 
-abbrev pub invariant-loop-i : goal.invariant-loop-i
-invariant-loop-i l =
+abbrev pub invariant-loop-tokens : goal.invariant-loop-tokens
+invariant-loop-tokens l =
     ((m : Monitor) (ts : List Token) → Words l.file ts l.kinds l.values l.places → length (regions m) ≤ 16 → length ts ≤ 1024
-    → drop l.first (lexemes ts) ≡ methods_ahead (all m.methods) → AheadAll (lexemes ts) (all m.methods) l.layout l.i)
-    × Room l.layout × (l.layout.keep ≡ l.keep + to_condition)
+    → drop l.first (lexemes ts) ≡ methods_ahead (all m.methods) → AheadAll (lexemes ts) (all m.methods) l.spot.layout l.spot.at)
+    × Room l.spot.layout × (l.spot.layout.keep ≡ l.keep + to_condition)
 
-abbrev pub decreases-loop-i : goal.decreases-loop-i
-decreases-loop-i l = length l.kinds - l.i
+abbrev pub decreases-loop-tokens : goal.decreases-loop-tokens
+decreases-loop-tokens l = length l.kinds - l.spot.at

@@ -9,7 +9,7 @@ use Rattle.syntax.specs.Held.Kind.{kind_of}
 use Rattle.syntax.specs.Held.Kind.{Kinds}
 use Rattle.layout.proofs.Links.{link_of, links_none, links_pass, links_store, links_linked}
 use Rattle.layout.proofs.link_braces.Goals as goal
-use Rattle.layout.proofs.link_braces.Goals.{then-kinds-i-eq-LBRACE, else-kinds-i-eq-LBRACE}
+use Rattle.layout.proofs.link_braces.Goals.{then-kind-eq-LBRACE, else-kind-eq-LBRACE}
 
 pub shape_of-operands : goal.shape_of-operands
 shape_of-operands c = c.loop-i.invariant.0.as_long
@@ -36,13 +36,13 @@ loop-i-preserved c =
     let ks = a.kinds.now in
     let i = q.loop-i.i in
     let low : i < length a.operands.now = omega (arith, q.if-operands-kinds.false) in
-    elim c.if-kinds-i-eq-LBRACE.branch [
-      | then-kinds-i-eq-LBRACE w ↦ let e : w.held.result ≡ link_of ks i = w.held.ensures ∙ ap (λ x. x % 65536) w.closing.ensures in (
-        rw (w.operands-is, e) (links_store ks a.operands.now q.loop-i.operands i q.loop-i.invariant.0 low w.if-kinds-i-eq-LBRACE.true),
+    elim c.if-kind-eq-LBRACE.branch [
+      | then-kind-eq-LBRACE w ↦ let e : w.held.result ≡ link_of ks i = w.held.ensures ∙ ap (λ x. x % 65536) w.closing.ensures in (
+        rw (w.operands-is, e) (links_store ks a.operands.now q.loop-i.operands i q.loop-i.invariant.0 low w.if-kind-eq-LBRACE.true),
         omega arith,
       )
-      | else-kinds-i-eq-LBRACE w ↦ (
-        rw w.operands-is (links_pass ks a.operands.now q.loop-i.operands i q.loop-i.invariant.0 w.if-kinds-i-eq-LBRACE.false),
+      | else-kind-eq-LBRACE w ↦ (
+        rw w.operands-is (links_pass ks a.operands.now q.loop-i.operands i q.loop-i.invariant.0 w.if-kind-eq-LBRACE.false),
         omega arith,
       )
     ]

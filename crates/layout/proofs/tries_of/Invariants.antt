@@ -10,11 +10,11 @@ use Rattle.layout.specs.Laid.{IsKeep}
 use Rattle.layout.proofs.EachTry.{TriesAhead}
 use Rattle.layout.proofs.tries_of.Given as goal
 
-abbrev pub invariant-loop-ats : goal.invariant-loop-ats
-invariant-loop-ats l =
+abbrev pub invariant-loop-tries : goal.invariant-loop-tries
+invariant-loop-tries l =
     ((m : Monitor) (ls : List Lexeme) → Kinds ls l.kinds → length ls ≤ 1024 → IsKeep m ls l.keep
-    → TriesAhead m ls l.ats l.count l.i)
-    × (length l.ats ≡ 16) × (l.i ≤ length l.kinds + overrun)
+    → TriesAhead m ls l.tries.ats l.tries.count l.tries.next)
+    × (length l.tries.ats ≡ 16) × (l.tries.next ≤ length l.kinds + overrun)
 
-abbrev pub decreases-loop-ats : goal.decreases-loop-ats
-decreases-loop-ats l = length l.kinds - l.i
+abbrev pub decreases-loop-tries : goal.decreases-loop-tries
+decreases-loop-tries l = length l.kinds - l.tries.next
