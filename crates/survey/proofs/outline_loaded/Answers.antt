@@ -21,32 +21,32 @@ returns-in-TooLong c kept holds after loads =
     (refused_as loads (scanned_long c.scan.ensures c.in-TooLong.is)
     refl) c.no_outline-in-TooLong.ensures.1
 
-pub returns-in-Bad : goal.returns-in-Bad
+pub returns-in-NoToken : goal.returns-in-NoToken
 unfolding past15
-returns-in-Bad c kept holds after loads =
-    outline_untold loads _ c.no_outline-in-Bad.ensures.0
-    (refused_as loads (scanned_bad c.scan.ensures _ c.in-Bad.is) refl) c.no_outline-in-Bad.ensures.1
+returns-in-NoToken c kept holds after loads =
+    outline_untold loads _ c.no_outline-in-NoToken.ensures.0
+    (refused_as loads (scanned_bad c.scan.ensures _ c.in-NoToken.is) refl) c.no_outline-in-NoToken.ensures.1
 
-pub returns-in-Tokens : goal.returns-in-Tokens
-returns-in-Tokens c kept holds after loads =
-    let t = scanned_tokens c.scan.ensures c.in-Tokens.n c.in-Tokens.is in
+pub returns-in-Ok : goal.returns-in-Ok
+returns-in-Ok c kept holds after loads =
+    let t = scanned_tokens c.scan.ensures c.in-Ok.n c.in-Ok.is in
     outline_told loads _ c.outline_of.ensures.answer_value (sym c.past_15.ensures ∙ c.if-not-past_15.false)
     t.3 c.outline_of.ensures.by_index
 
 pub slice_bounds-kinds-end : goal.slice_bounds-kinds-end
-slice_bounds-kinds-end = λ c. (scanned_counted c.scan.ensures c.in-Tokens.n c.in-Tokens.is).in_kinds.room
+slice_bounds-kinds-end = λ c. (scanned_counted c.scan.ensures c.in-Ok.n c.in-Ok.is).in_kinds.room
 
 pub slice_bounds-outline_of-end : goal.slice_bounds-outline_of-end
-slice_bounds-outline_of-end = λ c. (scanned_counted c.scan.ensures c.in-Tokens.n c.in-Tokens.is).in_kinds.long
+slice_bounds-outline_of-end = λ c. (scanned_counted c.scan.ensures c.in-Ok.n c.in-Ok.is).in_kinds.long
 
 pub slice_bounds-values-end : goal.slice_bounds-values-end
-slice_bounds-values-end = λ c. (scanned_counted c.scan.ensures c.in-Tokens.n c.in-Tokens.is).in_values.room
+slice_bounds-values-end = λ c. (scanned_counted c.scan.ensures c.in-Ok.n c.in-Ok.is).in_values.room
 
-pub slice_bounds-outline_of-end-in-Tokens : goal.slice_bounds-outline_of-end-in-Tokens
-slice_bounds-outline_of-end-in-Tokens = λ c. (scanned_counted c.scan.ensures c.in-Tokens.n c.in-Tokens.is).in_values.long
+pub slice_bounds-outline_of-end-in-Ok : goal.slice_bounds-outline_of-end-in-Ok
+slice_bounds-outline_of-end-in-Ok = λ c. (scanned_counted c.scan.ensures c.in-Ok.n c.in-Ok.is).in_values.long
 
 pub slice_bounds-places-end : goal.slice_bounds-places-end
-slice_bounds-places-end = λ c. (scanned_counted c.scan.ensures c.in-Tokens.n c.in-Tokens.is).in_places.room
+slice_bounds-places-end = λ c. (scanned_counted c.scan.ensures c.in-Ok.n c.in-Ok.is).in_places.room
 
-pub slice_bounds-outline_of-end-in-Tokens-2 : goal.slice_bounds-outline_of-end-in-Tokens-2
-slice_bounds-outline_of-end-in-Tokens-2 = λ c. (scanned_counted c.scan.ensures c.in-Tokens.n c.in-Tokens.is).in_places.long
+pub slice_bounds-outline_of-end-in-Ok-2 : goal.slice_bounds-outline_of-end-in-Ok-2
+slice_bounds-outline_of-end-in-Ok-2 = λ c. (scanned_counted c.scan.ensures c.in-Ok.n c.in-Ok.is).in_places.long
