@@ -121,7 +121,12 @@ fn code_of(file: &[u8], token: Token) -> Code
 }
 
 // The tokens of a file, into slices that are long enough.
-fn scan_into(file: &[u8], kinds: &mut [u8], values: &mut [u16], places: &mut [u16]) -> Result<usize, ScanError>
+fn scan_into(
+    file: &[u8],
+    kinds: &mut [u8],
+    values: &mut [u16],
+    places: &mut [u16],
+) -> Result<usize, ScanError>
     requires { (length kinds.old ≡ most_bytes) × (length values.old ≡ most_bytes) × (length places.old
         ≡ most_bytes) }
     ensures { Scans file.now result kinds.old values.old places.old

@@ -1,30 +1,32 @@
 -- `loader::load` meets its contract: 1 and 2 are the scanner's; else the arrays hold the file's tokens as far as they
 -- were filled, and `load_tokens` goes on.
-use Prim.Native.Nat.{ℕ}
+use mathlib.Core.Path.{sym, ap, ◌∙◌}
 use native.Mathlib.Omega.{arith}
-use Rattle.loader.proofs.Scanned.{Counted, scanned_long, scanned_bad, scanned_tokens, scanned_counted}
+use Rattle.std.specs.Prelude.{Err}
+use Rattle.tokens.specs.declared.ScanError.TheVariants.{NoToken}
+use Rattle.loader.proofs.Scanned.{scanned_long, scanned_bad, scanned_tokens, scanned_counted}
 use Rattle.filling.proofs.Fills.{left_all}
 use Rattle.loader.proofs.Loads.{loads_said}
 use Rattle.loader.proofs.load.Goals as goal
 
-pub returns-in-TooLong : goal.returns-in-TooLong
-returns-in-TooLong c =
+pub returns-in-Err-TooLong : goal.returns-in-Err-TooLong
+returns-in-Err-TooLong c =
     record {
       loads = λ l₁ l₂ l₃.
           loads_said _ c.not_loaded.result _ _ _ 1 ((λ z. omega arith), (λ z. omega arith), λ z. omega arith)
           c.not_loaded.ensures c.say.ensures
-          (scanned_long c.scan.ensures c.in-TooLong.is);
+          (scanned_long c.scan.ensures (c.in-Err-TooLong.is ∙ ap Err c.in-Err-TooLong.field-0-is));
       leaves = left_all _ _ _ _;
     }
 
-pub returns-in-NoToken : goal.returns-in-NoToken
-returns-in-NoToken c =
+pub returns-in-Err-NoToken : goal.returns-in-Err-NoToken
+returns-in-Err-NoToken c =
     record {
       loads = λ l₁ l₂ l₃.
-          loads_said _ c.not_loaded-in-NoToken.result _ _ _ 2 ((λ z. omega arith), (λ z. omega arith), λ z. omega arith)
-          c.not_loaded-in-NoToken.ensures c.say-in-NoToken.ensures
+          loads_said _ c.not_loaded-in-Err-NoToken.result _ _ _ 2 ((λ z. omega arith), (λ z. omega arith), λ z. omega arith)
+          c.not_loaded-in-Err-NoToken.ensures c.say-in-Err-NoToken.ensures
           (scanned_bad c.scan.ensures _
-          c.in-NoToken.is);
+          (c.in-Err-NoToken.is ∙ ap Err (c.in-Err-NoToken.field-0-is ∙ ap NoToken (sym c.in-Err-NoToken.k-is))));
       leaves = left_all _ _ _ _;
     }
 

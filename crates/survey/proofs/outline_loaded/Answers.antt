@@ -1,7 +1,8 @@
 -- `survey::outline_loaded` meets its contract: a file that passes 1 to 7 and 15 has tokens, and the arrays hold them.
 use Prim.Native.Nat.{ℕ}
 use native.Mathlib.Omega.{arith}
-use mathlib.Core.Path.{refl, sym, ◌∙◌}
+use mathlib.Core.Path.{refl, sym, ap, ◌∙◌}
+use Rattle.std.specs.Prelude.{Err}
 use borrow.Author.Tests.{not-false}
 use Rattle.logic.proofs.Bools.{not_true}
 use Rattle.loader.proofs.Scanned.{Counted, scanned_long, scanned_bad, scanned_tokens, scanned_counted}
@@ -14,18 +15,18 @@ returns-then-not-past_15 c kept holds after loads =
     outline_untold loads _ c.no_outline.ensures.0
     (sym c.past_15.ensures ∙ c.if-not-past_15.true) c.no_outline.ensures.1
 
-pub returns-in-TooLong : goal.returns-in-TooLong
+pub returns-in-Err-TooLong : goal.returns-in-Err-TooLong
 unfolding past15
-returns-in-TooLong c kept holds after loads =
-    outline_untold loads _ c.no_outline-in-TooLong.ensures.0
-    (refused_as loads (scanned_long c.scan.ensures c.in-TooLong.is)
-    refl) c.no_outline-in-TooLong.ensures.1
+returns-in-Err-TooLong c kept holds after loads =
+    outline_untold loads _ c.no_outline-in-Err-TooLong.ensures.0
+    (refused_as loads (scanned_long c.scan.ensures (c.in-Err-TooLong.is ∙ ap Err c.in-Err-TooLong.field-0-is))
+    refl) c.no_outline-in-Err-TooLong.ensures.1
 
-pub returns-in-NoToken : goal.returns-in-NoToken
+pub returns-in-Err-NoToken : goal.returns-in-Err-NoToken
 unfolding past15
-returns-in-NoToken c kept holds after loads =
-    outline_untold loads _ c.no_outline-in-NoToken.ensures.0
-    (refused_as loads (scanned_bad c.scan.ensures _ c.in-NoToken.is) refl) c.no_outline-in-NoToken.ensures.1
+returns-in-Err-NoToken c kept holds after loads =
+    outline_untold loads _ c.no_outline-in-Err-NoToken.ensures.0
+    (refused_as loads (scanned_bad c.scan.ensures _ (c.in-Err-NoToken.is ∙ ap Err c.in-Err-NoToken.field-0-is)) refl) c.no_outline-in-Err-NoToken.ensures.1
 
 pub returns-in-Ok : goal.returns-in-Ok
 returns-in-Ok c kept holds after loads =
