@@ -25,7 +25,7 @@ use Rattle.meaning.proofs.Stages.{check_9, check_0}
 use Rattle.grammar.specs.Reads.{Reads}
 use Rattle.grammar.specs.declared.Pos.TheVariants.{Next, Stuck}
 use Rattle.passes.specs.Pass.{found_of}
-use Rattle.passes.specs.declared.Found.TheVariants.{At, Nothing}
+use Rattle.std.specs.Prelude.{Some, None}
 use Rattle.variables.specs.Bounded.{RangedBy}
 use Rattle.variables.specs.Places.{first_var}
 use Rattle.variables.specs.declared.Declared.{Declared}
@@ -34,12 +34,12 @@ use Rattle.judging.proofs.TokenSlices.{lexemes_map}
 use Rattle.judging.proofs.TokensStand.{keep_byte, ill_ranged_byte, stuck_byte, stuck_end}
 
 -- a pass's answer
-pub found_at : (o : Option ℕ) (k : ℕ) → At k ≡ found_of o → o ≡ some k
+pub found_at : (o : Option ℕ) (k : ℕ) → Some k ≡ found_of o → o ≡ some k
 unfolding found_of
 found_at none k e = different (cc)
 found_at (some j) k e = cc
 
-pub found_nothing : (o : Option ℕ) → Nothing ≡ found_of o → o ≡ none
+pub found_nothing : (o : Option ℕ) → None ≡ found_of o → o ≡ none
 unfolding found_of
 found_nothing none e = refl
 found_nothing (some j) e = different (cc)

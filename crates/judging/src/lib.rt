@@ -8,7 +8,6 @@ ghost use Rattle.judging.specs.Judging.{Judges};
 
 use answers::Answer;
 use grammar::Pos;
-use passes::Found;
 use variables::Bounds;
 
 // 3 to 7: the answer so far, and where it is 0 the token of `keep` and the variables.
@@ -54,16 +53,16 @@ pub fn judge(file: &[u8], kinds: &[u8], values: &[u16], places: &[u16]) -> Judge
         → Words file.now ts kinds.now values.now places.now
         → Judges file.now ts result }
 {
-    if let Found::At(k) = passes::find_crowded(kinds, places) {
+    if let Some(k) = passes::find_crowded(kinds, places) {
         return not_judged(3, wide(k));
     }
     if let Pos::Stuck(i) = grammar::read(kinds) {
         return not_judged(4, place_of(places, i, file.len()));
     }
-    if let Found::At(k) = passes::find_past_limit(kinds, places) {
+    if let Some(k) = passes::find_past_limit(kinds, places) {
         return not_judged(5, wide(k));
     }
-    if let Found::At(k) = names::find_misnamed(file, kinds, values, places) {
+    if let Some(k) = names::find_misnamed(file, kinds, values, places) {
         return not_judged(6, wide(k));
     }
     let declared = variables::read(kinds, values, variables::FIRST);

@@ -22,10 +22,10 @@ use Rattle.judging.proofs.Refusals.{found_at, found_nothing, kinds_of, says_3, t
 use Rattle.judging.proofs.Judging.{few_lexemes, judged_refused, judged_passed, says_4_at, past_7}
 use Rattle.judging.proofs.judge.Goals as goal
 
-pub returns-in-At : goal.returns-in-At
-returns-in-At c ts w =
+pub returns-in-Some : goal.returns-in-Some
+returns-in-Some c ts w =
     judged_refused w _ (omega arith) c.not_judged.ensures c.wide.ensures
-    (says_3 w (found_at _ _ (sym c.in-At.is ∙ c.find_crowded.ensures _ ts _ w)))
+    (says_3 w (found_at _ _ (sym c.in-Some.is ∙ c.find_crowded.ensures _ ts _ w)))
 
 pub returns-in-Stuck : goal.returns-in-Stuck
 returns-in-Stuck c ts w =
@@ -36,28 +36,28 @@ returns-in-Stuck c ts w =
     (says_4_at w room _
     (subst (λ (p : Pos). Reads {A = Monitor} p (lexemes ts) (read (lexemes ts))) c.in-Stuck.is reads))
 
-pub returns-in-At-find_past_limit : goal.returns-in-At-find_past_limit
-returns-in-At-find_past_limit c ts w =
+pub returns-in-Some-find_past_limit : goal.returns-in-Some-find_past_limit
+returns-in-Some-find_past_limit c ts w =
     let room : crowded 0 0 0 ts ≡ none = found_nothing _ (sym c.in_default.is ∙ c.find_crowded.ensures _ ts _ w) in
     let reads : Reads {A = Monitor} c.read.result (lexemes ts) (read (lexemes ts)) =
     c.read.ensures (lexemes ts) (kinds_of w) (few_lexemes ts room) in
     let t : (m : Monitor) × (spell m ≡ lexemes ts) = tree_read w room _
     (subst (λ (p : Pos). Reads {A = Monitor} p (lexemes ts) (read (lexemes ts))) c.in_default-read.is reads) in
-    judged_refused w _ (omega arith) c.not_judged-in-At-find_past_limit.ensures c.wide-in-At-find_past_limit.ensures
+    judged_refused w _ (omega arith) c.not_judged-in-Some-find_past_limit.ensures c.wide-in-Some-find_past_limit.ensures
     (says_5 w room t.0 t.1
-    (found_at _ _ (sym c.in-At-find_past_limit.is ∙ c.find_past_limit.ensures _ ts _ w)))
+    (found_at _ _ (sym c.in-Some-find_past_limit.is ∙ c.find_past_limit.ensures _ ts _ w)))
 
-pub returns-in-At-find_misnamed : goal.returns-in-At-find_misnamed
-returns-in-At-find_misnamed c ts w =
+pub returns-in-Some-find_misnamed : goal.returns-in-Some-find_misnamed
+returns-in-Some-find_misnamed c ts w =
     let room : crowded 0 0 0 ts ≡ none = found_nothing _ (sym c.in_default.is ∙ c.find_crowded.ensures _ ts _ w) in
     let reads : Reads {A = Monitor} c.read.result (lexemes ts) (read (lexemes ts)) =
     c.read.ensures (lexemes ts) (kinds_of w) (few_lexemes ts room) in
     let t : (m : Monitor) × (spell m ≡ lexemes ts) = tree_read w room _
     (subst (λ (p : Pos). Reads {A = Monitor} p (lexemes ts) (read (lexemes ts))) c.in_default-read.is reads) in
     let few : past_limit 0 0 0 0 ts ≡ none = found_nothing _ (sym c.in_default-find_past_limit.is ∙ c.find_past_limit.ensures _ ts _ w) in
-    judged_refused w _ (omega arith) c.not_judged-in-At-find_misnamed.ensures c.wide-in-At-find_misnamed.ensures
+    judged_refused w _ (omega arith) c.not_judged-in-Some-find_misnamed.ensures c.wide-in-Some-find_misnamed.ensures
     (says_6 w room t.0 t.1 few
-    (found_at _ _ (sym c.in-At-find_misnamed.is ∙ c.find_misnamed.ensures ts w few)))
+    (found_at _ _ (sym c.in-Some-find_misnamed.is ∙ c.find_misnamed.ensures ts w few)))
 
 pub returns-then-not-declared : goal.returns-then-not-declared
 unfolding Ranged
