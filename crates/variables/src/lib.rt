@@ -268,10 +268,7 @@ fn digit_of(low: u16, weight: u16, rest: StateNumber) -> Digit
     ensures { DigitOf low weight rest result }
 {
     if weight == 0 {
-        return Digit {
-            value: low,
-            rest,
-        };
+        return Digit { value: low, rest };
     }
     Digit {
         value: plus(low, rest / weight),

@@ -7,4 +7,3 @@ invariant-loop-k l =
     (l.k ≤ 6) × (l.k ≤ l.bounds.count) × (length l.values ≡ 6) × (l.rest ≡ rest_in l.bounds.weights l.state l.k)
     × ((j : ℕ) → j < l.k → get_or l.values j 0 ≡ value_in wrapped l.bounds.lows l.bounds.weights l.state j)
     × ((j : ℕ) → j < 6 → l.k ≤ j → get_or l.values j 0 ≡ 128)
-
