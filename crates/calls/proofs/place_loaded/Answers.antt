@@ -7,7 +7,7 @@ use Rattle.calls.proofs.place_loaded.Goals as goal
 pub returns-then-verdict-ne0 : goal.returns-then-verdict-ne0
 returns-then-verdict-ne0 c file loads = not_placed loads _ (λ zero. omega (arith, c.if-verdict-ne0.true))
 
-pub returns-in-Err : goal.returns-in-Err-TooShort
+pub returns-in-Err : goal.returns-in-Err
 returns-in-Err c file loads =
     let w = c in
     let e = w in
