@@ -65,7 +65,7 @@ pub fn start(state: StateNumber) -> Run
 {
     Run {
         state: state,
-        threads: threads::all_idle(),
+        threads: Threads::all_idle(),
         plain: 0,
         table: 0,
     }
@@ -87,7 +87,7 @@ fn other_due(each: [Thread; machine::THREADS], t: usize) -> bool
     while u < machine::THREADS {
         let thread = each[u];
         let place = thread.place;
-        found = (u != t) & threads::is_due(place) | found;
+        found = (u != t) & place.is_due() | found;
         u += 1;
     }
     found
@@ -174,7 +174,7 @@ fn judge(
     if flag != holding {
         return alike(NOT_ALLOWED);
     }
-    if !threads::is_waiting(place) {
+    if !place.is_waiting() {
         return alike(ACCEPTED);
     }
     if flag {
@@ -220,7 +220,7 @@ fn ran(
     let t = frame.thread;
     let region = frame.region;
     let threads = run.threads;
-    let after_body = threads::leave(threads, t, behind(region, goes_on));
+    let after_body = threads.leave(t, behind(region, goes_on));
     let to = after[(region % machine::REGION_END) as usize * machine::STATES
         + (run.state % machine::STATE_END) as usize];
     let newly = waiters::made_true(holds, run.state, to);
@@ -245,7 +245,7 @@ fn paused(run: Run, frame: Frame) -> Run
     let each = threads.each;
     let thread = each[t as usize];
     let place = thread.place;
-    if threads::is_waiting(place) {
+    if place.is_waiting() {
         return Run {
             state: state,
             threads: threads,
@@ -253,7 +253,7 @@ fn paused(run: Run, frame: Frame) -> Run
             table: sets::without(run.table, t as u32),
         };
     }
-    let waiting = threads::begin_wait(threads, t, frame.region);
+    let waiting = threads.begin_wait(t, frame.region);
     Run {
         state: state,
         threads: waiting,
