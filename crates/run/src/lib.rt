@@ -28,7 +28,6 @@ use layout::Layout;
 use machine::StateNumber;
 use stepper::Run;
 use threads::{Place, Thread};
-use trace::Counted;
 use variables::Bounds;
 
 // The record of a run: how many variables there are and each value with 128 added, the place and the turn of each of
@@ -96,8 +95,8 @@ pub fn admit(bounds: Bounds, bytes: &[u8], start: usize, kept: &[u8; machine::ST
         return no_start();
     }
     match trace::count(bytes) {
-        Counted::BadAt(k) => answers::say(12, k, 0),
-        Counted::Frames(_) => answers::say(0, 0, 0),
+        Err(bad) => answers::say(12, bad.number, 0),
+        Ok(_) => answers::say(0, 0, 0),
     }
 }
 
