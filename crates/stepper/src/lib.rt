@@ -191,7 +191,11 @@ impl Slices<'_> {
             ≡ verdict_of (slices self.now.holds.now [] self.now.guard_of.now self.now.begins.now [] self.now.regions)
             (config_of w run) (frame_of frame) }
     {
-        let Frame { thread: t, region, flag } = frame;
+        let Frame {
+            thread: t,
+            region,
+            flag,
+        } = frame;
         let threads = run.threads;
         if other_due(threads.each, t as usize) {
             return alike(MISPLACED);
