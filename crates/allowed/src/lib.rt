@@ -200,7 +200,7 @@ pub fn choose(
     let thread = each[(last % machine::THREAD_END) as usize];
     let place = thread.place;
     let first = methods.first;
-    if threads::is_due(place) {
+    if place.is_due() {
         let spot = Spot {
             thread: last,
             region: region_at(place, 0, first),

@@ -6,6 +6,7 @@ ghost use Rattle.machine.specs.Monitor.{Monitor};
 ghost use Rattle.generator.specs.Making.{MakeAsked, MakesFrames};
 
 use machine::StateNumber;
+use stepper::Slices;
 
 // How many frames are made of those wanted, from a state with all threads idle.
 pub fn make_frames(
@@ -13,21 +14,16 @@ pub fn make_frames(
     threads: u8,
     wanted: usize,
     state: StateNumber,
-    holds: &[u16; machine::STATES],
-    after: &[StateNumber; machine::AFTER],
-    guard_of: &[u8; machine::REGIONS],
-    begins: &[u8; machine::REGIONS],
-    goes_on: &[u8; machine::REGIONS],
-    regions: usize,
+    slices: &Slices,
     out: &mut [u8],
 ) -> usize
     ensures { (m : Monitor) (kept : List ℕ)
-        → MakeAsked threads wanted state holds.now after.now guard_of.now
-        begins.now goes_on.now regions out.old m kept
+        → MakeAsked threads wanted state slices.now.holds.now slices.now.after.now slices.now.guard_of.now
+        slices.now.begins.now slices.now.goes_on.now slices.now.regions out.old m kept
         → MakesFrames m seed threads wanted state result out.old out.new }
 {
     let no_entries = [0u8; machine::ENTRIES];
-    let methods = allowed::methods_of(begins, regions);
+    let methods = allowed::methods_of(slices.begins, slices.regions);
     let mut run = stepper::start(state);
     let mut number = seed;
     let mut last: u8 = 0;
@@ -41,25 +37,15 @@ pub fn make_frames(
             threads,
             draws::upper_bits(next),
             methods,
-            holds,
-            guard_of,
+            slices.holds,
+            slices.guard_of,
             &no_entries,
         );
         if !chosen.any {
             return k;
         }
         let frame = chosen.frame;
-        let taken = stepper::step(
-            run,
-            frame,
-            holds,
-            after,
-            guard_of,
-            begins,
-            goes_on,
-            &no_entries,
-            regions,
-        );
+        let taken = slices.step(run, frame);
         at = lines::put_frame(out, at, frame.thread, frame.region, frame.flag);
         run = taken.run;
         last = frame.thread;
