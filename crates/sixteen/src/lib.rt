@@ -120,7 +120,8 @@ fn by_small(lanes: [u32; 16], by: u32) -> [u32; 16]
 {
     let times = 65536 / by + 1;
     let more = by - 128 % by;
-    lanes.map(|x| cast_out(x % 256 + more, by, times))
+    // By `lanes.map` no vector instructions come of it: 1,409 instructions where it takes 537, of a guard with two `mod`.
+    array::from_fn(|j| cast_out(lanes[j] % 256 + more, by, times))
 }
 
 // And by a number above 128: each value is less than that away from 0.
@@ -128,13 +129,9 @@ fn by_large(lanes: [u32; 16], by: u32) -> [u32; 16]
     requires { 128 < by }
     ensures { (j : ℕ) → j < 16 → get_or result j 0 ≡ rest (get_or lanes j 0 % 256) 128 by }
 {
-    lanes.map(|x| {
-        let value = x % 256;
-        if value < 128 {
-            value + (by - 128)
-        } else {
-            value - 128
-        }
+    array::from_fn(|j| {
+        let x = lanes[j] % 256;
+        if x < 128 { x + (by - 128) } else { x - 128 }
     })
 }
 
