@@ -1,4 +1,5 @@
 -- The outcomes so far: from the states below s, with what serves the next sixteen; behind the last state all of them.
+use Rattle.std.specs.Prelude.{Option, Some, None}
 use Prim.Native.Nat.{ℕ, ◌+◌, ◌-◌, ◌*◌, ◌≤◌, ◌<◌}
 use native.Mathlib.Omega.{arith}
 use mathlib.Core.Path.{◌≡◌, ap, subst, ◌∙◌}
@@ -15,7 +16,7 @@ use Rattle.meaning.specs.Model.{vars, regions, region}
 use Rattle.meaning.specs.State.{count, state_at}
 use Rattle.variables.specs.declared.Bounds.{Bounds}
 use Rattle.states.specs.Rows.{outcome_number, Outcomes}
-use Rattle.lanes.specs.Promises.{Sixteen, Values, Apart}
+use Rattle.lanes.specs.Promises.{Sixteen, Values, SomeApart}
 use Rattle.bodies.specs.Shifts.{Serves, AllServe, Filling, PutRows}
 use Rattle.bodies.proofs.Shifting.{serves_next}
 
@@ -24,29 +25,30 @@ abbrev Done : Monitor → List ℕ → ℕ → ℕ → Type 0
 Done m rows r t =
     get_or rows (r * 4096 + t) 0 ≡ outcome_number (vars m) (outcome (region m r) (vars m) (state_at (vars m) t))
 
-pub record Sofar (m : Monitor) (named lanes : List ℕ) (what : ℕ) (shifts after : List ℕ) (s : ℕ) : Type 0 where
+pub record Sofar (m : Monitor) (named lanes : List ℕ) (changed : Option ℕ) (shifts after : List ℕ) (s : ℕ) : Type 0 where
   pub values : Sixteen (vars m) (Values (vars m) lanes) s
   pub done : (r t : ℕ) → r < length (regions m) → t < s → t < count (vars m) → Done m after r t
-  pub served : 0 < s → AllServe m (λ r. Apart (get_or named r 0) what) shifts s
+  pub served : AllServe m (λ r. SomeApart (get_or named r 0) changed) shifts s
 
 module _ {m : Monitor} {named : List ℕ} where
-  pub sofar_none : {lanes : List ℕ} (what : ℕ) (shifts after : List ℕ) → Sixteen (vars m) (Values (vars m) lanes) 0
-      → Sofar m named lanes what shifts after 0
-  sofar_none what shifts after v = record {
+  pub sofar_none : {lanes : List ℕ} (shifts after : List ℕ) → Sixteen (vars m) (Values (vars m) lanes) 0
+      → Sofar m named lanes None shifts after 0
+  unfolding AllServe SomeApart
+  sofar_none shifts after v = record {
     values = v;
     done = λ r t low h. absurd (omega arith);
-    served = λ h. absurd (omega arith);
+    served = λ r low apart. absurd apart;
   }
 
   pub sofar_more : {kinds values : List ℕ} {bounds : Bounds} {ats : List ℕ} {n : ℕ}
-      → Filling m kinds values bounds ats named n → {lanes shifts shifts' after after' : List ℕ} {what s : ℕ}
-      (next : List ℕ) (changed : ℕ) → Sofar m named lanes what shifts after s
+      → Filling m kinds values bounds ats named n → {lanes shifts shifts' after after' : List ℕ} {was : Option ℕ} {s : ℕ}
+      (next : List ℕ) (changed : ℕ) → Sofar m named lanes was shifts after s
       → ((r : ℕ) → r < length (regions m) → Serves (vars m) (region m r) shifts' r s)
       → PutRows shifts' n s after after' → Sixteen (vars m) (Values (vars m) next) (s + 16)
       → ((k j : ℕ) → k < 6 → j < 16 → member changed k ≡ false
       → get_or next (k * 16 + j) 0 ≡ get_or lanes (k * 16 + j) 0)
-      → Sofar m named next changed shifts' after' (s + 16)
-  unfolding AllServe
+      → Sofar m named next (Some changed) shifts' after' (s + 16)
+  unfolding AllServe SomeApart
   sofar_more f {lanes = lanes} {after' = after'} {s = s} next changed sofar serves rows v same = record {
     values = v;
     done = λ r t low h inside.
@@ -55,7 +57,7 @@ module _ {m : Monitor} {named : List ℕ} where
         (λ e. let back = ltb-false t s e in
         let at : s + (t - s) ≡ t = omega arith in
         subst (Done m after' r) at (here r (t - s) low (omega arith) (omega arith)));
-    served = λ _ r low apart.
+    served = λ r low apart.
         serves_next lanes next f.bounded (f.covers r low) apart sofar.values v same (serves r low);
   }
     where
@@ -65,7 +67,7 @@ module _ {m : Monitor} {named : List ℕ} where
           ap (λ (i : ℕ). get_or after' i 0) at ∙ rows.here r j (omega (arith, f.counted)) l
           ∙ (serves r low).each j l inside
 
-  pub filled : {lanes shifts after : List ℕ} {what s : ℕ} → Sofar m named lanes what shifts after s
+  pub filled : {lanes shifts after : List ℕ} {changed : Option ℕ} {s : ℕ} → Sofar m named lanes changed shifts after s
       → count (vars m) ≤ s → Outcomes m after
   unfolding Outcomes
   filled sofar h r t low inside = sofar.done r t low (omega arith) inside

@@ -13,7 +13,7 @@ ghost use Rattle.meaning.specs.SixteenBits.{wrapped, share};
 ghost use Rattle.evaluator.specs.Coding.{Codes, Covers, lane};
 ghost use Rattle.variables.specs.Bounded.{Bounded, NumberOf};
 ghost use Rattle.states.specs.Rows.{BodiesAt, Outcomes};
-ghost use Rattle.lanes.specs.Promises.{Sixteen, Values, Apart};
+ghost use Rattle.lanes.specs.Promises.{Sixteen, Values, SomeApart};
 ghost use Rattle.bodies.specs.Shifts.{unshift, ShiftOf, Stretch, Noted, Ran, Filling};
 ghost use Rattle.bodies.specs.Shifts.{Serves, AllServe, PutRows};
 
@@ -36,11 +36,9 @@ fn with_shares(
         → get_or result j 0 ≡ wrapped (get_or sums j 0 + share wrapped (get_or lanes.now (k * 16 + j) 0) low weight) }
 {
     let mut more = [0u16; 16];
-    let mut j: usize = 0;
-    while j < 16 {
+    for j in 0..16 {
         let share = variables::share_of(lanes[k * 16 + j], low, weight);
         more[j] = variables::plus(sums[j], share);
-        j += 1;
     }
     more
 }
@@ -50,14 +48,12 @@ fn numbers(bounds: Bounds, lanes: &[u16; 96]) -> [StateNumber; 16]
     ensures { (j : ℕ) → j < 16 → NumberOf bounds (lane lanes.now j) (get_or result j 0) }
 {
     let mut sums = [0u16; 16];
-    let mut k: usize = 0;
-    while k < syntax::VARIABLES {
+    for k in 0..syntax::VARIABLES {
         if bounds.count <= k {
             return sums;
         }
         let more = with_shares(sums, lanes, k, bounds.lows[k], bounds.weights[k]);
         sums = more;
-        k += 1;
     }
     sums
 }
@@ -80,10 +76,8 @@ fn note(bounds: Bounds, ok: u16, ended: &[u16; 96], s: StateNumber, r: usize, sh
         shifts.new 16 }
 {
     let to = numbers(bounds, ended);
-    let mut j: usize = 0;
-    while j < 16 {
+    for j in 0..16 {
         shifts[r * 16 + j] = shift_of(sets::has(ok, j as u32), to[j], s + j as u16);
-        j += 1;
     }
 }
 
@@ -118,23 +112,21 @@ fn shifts_from(
     ats: [u16; machine::REGIONS],
     named: [u16; machine::REGIONS],
     count: usize,
-    what: u16,
+    changed: Option<u16>,
     s: StateNumber,
     shifts: &mut [u16],
 )
     requires { (s ≤ 4080) × (count ≤ most_regions) × (length shifts.old ≡ 256) }
     ensures { (m : Monitor) → Filling m kinds.now values.now bounds ats named count
         → Sixteen (vars m) (Values (vars m) lanes) s
-        → (0 < s → AllServe m (λ r. Apart (get_or named r 0) what) shifts.old s)
+        → AllServe m (λ r. SomeApart (get_or named r 0) changed) shifts.old s
         → (r : ℕ) → r < length (regions m) → Serves (vars m) (region m r) shifts.new r s }
 {
-    let mut r: usize = 0;
-    while r < count {
-        if lanes::anew(s == 0, named[r], what) {
-            let at = states::wide(ats[r]);
+    for r in 0..count {
+        if lanes::anew(named[r], changed) {
+            let at = usize::from(ats[r]);
             run_from(kinds, values, bounds, lanes, at, s, r, shifts);
         }
-        r += 1;
     }
 }
 
@@ -158,10 +150,8 @@ fn put_row(shifts: &[u16], r: usize, s: StateNumber, after: &mut [StateNumber])
         after.old after.new 16 }
 {
     let at = r * machine::STATES + s as usize;
-    let mut j: usize = 0;
-    while j < 16 {
+    for j in 0..16 {
         after[at + j] = shifted(s + j as u16, shifts[r * 16 + j]);
-        j += 1;
     }
 }
 
@@ -170,10 +160,8 @@ fn put_rows(shifts: &[u16], count: usize, s: StateNumber, after: &mut [StateNumb
     requires { (s ≤ 4080) × (count ≤ most_regions) × (length shifts.now ≡ 256) × (most_after ≤ length after.old) }
     ensures { PutRows shifts.now count s after.old after.new }
 {
-    let mut r: usize = 0;
-    while r < count {
+    for r in 0..count {
         put_row(shifts, r, s, after);
-        r += 1;
     }
 }
 
@@ -206,10 +194,9 @@ pub fn fill_after(
         return;
     }
     let mut lanes = lanes::first_lanes(bounds);
-    let mut what: u16 = 65535;
+    let mut changed = None;
     let mut shifts = [0u16; 256];
-    let mut s: StateNumber = 0;
-    while s < states {
+    for s in (0..states).step_by(16) {
         shifts_from(
             kinds,
             values,
@@ -218,14 +205,13 @@ pub fn fill_after(
             ats,
             named,
             count,
-            what,
+            changed,
             s,
             &mut shifts,
         );
         put_rows(&shifts, count, s, after);
         let next = lanes::next(bounds, lanes);
         lanes = next.values;
-        what = next.changed;
-        s += 16;
+        changed = Some(next.changed);
     }
 }

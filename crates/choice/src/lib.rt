@@ -14,6 +14,7 @@ ghost use Rattle.choice.specs.Chosen.{Tried, Chooses};
 
 use machine::StateNumber;
 
+// Stays (interface): `survey::Fates`, which C reads, holds these three arrays as they stand here.
 // The chosen tries as bits; and of each try that a body breaks the pass, from 1, and the region and the state that break
 // it. All three are 0 of a chosen try, and of one that is false at the start values.
 #[derive(Clone, Copy)]

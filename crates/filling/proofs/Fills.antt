@@ -28,7 +28,8 @@ use Rattle.breaking.proofs.Breaking.{after_all}
 use Rattle.choice.specs.Slots.{lacks}
 use Rattle.choice.specs.Chosen.{Chooses}
 use Rattle.choice.proofs.Passing.{all_there, chosen_set}
-use Rattle.answers.specs.declared.Answer.{Answer}
+use Rattle.meaning.specs.Answer.{answer}
+use Rattle.answers.specs.Says.{Says}
 use Rattle.rows.specs.Filling.{Filling}
 use Rattle.filling.specs.Filling.{Settles, Filled, Rows, Leaves}
 use Rattle.filling.specs.declared.Settled.{Settled}
@@ -38,12 +39,6 @@ pub numbers_of : {m : Monitor} {ls : List Lexeme} {kinds values : List ℕ} {b :
     → Filling m ls kinds values b l t → GuardNumbers m l.guard_of
 unfolding GuardNumbers
 numbers_of f = f.laid.guard_numbers
-
--- an answer handed on
-pub said : {a b : Answer} {n k i : ℕ} → a ≡ b → (b.number ≡ n) × (b.first ≡ k) × (b.second ≡ i)
-    → (a.number ≡ n) × (a.first ≡ k) × (a.second ≡ i)
-said {n = n} {k} {i} e t =
-    subst (λ (x : Answer). (x.number ≡ n) × (x.first ≡ k) × (x.second ≡ i)) (sym e) t
 
 -- the answer for refusal 9, read backwards
 stopped : (o : Option (ℕ × ℕ)) {x : prelude.Option (ℕ × ℕ)} {k n : ℕ} → BrokenAs x o → x ≡ Some (k, n) → o ≡ some (k, n)
@@ -74,11 +69,10 @@ kept_strong m tried kept₀ kept chosen few is row sets strong =
 module _ (m : Monitor) (place : ℕ) (r : Settled) (kept holds after : List ℕ) {t : Bool}
     (is : t ≡ truth m.keep (vars m) (starts (vars m))) where
   -- 8: at the start values the chosen tries hold, so keep alone decides
-  pub filled_8 : t ≡ false → (r.answer.number ≡ 8) × (r.answer.first ≡ place) × (r.answer.second ≡ 0)
-      → Filled m place r kept holds after
-  filled_8 off (a, b, c) =
+  pub filled_8 : t ≡ false → Says r.answer (answer 8 place 0) → Filled m place r kept holds after
+  filled_8 off eight =
       record {
-        fails = λ _. record { number = a; first = b; second = c };
+        fails = λ _. eight;
         settles = λ on. clash on (start_kept m ∙ sym is ∙ off);
       }
 
@@ -88,17 +82,16 @@ module _ (m : Monitor) (place : ℕ) (r : Settled) (kept holds after : List ℕ)
 module _ (m : Monitor) (r : Settled) (kept holds after : List ℕ) {x : prelude.Option (ℕ × ℕ)} (a : BrokenAs x (broken m))
     (full : Rows m kept holds after) (choice : Chooses m r.choice) where
   -- 9
-  pub settled_9 : (k n : ℕ) → x ≡ Some (k, n) → (r.answer.number ≡ 9) × (r.answer.first ≡ k) × (r.answer.second ≡ n)
-      → Settles m r kept holds after
-  settled_9 k n e (p, q, s) =
+  pub settled_9 : (k n : ℕ) → x ≡ Some (k, n) → Says r.answer (answer 9 k n) → Settles m r kept holds after
+  settled_9 k n e nine =
       let stops = stopped (broken m) a e in
       record {
         breaks = λ i j h.
             let same : ◌≡◌ {A = ℕ × ℕ} (k, n) (i, j) = cc in
             record {
-              number = p;
-              first = q ∙ ap (λ (x : ℕ × ℕ). x.0) same;
-              second = s ∙ ap (λ (x : ℕ × ℕ). x.1) same;
+              number = nine.number;
+              first = nine.first ∙ ap (λ (x : ℕ × ℕ). x.0) same;
+              second = nine.second ∙ ap (λ (x : ℕ × ℕ). x.1) same;
             };
         passes = λ h. different (cc);
         rows = full;

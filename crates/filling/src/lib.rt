@@ -10,28 +10,20 @@ ghost use Rattle.mentions.specs.Mentioned.{Mentioned};
 ghost use Rattle.rows.specs.Filling.{Filling};
 ghost use Rattle.filling.specs.Filling.{Settles, Filled, AsLong, Leaves};
 
-use answers::Answer;
+use answers::{Answer, Refusal};
 use choice::Choice;
 use layout::{Layout, Tries};
 use machine::StateNumber;
 use mentions::Mentions;
 use variables::Bounds;
 
+// Stays (no plainer): a file that is refused with 8 or 9 has its choice told beside the answer, so an error would carry what
+// an accepted file has.
 // 8 and 9: the answer, and the choice among the tries.
 #[derive(Clone, Copy)]
 pub struct Settled {
     pub answer: Answer,
     pub choice: Choice,
-}
-
-// An answer beside a choice.
-fn with_choice(answer: Answer, choice: Choice) -> Settled
-    ensures { (result.answer ≡ answer) × (result.choice ≡ choice) }
-{
-    Settled {
-        answer: answer,
-        choice: choice,
-    }
 }
 
 // 9, and the choice before it, from the truths and the outcomes of the bodies, which go into lent slices. Where there
@@ -52,7 +44,7 @@ fn fill_states(
         → Mentioned m mentions → most_states ≤ length kept.old → most_states ≤ length holds.old
         → most_after ≤ length after.old → (1 ≤ tries.count → most_states ≤ length tried.old)
         → Settles m result kept.new holds.new after.new }
-    ensures fact { ((result.answer.number ≡ 9) ⊎ (result.answer.number ≡ 0))
+    ensures ends { ((result.answer.number ≡ 9) ⊎ (result.answer.number ≡ 0))
         × AsLong kept.old holds.old after.old
         kept.new holds.new after.new }
 {
@@ -61,8 +53,7 @@ fn fill_states(
     );
     let numbers = layout.guard_of;
     let regions = layout.regions;
-    let starts = bounds.starts;
-    let start = variables::number_of(bounds, starts);
+    let start = variables::number_of(bounds, bounds.starts);
     let choice = choice::choose(
         bounds.states,
         numbers,
@@ -76,8 +67,14 @@ fn fill_states(
     );
     choice::strengthen(kept, tried, choice.chosen, bounds.states);
     match breaking::first_broken(bounds, numbers, regions, kept, holds, after) {
-        Some((r, s)) => with_choice(answers::say(9, r, usize::from(s)), choice),
-        None => with_choice(answers::say(0, 0, 0), choice),
+        Some((region, state)) => Settled {
+            answer: Answer::from(Refusal::Breaks { region, state }),
+            choice,
+        },
+        None => Settled {
+            answer: Answer::accepted(),
+            choice,
+        },
     }
 }
 
@@ -101,10 +98,11 @@ pub fn fill(
     ensures leaves { Leaves result.answer.number kept.old holds.old after.old
         kept.new holds.new after.new }
 {
-    let starts = bounds.starts;
-    let keep = layout.keep;
-    if !lanes::holds_at(kinds, values, starts, keep) {
-        return with_choice(answers::say(8, place, 0), choice::undropped(0));
+    if !lanes::holds_at(kinds, values, bounds.starts, layout.keep) {
+        return Settled {
+            answer: Answer::from(Refusal::StartNotKept(place)),
+            choice: choice::undropped(0),
+        };
     }
     if tries.count == 0 {
         let mut none = [0u16; 1];

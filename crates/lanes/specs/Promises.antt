@@ -1,5 +1,5 @@
 -- The values of states in lanes.
-use Rattle.std.specs.Prelude.{ℕ, ◌+◌, ◌*◌, ◌<◌, ◌≡◌, true, false, List, get_or}
+use Rattle.std.specs.Prelude.{ℕ, ◌+◌, ◌*◌, ◌<◌, ◌≡◌, true, false, List, get_or, Option, Some, None}
 use Rattle.sets.specs.Set.{member}
 use Rattle.syntax.specs.Limits.{most_vars}
 use Rattle.syntax.specs.Tree.{Var}
@@ -28,3 +28,8 @@ Values vs lanes j s = Biased vs (state_at vs s) (lane lanes j)
 -- two sets have no member in common
 pub record Apart (a b : ℕ) : Type 0 where
   pub lacks : (k : ℕ) → member a k ≡ true → member b k ≡ false
+
+-- some sixteen states lie before, and what changed from these on and a set have no member in common
+unfoldable pub SomeApart : ℕ → Option ℕ → Type 0
+SomeApart a (Some b) = Apart a b
+SomeApart a None = ⊥

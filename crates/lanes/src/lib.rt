@@ -12,10 +12,9 @@ ghost use Rattle.meaning.specs.Value.{truth};
 ghost use Rattle.meaning.specs.Held.{Biased};
 ghost use Rattle.evaluator.specs.Coding.{Codes, EndsCond};
 ghost use Rattle.variables.specs.Bounded.{Bounded};
-ghost use Rattle.lanes.specs.Promises.{Put, Sixteen, Values, Apart};
+ghost use Rattle.lanes.specs.Promises.{Put, Sixteen, Values, SomeApart};
 ghost use Rattle.lanes.specs.Adding.{Share, Settled, Carried, Ready, Raised};
 
-use machine::StateNumber;
 use variables::Bounds;
 
 // Values, and the variables whose values differ from the ones before, as a set.
@@ -30,10 +29,8 @@ fn put_values(all: &mut [u16], at: usize, values: [u16; syntax::VARIABLES])
     requires { at + 80 < length all.old }
     ensures { Put all.old at values all.new }
 {
-    let mut k: usize = 0;
-    while k < syntax::VARIABLES {
+    for k in 0..syntax::VARIABLES {
         all[at + k * 16] = values[k];
-        k += 1;
     }
 }
 
@@ -42,11 +39,9 @@ pub fn first_lanes(bounds: Bounds) -> [u16; 96]
     ensures { (vs : List Var) → Bounded vs bounds → Sixteen vs (Values vs result) 0 }
 {
     let mut lanes = [0u16; 96];
-    let mut s: StateNumber = 0;
-    while s < 16 {
+    for s in 0..16 {
         let values = variables::values_of(bounds, s);
-        put_values(&mut lanes, s as usize, values);
-        s += 1;
+        put_values(&mut lanes, usize::from(s), values);
     }
     lanes
 }
@@ -95,7 +90,7 @@ fn settle(sum: u16, high: u16, size: u16) -> u16
 fn carry_of(sum: u16, high: u16) -> u16
     ensures { Carried sum high result }
 {
-    if high < sum { 1 } else { 0 }
+    u16::from(high < sum)
 }
 
 // The place of a variable's values.
@@ -113,13 +108,11 @@ fn raise(lanes: &mut [u16], at: usize, carry: &mut [u16], add: u16, high: u16, s
         carry.new result }
 {
     let mut any = false;
-    let mut j: usize = 0;
-    while j < 16 {
+    for j in 0..16 {
         let sum = lanes[at + j] % 4096 + add + carry[j];
         lanes[at + j] = settle(sum, high, size);
         carry[j] = carry_of(sum, high);
-        any = any | (high < sum);
-        j += 1;
+        any |= high < sum;
     }
     any
 }
@@ -128,7 +121,7 @@ fn raise(lanes: &mut [u16], at: usize, carry: &mut [u16], add: u16, high: u16, s
 pub fn next(bounds: Bounds, lanes: [u16; 96]) -> Lanes
     ensures sixteen { (vs : List Var) (from : ℕ) → Bounded vs bounds → Sixteen vs (Values vs lanes) from
         → Sixteen vs (Values vs result.values) (from + 16) }
-    ensures by_index { (k j : ℕ) → k < most_vars → j < 16 → member result.changed k ≡ false
+    ensures unchanged { (k j : ℕ) → k < most_vars → j < 16 → member result.changed k ≡ false
         → get_or result.values (k * 16 + j) 0 ≡ get_or lanes (k * 16 + j) 0 }
 {
     let mut values = lanes;
@@ -137,6 +130,8 @@ pub fn next(bounds: Bounds, lanes: [u16; 96]) -> Lanes
     let mut any = false;
     let mut rest: u16 = 16;
     let mut k = few(bounds.count);
+    // Stays (no plainer): the turns end where nothing is left to add, so a `for` over the variables from the last one
+    // on would break off in the middle.
     while (0 < k) & ((0 < rest) | any) {
         k -= 1;
         let high = bounds.highs[k] % 4096;
@@ -152,18 +147,15 @@ pub fn next(bounds: Bounds, lanes: [u16; 96]) -> Lanes
     Lanes { values, changed }
 }
 
-// Whether what a text says is to be worked out anew: for the first sixteen states, and where a variable that it names is
-// among those that changed.
-pub fn anew(first: bool, named: u16, changed: u16) -> bool
-    ensures { result ≡ false → (first ≡ false) × Apart named changed }
+// Whether what a text says is to be worked out anew: for the first sixteen states, for which it is not said what changed,
+// and where a variable that it names is among those that changed.
+pub fn anew(named: u16, changed: Option<u16>) -> bool
+    ensures { result ≡ false → SomeApart named changed }
 {
-    if first {
-        return true;
+    match changed {
+        Some(changed) => sets::both(named, changed) != 0,
+        None => true,
     }
-    if sets::both(named, changed) == 0 {
-        return false;
-    }
-    true
 }
 
 // Whether the condition that begins at a token holds at some values.

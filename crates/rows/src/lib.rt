@@ -22,8 +22,8 @@ fn guard_texts(layout: Layout, mentions: Mentions) -> Texts
     let ats = mentions::guards_at(layout);
     let named = mentions.guards;
     Texts {
-        ats: ats,
-        named: named,
+        ats,
+        named,
         count: layout.guards,
     }
 }
@@ -35,8 +35,8 @@ fn try_texts(tries: Tries, mentions: Mentions) -> Texts
     let ats = tries.ats;
     let named = mentions.tries;
     Texts {
-        ats: ats,
-        named: named,
+        ats,
+        named,
         count: tries.count,
     }
 }
@@ -60,8 +60,7 @@ pub fn fill_rows(
         → (1 ≤ tries.count → most_states ≤ length tried.old) → most_after ≤ length after.old
         → Swept m kept.new holds.new tried.new after.new }
 {
-    let keep = layout.keep;
-    truths::fill_row(kinds, values, bounds, keep, mentions.keep, kept);
+    truths::fill_row(kinds, values, bounds, layout.keep, mentions.keep, kept);
     truths::fill_sets(kinds, values, bounds, guard_texts(layout, mentions), holds);
     truths::fill_sets(kinds, values, bounds, try_texts(tries, mentions), tried);
     let ats = layout.bodies_at;

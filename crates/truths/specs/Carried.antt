@@ -1,6 +1,6 @@
 -- What the functions promise to each other: conditions and where they begin, their truth in sixteen lanes, and what is
 -- carried over from the last sixteen states.
-use Rattle.std.specs.Prelude.{ℕ, ◌+◌, ◌<◌, ◌≤◌, ◌≡◌, Bool, false, List, ◌++◌, length, get_or, drop}
+use Rattle.std.specs.Prelude.{ℕ, ◌+◌, ◌<◌, ◌≤◌, ◌≡◌, Bool, List, ◌++◌, length, get_or, drop, Option}
 use Rattle.sets.specs.Set.{member}
 use Rattle.syntax.specs.Token.{Lexeme}
 use Rattle.syntax.specs.Tree.{Var, Cond, spell_cond}
@@ -11,7 +11,7 @@ use Rattle.meaning.specs.Model.{no_guard}
 use Rattle.evaluator.specs.Coding.{Codes, EndsCond, Covers}
 use Rattle.variables.specs.Bounded.{Bounded}
 use Rattle.variables.specs.declared.Bounds.{Bounds}
-use Rattle.lanes.specs.Promises.{Apart}
+use Rattle.lanes.specs.Promises.{SomeApart}
 use Rattle.states.specs.Rows.{ConditionsAt}
 
 -- a condition begins at a token, and a set has the slots of the variables that it names
@@ -62,13 +62,13 @@ Truths vs cs sets j s =
 
 -- of the sixteen states from one on, unless they are the first: what is known of a condition that names no variable which
 -- changed is its truth there
-pub record Carried (vs : List Var) (c : Cond) (named changed : ℕ) (first : Bool) (known : ℕ → Bool) (from : ℕ) : Type 0
+pub record Carried (vs : List Var) (c : Cond) (named : ℕ) (changed : Option ℕ) (known : ℕ → Bool) (from : ℕ) : Type 0
   where
-    pub each : first ≡ false → Apart named changed → (j : ℕ) → j < 16 → from + j < count vs
+    pub each : SomeApart named changed → (j : ℕ) → j < 16 → from + j < count vs
         → known j ≡ truth c vs (state_at vs (from + j))
 
 -- the same of some conditions
-unfoldable pub CarriedAll : List Var → List Cond → List ℕ → ℕ → Bool → List ℕ → ℕ → Type 0
-CarriedAll vs cs named changed first sets from =
+unfoldable pub CarriedAll : List Var → List Cond → List ℕ → Option ℕ → List ℕ → ℕ → Type 0
+CarriedAll vs cs named changed sets from =
     (g : ℕ) → g < length cs
-    → Carried vs (get_or cs g no_guard) (get_or named g 0) changed first (λ j. member (get_or sets j 0) g) from
+    → Carried vs (get_or cs g no_guard) (get_or named g 0) changed (λ j. member (get_or sets j 0) g) from

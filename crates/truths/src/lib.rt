@@ -16,6 +16,7 @@ ghost use Rattle.truths.specs.Carried.{Spread, PutSets, PutBits};
 use machine::StateNumber;
 use variables::Bounds;
 
+// Stays (no plainer): layouts and mentions have these arrays, which an array of structs would be put together from.
 // Conditions, at most sixteen: the token at which each begins, the variables that it names, and how many there are.
 #[derive(Clone, Copy)]
 pub struct Texts {
@@ -41,10 +42,8 @@ fn spread(known: u16, g: u32, sets: &mut [u16])
     requires { (g < 16) × (length sets.old ≡ 16) }
     ensures { Spread known g sets.old sets.new }
 {
-    let mut j: usize = 0;
-    while j < 16 {
+    for j in 0..16 {
         sets[j] = put(sets[j], g, sets::has(known, j as u32));
-        j += 1;
     }
 }
 
@@ -54,24 +53,21 @@ fn truths_from(
     values: &[u16],
     lanes: &[u16; 96],
     texts: Texts,
-    changed: u16,
-    first: bool,
+    changed: Option<u16>,
     sets: &mut [u16],
 )
     requires { (texts.count ≤ most_regions) × (length sets.old ≡ 16) }
     ensures { (vs : List Var) (cs : List Cond) (bounds : Bounds) (from : ℕ)
         → Conditions vs cs kinds.now values.now bounds texts.ats texts.named texts.count
         → Sixteen vs (Values vs lanes.now) from
-        → CarriedAll vs cs texts.named changed first sets.old from
+        → CarriedAll vs cs texts.named changed sets.old from
         → Sixteen vs (Truths vs cs sets.new) from }
 {
-    let mut g: usize = 0;
-    while g < texts.count {
-        if lanes::anew(first, texts.named[g], changed) {
-            let at = states::wide(texts.ats[g]);
+    for g in 0..texts.count {
+        if lanes::anew(texts.named[g], changed) {
+            let at = usize::from(texts.ats[g]);
             spread(evaluator::holds(kinds, values, lanes, at), g as u32, sets);
         }
-        g += 1;
     }
 }
 
@@ -80,10 +76,8 @@ fn put_sets(sets: &[u16], from: StateNumber, row: &mut [u16])
     requires { (length sets.now ≡ 16) × (from + 16 ≤ length row.old) }
     ensures { PutSets sets.now from row.old row.new }
 {
-    let mut j: usize = 0;
-    while j < 16 {
+    for j in 0..16 {
         row[from as usize + j] = sets[j];
-        j += 1;
     }
 }
 
@@ -99,10 +93,8 @@ fn put_bits(known: u16, from: StateNumber, row: &mut [u8])
     requires { from + 16 ≤ length row.old }
     ensures { PutBits known from row.old row.new }
 {
-    let mut j: usize = 0;
-    while j < 16 {
+    for j in 0..16 {
         row[from as usize + j] = bit_of(sets::has(known, j as u32));
-        j += 1;
     }
 }
 
@@ -113,16 +105,15 @@ fn truth_from(
     lanes: &[u16; 96],
     at: usize,
     named: u16,
-    changed: u16,
-    first: bool,
+    changed: Option<u16>,
     known: u16,
 ) -> u16
     ensures { (vs : List Var) (c : Cond) (bounds : Bounds) (from : ℕ)
         → Condition vs c kinds.now values.now bounds at named
-        → Sixteen vs (Values vs lanes.now) from → Carried vs c named changed first (member known) from
+        → Sixteen vs (Values vs lanes.now) from → Carried vs c named changed (member known) from
         → Sixteen vs (Truth vs c result) from }
 {
-    if lanes::anew(first, named, changed) {
+    if lanes::anew(named, changed) {
         return evaluator::holds(kinds, values, lanes, at);
     }
     known
@@ -148,16 +139,14 @@ pub fn fill_sets(kinds: &[u8], values: &[u16], bounds: Bounds, texts: Texts, row
         return;
     }
     let mut lanes = lanes::first_lanes(bounds);
-    let mut changed: u16 = 0;
+    let mut changed = None;
     let mut sets = [0u16; 16];
-    let mut s: StateNumber = 0;
-    while s < states {
-        truths_from(kinds, values, &lanes, texts, changed, s == 0, &mut sets);
+    for s in (0..states).step_by(16) {
+        truths_from(kinds, values, &lanes, texts, changed, &mut sets);
         put_sets(&sets, s, row);
         let more = lanes::next(bounds, lanes);
         lanes = more.values;
-        changed = more.changed;
-        s += 16;
+        changed = Some(more.changed);
     }
 }
 
@@ -175,15 +164,13 @@ pub fn fill_row(kinds: &[u8], values: &[u16], bounds: Bounds, at: usize, named: 
         return;
     }
     let mut lanes = lanes::first_lanes(bounds);
-    let mut changed: u16 = 0;
+    let mut changed = None;
     let mut known: u16 = 0;
-    let mut s: StateNumber = 0;
-    while s < states {
-        known = truth_from(kinds, values, &lanes, at, named, changed, s == 0, known);
+    for s in (0..states).step_by(16) {
+        known = truth_from(kinds, values, &lanes, at, named, changed, known);
         put_bits(known, s, row);
         let more = lanes::next(bounds, lanes);
         lanes = more.values;
-        changed = more.changed;
-        s += 16;
+        changed = Some(more.changed);
     }
 }

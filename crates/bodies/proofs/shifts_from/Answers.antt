@@ -4,11 +4,10 @@ use Prim.Native.Nat.{◌+◌, ◌*◌, ◌<◌}
 use native.Mathlib.Omega.{arith}
 use mathlib.Core.Path.{refl, ◌∙◌}
 use lib.ListN.{get_or}
-use borrow.Author.Tests.{eqb-false}
 use Rattle.syntax.specs.Tree.{Monitor}
 use Rattle.meaning.specs.Model.{vars, region}
 use Rattle.meaning.specs.State.{count}
-use Rattle.lanes.specs.Promises.{Sixteen, Values, Apart}
+use Rattle.lanes.specs.Promises.{Sixteen, Values, SomeApart}
 use Rattle.bodies.specs.Shifts.{Filling, AllServe, Stretch, Tells, Ran}
 use Rattle.bodies.proofs.Shifting.{body_of, serves_more}
 use Rattle.bodies.proofs.Stretches.{stretch_map}
@@ -27,7 +26,7 @@ Given c m =
     let a = c.args in
     Filling m a.kinds.now a.values.now a.bounds a.ats a.named a.count
     × Sixteen (vars m) (Values (vars m) a.lanes) a.s
-    × (0 < a.s → AllServe m (λ i. Apart (get_or a.named i 0) a.what) a.shifts.now a.s)
+    × AllServe m (λ i. SomeApart (get_or a.named i 0) a.changed) a.shifts.now a.s
 
 -- its sixteen shifts tell what its body does, as it was run or as they were
 turn : (c : At) →
@@ -42,16 +41,16 @@ turn c =
     let r = c.loop-r.r in
     elim c.if-anew.branch [
       | then-anew w ↦ rw w.shifts-is (stretch_map
-          {Right = Ran a.kinds.now a.values.now a.bounds a.lanes w.wide-at.result a.s}
+          {Right = Ran a.kinds.now a.values.now a.bounds a.lanes w.from-at.result a.s}
           (λ j x l ran m given low.
-          ran.tells (vars m) (region m r) (body_of given.0 r w.wide-at.result (omega arith) w.wide-at.ensures) low
+          ran.tells (vars m) (region m r) (body_of given.0 r w.from-at.result (omega arith) w.from-at.ensures) low
           (given.1.each j l low)) w.run_from.ensures)
       | else-anew w ↦ rw w.shifts-is (record {
         long = refl;
         here = λ j l m given low.
             let still = c.anew.ensures w.if-anew.false in
             rw (c.loop-r.invariant.2 (r * 16 + j) (omega arith))
-            ((given.2 (omega (arith, eqb-false, still.0)) r (omega (arith, given.0.counted)) still.1).each j l low);
+            ((given.2 r (omega (arith, given.0.counted)) still).each j l low);
         before = λ i h. refl;
         behind = λ i h. refl;
       })

@@ -13,7 +13,7 @@ use Rattle.mentions.specs.Mentioned.{Mentioned}
 use Rattle.rows.specs.Filling.{Filling}
 use Rattle.rows.proofs.Texts.{keeping}
 use Rattle.filling.specs.Filling.{AsLong, Leaves}
-use Rattle.filling.proofs.Fills.{said, filled_8, filled_on, left_all}
+use Rattle.filling.proofs.Fills.{filled_8, filled_on, left_all}
 use Rattle.filling.proofs.fill.Goals as goal
 use Rattle.filling.proofs.fill.Goals.{After-holds_at}
 
@@ -35,8 +35,7 @@ pub returns-then-not-holds_at : goal.returns-then-not-holds_at
 returns-then-not-holds_at c =
     record {
       filled = λ m ls f n l₁ l₂ l₃.
-          filled_8 m _ _ _ _ _ (holds_at_start (goal.at.returns-then-not-holds_at c).After-holds_at f n) c.if-not-holds_at.true
-          (said c.with_choice.ensures.0 c.say.ensures);
+          filled_8 m _ _ _ _ _ (holds_at_start (goal.at.returns-then-not-holds_at c).After-holds_at f n) c.if-not-holds_at.true c.from.ensures;
       leaves = left_all _ _ _ _;
     }
 
@@ -56,7 +55,7 @@ returns-then-tries-eq0 c =
       filled = λ m ls f n l₁ l₂ l₃.
           filled_on m _ _ _ _ _ (holds_at_start (goal.at.returns-then-tries-eq0 c).After-holds_at f n) c.if-not-holds_at.false
           (c.fill_states.ensures.settles m ls f n l₁ l₂ l₃ (λ some. absurd (omega (arith, c.if-tries-eq0.true))));
-      leaves = left _ _ _ _ _ _ _ c.fill_states.ensures.fact.0 c.fill_states.ensures.fact.1;
+      leaves = left _ _ _ _ _ _ _ c.fill_states.ensures.ends.0 c.fill_states.ensures.ends.1;
     }
 
 pub returns : goal.returns
@@ -65,5 +64,5 @@ returns c =
       filled = λ m ls f n l₁ l₂ l₃.
           filled_on m _ _ _ _ _ (holds_at_start (goal.at.returns c).After-holds_at f n) c.if-not-holds_at.false
           (c.fill_states-2.ensures.settles m ls f n l₁ l₂ l₃ (λ some. omega arith));
-      leaves = left _ _ _ _ _ _ _ c.fill_states-2.ensures.fact.0 c.fill_states-2.ensures.fact.1;
+      leaves = left _ _ _ _ _ _ _ c.fill_states-2.ensures.ends.0 c.fill_states-2.ensures.ends.1;
     }

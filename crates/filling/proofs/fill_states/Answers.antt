@@ -2,7 +2,7 @@
 -- what `first_broken` answers.
 use Prim.Native.Nat.{ℕ, ◌≤◌}
 use native.Mathlib.Omega.{arith}
-use mathlib.Core.Path.{◌≡◌, sym, subst}
+use mathlib.Core.Path.{◌≡◌}
 use mathlib.Core.Logic.{inl, inr}
 use mathlib.Core.List.{List}
 use lib.ListN.{length}
@@ -18,7 +18,7 @@ use Rattle.rows.specs.Filling.{Filling, Swept}
 use Rattle.breaking.specs.Broken.{BrokenAs}
 use Rattle.choice.specs.Chosen.{Chooses}
 use Rattle.filling.specs.Filling.{Rows, AsLong}
-use Rattle.filling.proofs.Fills.{numbers_of, kept_strong, said, settled_9, settled_0}
+use Rattle.filling.proofs.Fills.{numbers_of, kept_strong, settled_9, settled_0}
 use Rattle.filling.proofs.fill_states.Goals as goal
 use Rattle.filling.proofs.fill_states.Goals.{After-first_broken}
 
@@ -118,25 +118,23 @@ tried_long c = omega (arith, c.fill_rows.auto.tried)
 pub returns-in-Some : goal.returns-in-Some
 returns-in-Some c =
     let g = (goal.at.returns-in-Some c).After-first_broken in
-    let w = c.with_choice.ensures in
-    let nine = said w.0 (rw c.from.ensures at c.say.ensures) in
+    let nine = c.from.ensures in
     record {
       settles = λ m ls f n l₁ l₂ l₃ l₄.
-          settled_9 m _ _ _ _ (broken_as g f n l₁ l₂ l₃ l₄) (full g f n l₁ l₂ l₃ l₄)
-          (subst (Chooses m) (sym w.1) (chooses g f n l₁ l₂ l₃ l₄)) _ _ c.in-Some.is nine;
-      fact = (inl nine.0, long g);
+          settled_9 m _ _ _ _ (broken_as g f n l₁ l₂ l₃ l₄) (full g f n l₁ l₂ l₃ l₄) (chooses g f n l₁ l₂ l₃ l₄) _ _
+          c.in-Some.is nine;
+      ends = (inl nine.number, long g);
     }
 
 pub returns-in-None : goal.returns-in-None
 returns-in-None c =
     let g = (goal.at.returns-in-None c).After-first_broken in
-    let w = c.with_choice-in-None.ensures in
-    let zero = said w.0 c.say-in-None.ensures in
+    let zero = c.accepted.ensures in
     record {
       settles = λ m ls f n l₁ l₂ l₃ l₄.
-          settled_0 m _ _ _ _ (broken_as g f n l₁ l₂ l₃ l₄) (full g f n l₁ l₂ l₃ l₄)
-          (subst (Chooses m) (sym w.1) (chooses g f n l₁ l₂ l₃ l₄)) c.in-None.is zero;
-      fact = (inr zero.0, long g);
+          settled_0 m _ _ _ _ (broken_as g f n l₁ l₂ l₃ l₄) (full g f n l₁ l₂ l₃ l₄) (chooses g f n l₁ l₂ l₃ l₄)
+          c.in-None.is zero;
+      ends = (inr zero.0, long g);
     }
 
 pub shape_of-kept-in-Some : goal.shape_of-kept-in-Some

@@ -29,7 +29,7 @@ loop-s-preserved c =
             biased = t.biased;
             places = λ k l n e. put.ensures.others n (λ k' l' e'. omega arith) ∙ t.places k l n e;
           })
-          (λ low. record { values = values.result; biased = values.ensures.are vs b low; places = put.ensures.here }),
+          (λ low. record { values = values.result; biased = values.ensures.are vs b low; places = λ k l n e. put.ensures.here k l n (omega (arith, c.from.ensures)) }),
     )
 
 pub returns : goal.returns

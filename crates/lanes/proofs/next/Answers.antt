@@ -50,5 +50,5 @@ pub returns : goal.returns
 returns c =
     record {
       sixteen = carried_all c.loop-k.invariant c.loop-k-test.false;
-      by_index = c.loop-k.invariant.kept;
+      unchanged = c.loop-k.invariant.kept;
     }

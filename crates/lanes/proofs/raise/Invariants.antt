@@ -1,10 +1,6 @@
-use Prim.Native.Nat.{◌-◌}
 use Rattle.lanes.proofs.Rows.{Raising}
 use Rattle.lanes.proofs.raise.Given as goal
 
 abbrev pub invariant-loop-j : goal.invariant-loop-j
 invariant-loop-j l =
     Raising l.at l.add l.high l.size l.initial.lanes l.initial.carry l.lanes l.carry l.any l.j
-
-abbrev pub decreases-loop-j : goal.decreases-loop-j
-decreases-loop-j l = 16 - l.j

@@ -2,7 +2,6 @@ use Prim.Native.Nat.{ℕ, ◌-◌, ◌%◌, ◌≤◌, ◌<◌}
 use mathlib.Core.Path.{◌≡◌}
 use mathlib.Core.List.{List}
 use lib.ListN.{length, get_or}
-use lib.Dec.{eqb}
 use Rattle.sets.specs.Set.{member}
 use Rattle.logic.specs.Tests.{bit}
 use Rattle.syntax.specs.Tree.{Var, Cond}
@@ -21,7 +20,7 @@ invariant-loop-s l =
     (l.s ≤ 4096) × (l.s % 16 ≡ 0) × (length l.row ≡ length l.initial.row)
     × ((vs : List Var) (d : Cond) → Condition vs d l.kinds l.values l.bounds l.at l.named
     → ((n : ℕ) → n < l.s → Right vs d n (get_or l.row n 0)) × Sixteen vs (Values vs l.lanes) l.s
-    × Carried vs d l.named l.changed (eqb l.s 0) (member l.known) l.s)
+    × Carried vs d l.named l.changed (member l.known) l.s)
 
 abbrev pub decreases-loop-s : goal.decreases-loop-s
 decreases-loop-s l = 4096 - l.s

@@ -2,7 +2,6 @@ use Prim.Native.Nat.{ℕ, ◌-◌, ◌%◌, ◌≤◌, ◌<◌}
 use mathlib.Core.Path.{◌≡◌}
 use mathlib.Core.List.{List}
 use lib.ListN.{length, get_or}
-use lib.Dec.{eqb}
 use Rattle.sets.specs.Set.{member}
 use Rattle.syntax.specs.Tree.{Var, Cond}
 use Rattle.meaning.specs.Value.{truth}
@@ -21,7 +20,7 @@ invariant-loop-s l =
     (l.s ≤ 4096) × (l.s % 16 ≡ 0) × (length l.row ≡ length l.initial.row) × (length l.sets ≡ 16)
     × ((vs : List Var) (cs : List Cond) → Conditions vs cs l.kinds l.values l.bounds l.texts.ats l.texts.named l.texts.count
     → ((n : ℕ) → n < l.s → Right vs cs n (get_or l.row n 0)) × Sixteen vs (Values vs l.lanes) l.s
-    × CarriedAll vs cs l.texts.named l.changed (eqb l.s 0) l.sets l.s)
+    × CarriedAll vs cs l.texts.named l.changed l.sets l.s)
 
 abbrev pub decreases-loop-s : goal.decreases-loop-s
 decreases-loop-s l = 4096 - l.s

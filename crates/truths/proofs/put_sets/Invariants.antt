@@ -1,4 +1,4 @@
-use Prim.Native.Nat.{ℕ, ◌+◌, ◌-◌, ◌≤◌, ◌<◌}
+use Prim.Native.Nat.{ℕ, ◌+◌, ◌≤◌, ◌<◌}
 use mathlib.Core.Path.{◌≡◌}
 use lib.ListN.{length, get_or}
 use Rattle.truths.proofs.put_sets.Given as goal
@@ -7,6 +7,3 @@ abbrev pub invariant-loop-j : goal.invariant-loop-j
 invariant-loop-j l =
     (l.j ≤ 16) × (length l.row ≡ length l.initial.row) × ((k : ℕ) → k < l.j → get_or l.row (l.from + k) 0 ≡ get_or l.sets k 0)
     × ((n : ℕ) → n < l.from → get_or l.row n 0 ≡ get_or l.initial.row n 0)
-
-abbrev pub decreases-loop-j : goal.decreases-loop-j
-decreases-loop-j l = 16 - l.j

@@ -1,4 +1,4 @@
-use Prim.Native.Nat.{ℕ, ◌-◌, ◌≤◌, ◌<◌}
+use Prim.Native.Nat.{ℕ, ◌≤◌, ◌<◌}
 use mathlib.Core.Path.{◌≡◌}
 use lib.ListN.{length, get_or}
 use Rattle.sets.specs.Set.{member}
@@ -13,6 +13,3 @@ abbrev pub invariant-loop-j : goal.invariant-loop-j
 invariant-loop-j l =
     (l.j ≤ 16) × (length l.sets ≡ length l.initial.sets) × ((k : ℕ) → k < l.j → Done l.known l.g (get_or l.initial.sets k 0) k (get_or l.sets k 0))
     × ((k : ℕ) → l.j ≤ k → get_or l.sets k 0 ≡ get_or l.initial.sets k 0)
-
-abbrev pub decreases-loop-j : goal.decreases-loop-j
-decreases-loop-j l = 16 - l.j

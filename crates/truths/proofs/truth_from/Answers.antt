@@ -15,4 +15,4 @@ returns-then-anew c vs d bounds from given lanes carried =
 pub returns : goal.returns
 returns c vs d bounds from given lanes carried =
     let t = c.anew.ensures c.if-anew.false in
-    record { each = λ j h low. carried.each t.0 t.1 j h low }
+    record { each = λ j h low. carried.each t j h low }

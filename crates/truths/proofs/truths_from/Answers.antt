@@ -37,7 +37,7 @@ here : (c : Joined-anew) →
     (vs : List Var) (cs : List Cond) (bounds : Bounds) (from : ℕ)
     → Conditions vs cs a.kinds.now a.values.now bounds a.texts.ats a.texts.named a.texts.count
     → Sixteen vs (Values vs a.lanes.now) from
-    → CarriedAll vs cs a.texts.named a.changed a.first a.sets.now from
+    → CarriedAll vs cs a.texts.named a.changed a.sets.now from
     → (j : ℕ) → j < 16 → from + j < count vs
     → member (get_or c.if-anew.sets j 0) i.g ≡ truth (get_or cs i.g no_guard) vs (state_at vs (from + j))
 unfolding ConditionsAt CarriedAll
@@ -48,9 +48,9 @@ here c vs cs bounds from given lanes carried j h low =
     elim c.if-anew.branch [
       | then-anew w ↦ rw w.sets-is (w.spread.ensures.here j h
           ∙ w.holds.ensures vs (state_at vs (from + j)) given.ls t.0 (get_or cs i.g no_guard) j h given.codes
-          (lanes.each j h low) (rw w.wide-at.ensures t.1) t.2 (omega (arith, given.few)))
+          (lanes.each j h low) (rw w.from-at.ensures t.1) t.2 (omega (arith, given.few)))
       | else-anew w ↦ let e = c.anew.ensures w.if-anew.false in
-          rw w.sets-is (i.invariant.2 j i.g h (omega arith) ∙ (carried i.g below).each e.0 e.1 j h low)
+          rw w.sets-is (i.invariant.2 j i.g h (omega arith) ∙ (carried i.g below).each e j h low)
     ]
 
 pub loop-g-preserved : goal.loop-g-preserved

@@ -1,4 +1,4 @@
-use Prim.Native.Nat.{ℕ, ◌+◌, ◌-◌, ◌≤◌, ◌<◌}
+use Prim.Native.Nat.{ℕ, ◌+◌, ◌≤◌, ◌<◌}
 use mathlib.Core.Path.{◌≡◌}
 use mathlib.Core.List.{List}
 use lib.ListN.{length, get_or}
@@ -18,9 +18,6 @@ invariant-loop-g l =
     × ((j u : ℕ) → j < 16 → l.g ≤ u → member (get_or l.sets j 0) u ≡ member (get_or l.initial.sets j 0) u)
     × ((vs : List Var) (cs : List Cond) (bounds : Bounds) (from : ℕ)
     → Conditions vs cs l.kinds l.values bounds l.texts.ats l.texts.named l.texts.count
-    → Sixteen vs (Values vs l.lanes) from → CarriedAll vs cs l.texts.named l.changed l.first l.initial.sets from
+    → Sixteen vs (Values vs l.lanes) from → CarriedAll vs cs l.texts.named l.changed l.initial.sets from
     → (u : ℕ) → u < l.g → (j : ℕ) → j < 16 → from + j < count vs
     → member (get_or l.sets j 0) u ≡ truth (get_or cs u no_guard) vs (state_at vs (from + j)))
-
-abbrev pub decreases-loop-g : goal.decreases-loop-g
-decreases-loop-g l = l.texts.count - l.g
