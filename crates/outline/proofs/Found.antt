@@ -5,8 +5,9 @@ use native.Mathlib.Omega.{arith}
 use native.Mathlib.Numerals.{add-one}
 use mathlib.Core.Path.{◌≡◌, refl, sym, ap, ◌∙◌}
 use mathlib.Core.List.{List, [], ◌∷◌, ◌++◌, map}
-use lib.ListN.{length, drop, take, get_or, drop_of_length-le}
-use lib.Seq.{drop-cons, take-suc}
+use Rattle.std.specs.List.{filter}
+use lib.ListN.{length, drop, get_or, drop_of_length-le}
+use lib.Seq.{drop-cons}
 use lib.Dec.{eqb}
 use borrow.Author.Tests.{eqb-true, eqb-false, eq-eqb, ne_eqb}
 use Rattle.logic.proofs.Bools.{split}
@@ -57,36 +58,13 @@ module _ (o : ℕ) where
   unfolding nth_of
   turns_over ks i k h = rw (drop_of_length-le ks h) (omega arith)
 
-  -- one kind more
-  count_more : (xs : List ℕ) (x : ℕ) → x ≡ o → count_of o (xs ++ (x ∷ [])) ≡ count_of o xs + 1
+  -- how many a filter lets through
+  pub counted : (xs : List ℕ) → length (filter (λ x. eqb x o) xs) ≡ count_of o xs
   unfolding count_of
-  count_more [] x h = count_counts x [] h ∙ omega arith
-  count_more (y ∷ xs) x h = split (eqb y o)
-      (λ e. let a = count_counts y (xs ++ (x ∷ [])) (eqb-true y o e) in
-      let b = count_counts y xs (eqb-true y o e) in
-      omega (arith, count_more xs x h))
-      (λ e. let a = count_passes y (xs ++ (x ∷ [])) (eqb-false y o e) in
-      let b = count_passes y xs (eqb-false y o e) in
-      omega (arith, count_more xs x h))
-
-  count_same : (xs : List ℕ) (x : ℕ) → (x ≡ o → ⊥) → count_of o (xs ++ (x ∷ [])) ≡ count_of o xs
-  unfolding count_of
-  count_same [] x n = count_passes x [] n
-  count_same (y ∷ xs) x n = split (eqb y o)
-      (λ e. let a = count_counts y (xs ++ (x ∷ [])) (eqb-true y o e) in
-      let b = count_counts y xs (eqb-true y o e) in
-      omega (arith, count_same xs x n))
-      (λ e. let a = count_passes y (xs ++ (x ∷ [])) (eqb-false y o e) in
-      let b = count_passes y xs (eqb-false y o e) in
-      omega (arith, count_same xs x n))
-
-  pub turn_adds : (ks : List ℕ) (i : ℕ) → i < length ks → get_or ks i 0 ≡ o
-      → count_of o (take i ks) + 1 ≡ count_of o (take (i + 1) ks)
-  turn_adds ks i h e = rw (add-one i, take-suc ks i 0 h) (sym (count_more _ _ e))
-
-  pub turn_keeps : (ks : List ℕ) (i : ℕ) → i < length ks → (get_or ks i 0 ≡ o → ⊥)
-      → count_of o (take i ks) ≡ count_of o (take (i + 1) ks)
-  turn_keeps ks i h n = rw (add-one i, take-suc ks i 0 h) (sym (count_same _ _ n))
+  counted [] = refl
+  counted (x ∷ xs) = split (eqb x o)
+      (λ h. rw (h, count_counts x xs (eqb-true x o h)) (ap suc (counted xs)))
+      (λ h. rw (h, count_passes x xs (eqb-false x o h)) (counted xs))
 
 -- Among lexemes
 

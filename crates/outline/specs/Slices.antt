@@ -64,3 +64,9 @@ pub record Listed {A : Type 0} (size n : ℕ) (empty : A) (f : ℕ → A) (found
   pub whole : length found ≡ size
   pub filled : (k : ℕ) → k < size → k < n → get_or found k empty ≡ f k
   pub behind : (k : ℕ) → n ≤ k → get_or found k empty ≡ empty
+
+-- the first n of so many slots hold what a relation of their numbers allows, and the others are empty
+pub record Slots {A : Type 0} (size n : ℕ) (empty : A) (allowed : ℕ → A → Type 0) (found : List A) : Type 0 where
+  pub whole : length found ≡ size
+  pub filled : (k : ℕ) → k < size → k < n → allowed k (get_or found k empty)
+  pub behind : (k : ℕ) → n ≤ k → get_or found k empty ≡ empty

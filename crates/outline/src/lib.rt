@@ -12,8 +12,8 @@ ghost use Rattle.variables.specs.Bounded.{Bounded};
 ghost use Rattle.layout.specs.Laid.{Laid};
 ghost use Rattle.outline.specs.Found.{nth_of, count_of};
 ghost use Rattle.outline.specs.Slices.{name_in, between_in, condition_in};
-ghost use Rattle.outline.specs.Slices.{variable_in, method_in, region_in, Listed};
-ghost use Rattle.outline.specs.Outlined.{no_span, no_variable, no_method, no_region, Outlines, NoOutline};
+ghost use Rattle.outline.specs.Slices.{variable_in, method_in, region_in, Slots};
+ghost use Rattle.outline.specs.Outlined.{Outlines, NoOutline};
 
 use answers::Answer;
 use layout::Layout;
@@ -86,212 +86,148 @@ const MARK_BYTES: usize = 1;
 // How many tokens on: the name from `monitor`, `var` or `method`, and the bracket from `waituntil`.
 const NEXT: usize = 1;
 
-// The token that is the k-th of a kind, from 0, or how many tokens there are.
-fn nth(kinds: &[u8], kind: u8, k: usize) -> usize
-    ensures { (result ≡ nth_of kind k kinds.now) × (result ≤ length kinds.now) }
-{
-    let mut left = k;
-    let mut i: usize = 0;
-    while i < kinds.len() {
-        if kinds[i] == kind {
-            if left == 0 {
-                return i;
-            }
-            left -= 1;
-        }
-        i += 1;
-    }
-    i
-}
+// What an empty slot holds.
+const NO_SPAN: Span = Span { from: 0, to: 0 };
 
-// How many of a kind stand before a token.
-fn count_before(kinds: &[u8], kind: u8, end: usize) -> usize
-    ensures { result ≡ count_of kind (take end kinds.now) }
-{
-    let mut n: usize = 0;
-    let mut i: usize = 0;
-    while i < kinds.len() && i < end {
-        if kinds[i] == kind {
-            n += 1;
-        }
-        i += 1;
-    }
-    n
+const NO_VARIABLE: Variable = Variable {
+    name: NO_SPAN,
+    start: 0,
+    low: 0,
+    high: 0,
+};
+
+const NO_METHOD: Method = Method {
+    name: NO_SPAN,
+    first: 0,
+};
+
+const NO_REGION: Region = Region {
+    guard: NO_SPAN,
+    body: NO_SPAN,
+    number: 0,
+};
+
+// The tokens of a file, each by its kind, its value and its place.
+#[derive(Clone, Copy)]
+struct Tokens<'a> {
+    kinds: &'a [u8],
+    values: &'a [u16],
+    places: &'a [u16],
 }
 
 // A number of a slice, 0 past its end.
 fn number_at(xs: &[u16], at: usize) -> usize
     ensures { (result ≡ get_or xs.now at 0) × (result < 65536) }
 {
-    if at < xs.len() { wide(xs[at]) } else { 0 }
+    usize::from(xs.get(at).copied().unwrap_or(0))
 }
 
-fn wide(x: u16) -> usize
-    ensures { (result ≡ x) × (result < 65536) }
-{
-    x as usize
-}
+impl Tokens<'_> {
+    // The token that is the k-th of a kind, from 0, or how many tokens there are.
+    fn nth(self, kind: u8, k: usize) -> usize
+        ensures { (result ≡ nth_of kind k self.entry.kinds.now) × (result ≤ length self.entry.kinds.now) }
+    {
+        let mut left = k;
+        for (i, &x) in self.kinds.iter().enumerate() {
+            if x == kind {
+                if left == 0 {
+                    return i;
+                }
+                left -= 1;
+            }
+        }
+        self.kinds.len()
+    }
 
-// Where the name at a token stands; a name's value is its length.
-fn name_at(values: &[u16], places: &[u16], at: usize) -> Span
-    ensures { result ≡ name_in values.now places.now at }
-{
-    let from = number_at(places, at);
-    let long = number_at(values, at);
-    Span {
-        from: from,
-        to: from + long,
+    // How many of a kind stand before a token.
+    fn count_before(self, kind: u8, end: usize) -> usize
+        ensures { result ≡ count_of kind (take end self.entry.kinds.now) }
+    {
+        self.kinds.iter().take(end).filter(|&&x| x == kind).count()
+    }
+
+    // Where the name at a token stands; a name's value is its length.
+    fn name_at(self, at: usize) -> Span
+        ensures { result ≡ name_in self.entry.values.now self.entry.places.now at }
+    {
+        let from = number_at(self.places, at);
+        let long = number_at(self.values, at);
+        Span {
+            from,
+            to: from + long,
+        }
+    }
+
+    // What stands between two tokens, the first of so many bytes.
+    fn between(self, opener: usize, size: usize, closer: usize) -> Span
+        requires { size ≤ 16 }
+        ensures { result ≡ between_in self.entry.places.now opener size closer }
+    {
+        Span {
+            from: number_at(self.places, opener) + size,
+            to: number_at(self.places, closer),
+        }
+    }
+
+    // The variable with a number.
+    fn variable_at(self, bounds: Bounds, k: usize) -> Variable
+        requires { k < most_vars }
+        ensures { result ≡ variable_in self.entry.kinds.now self.entry.values.now self.entry.places.now bounds k }
+    {
+        let at = self.nth(syntax::KEY_VAR, k);
+        Variable {
+            name: self.name_at(at + NEXT),
+            start: bounds.starts[k],
+            low: bounds.lows[k],
+            high: bounds.highs[k],
+        }
+    }
+
+    // The method with a number; its first region is behind as many as stand before it.
+    fn method_at(self, k: usize) -> Method
+        ensures { result ≡ method_in self.entry.kinds.now self.entry.values.now self.entry.places.now k }
+    {
+        let at = self.nth(syntax::KEY_METHOD, k);
+        Method {
+            name: self.name_at(at + NEXT),
+            first: self.count_before(syntax::KEY_WAITUNTIL, at),
+        }
+    }
+
+    // The region with a number, whose guard has another: `waituntil ( guard ) { body }`.
+    fn region_at(self, number: u8, k: usize) -> Region
+        ensures { result ≡ region_in self.entry.kinds.now self.entry.places.now number k }
+    {
+        let opener = self.nth(syntax::KEY_WAITUNTIL, k) + NEXT;
+        let closer = layout::closing(self.kinds, opener + 1, syntax::LPAREN, syntax::RPAREN);
+        let brace = closer + 1;
+        let end = layout::closing(self.kinds, brace + 1, syntax::LBRACE, syntax::RBRACE);
+        Region {
+            guard: self.between(opener, MARK_BYTES, closer),
+            body: self.between(brace, MARK_BYTES, end),
+            number: usize::from(number),
+        }
+    }
+
+    // The condition behind the k-th word of a kind and of so many bytes: `keep condition ;`, `try condition ;`.
+    fn condition_at(self, kind: u8, k: usize, size: usize) -> Span
+        requires { size ≤ 16 }
+        ensures { result ≡ condition_in self.entry.kinds.now self.entry.places.now kind k size }
+    {
+        let at = self.nth(kind, k);
+        let end = layout::closing(self.kinds, at + NEXT, syntax::NO_KIND, syntax::SEMICOLON);
+        self.between(at, size, end)
     }
 }
 
-// What stands between two tokens, the first of so many bytes.
-fn between(places: &[u16], opener: usize, size: usize, closer: usize) -> Span
-    requires { size ≤ 16 }
-    ensures { result ≡ between_in places.now opener size closer }
+// The first n of so many slots hold what a closure gives of their numbers, and the others are empty.
+fn slots<T: Copy, const SIZE: usize, F: Fn(usize) -> T>(empty: T, n: usize, item: F) -> [T; SIZE]
+    requires callable { (k : ℕ) → k < SIZE → k < n → F.pre item k }
+    ensures { Slots SIZE n empty (F.post item) result }
 {
-    let from = number_at(places, opener);
-    let to = number_at(places, closer);
-    Span {
-        from: from + size,
-        to: to,
-    }
-}
-
-// The variable with a number.
-fn variable_at(kinds: &[u8], values: &[u16], places: &[u16], bounds: Bounds, k: usize) -> Variable
-    requires { k < most_vars }
-    ensures { result ≡ variable_in kinds.now values.now places.now bounds k }
-{
-    let at = nth(kinds, syntax::KEY_VAR, k);
-    let name = name_at(values, places, at + NEXT);
-    Variable {
-        name: name,
-        start: bounds.starts[k],
-        low: bounds.lows[k],
-        high: bounds.highs[k],
-    }
-}
-
-// The method with a number; its first region is behind as many as stand before it.
-fn method_at(kinds: &[u8], values: &[u16], places: &[u16], k: usize) -> Method
-    ensures { result ≡ method_in kinds.now values.now places.now k }
-{
-    let at = nth(kinds, syntax::KEY_METHOD, k);
-    let name = name_at(values, places, at + NEXT);
-    Method {
-        name: name,
-        first: count_before(kinds, syntax::KEY_WAITUNTIL, at),
-    }
-}
-
-// The region with a number, whose guard has another: `waituntil ( guard ) { body }`.
-fn region_at(kinds: &[u8], places: &[u16], number: u8, k: usize) -> Region
-    ensures { result ≡ region_in kinds.now places.now number k }
-{
-    let opener = nth(kinds, syntax::KEY_WAITUNTIL, k) + NEXT;
-    let closer = layout::closing(kinds, opener + 1, syntax::LPAREN, syntax::RPAREN);
-    let brace = closer + 1;
-    let end = layout::closing(kinds, brace + 1, syntax::LBRACE, syntax::RBRACE);
-    Region {
-        guard: between(places, opener, MARK_BYTES, closer),
-        body: between(places, brace, MARK_BYTES, end),
-        number: number as usize,
-    }
-}
-
-// The condition behind the k-th word of a kind and of so many bytes: `keep condition ;`, `try condition ;`.
-fn condition_at(kinds: &[u8], places: &[u16], kind: u8, k: usize, size: usize) -> Span
-    requires { size ≤ 16 }
-    ensures { result ≡ condition_in kinds.now places.now kind k size }
-{
-    let at = nth(kinds, kind, k);
-    let end = layout::closing(kinds, at + NEXT, syntax::NO_KIND, syntax::SEMICOLON);
-    between(places, at, size, end)
-}
-
-fn no_span() -> Span
-    ensures { result ≡ no_span }
-{
-    Span { from: 0, to: 0 }
-}
-
-// The first so many variables.
-fn variables_of(
-    kinds: &[u8],
-    values: &[u16],
-    places: &[u16],
-    bounds: Bounds,
-) -> [Variable; syntax::VARIABLES]
-    ensures { Listed most_vars bounds.count no_variable
-        (variable_in kinds.now values.now places.now bounds) result }
-{
-    let none = Variable {
-        name: no_span(),
-        start: 0,
-        low: 0,
-        high: 0,
-    };
-    let mut found = [none; syntax::VARIABLES];
-    let mut k: usize = 0;
-    while k < syntax::VARIABLES && k < bounds.count {
-        found[k] = variable_at(kinds, values, places, bounds, k);
-        k += 1;
-    }
-    found
-}
-
-// The conditions of the first so many tries.
-fn tries_of(kinds: &[u8], places: &[u16], n: usize) -> [Span; syntax::TRIES]
-    ensures { Listed most_tries n no_span
-        (λ k. condition_in kinds.now places.now 42 k 3) result }
-{
-    let mut found = [no_span(); syntax::TRIES];
-    let mut k: usize = 0;
-    while k < syntax::TRIES && k < n {
-        found[k] = condition_at(kinds, places, syntax::KEY_TRY, k, TRY_BYTES);
-        k += 1;
-    }
-    found
-}
-
-// The first so many methods.
-fn methods_of(kinds: &[u8], values: &[u16], places: &[u16], n: usize) -> [Method; syntax::METHODS]
-    ensures { Listed most_methods n no_method
-        (method_in kinds.now values.now places.now) result }
-{
-    let none = Method {
-        name: no_span(),
-        first: 0,
-    };
-    let mut found = [none; syntax::METHODS];
-    let mut k: usize = 0;
-    while k < syntax::METHODS && k < n {
-        found[k] = method_at(kinds, values, places, k);
-        k += 1;
-    }
-    found
-}
-
-// The first so many regions.
-fn regions_of(
-    kinds: &[u8],
-    places: &[u16],
-    numbers: [u8; machine::REGIONS],
-    n: usize,
-) -> [Region; machine::REGIONS]
-    ensures { Listed most_regions n no_region
-        (λ k. region_in kinds.now places.now (get_or numbers k 0) k) result }
-{
-    let none = Region {
-        guard: no_span(),
-        body: no_span(),
-        number: 0,
-    };
-    let mut found = [none; machine::REGIONS];
-    let mut k: usize = 0;
-    while k < machine::REGIONS && k < n {
-        found[k] = region_at(kinds, places, numbers[k], k);
-        k += 1;
+    let mut found = [empty; SIZE];
+    for k in 0..n.min(SIZE) {
+        found[k] = item(k);
     }
     found
 }
@@ -300,23 +236,8 @@ fn regions_of(
 pub fn no_outline(answer: Answer) -> Outline
     ensures { (result.answer ≡ answer) × NoOutline result }
 {
-    let none = Variable {
-        name: no_span(),
-        start: 0,
-        low: 0,
-        high: 0,
-    };
-    let nothing = Method {
-        name: no_span(),
-        first: 0,
-    };
-    let nowhere = Region {
-        guard: no_span(),
-        body: no_span(),
-        number: 0,
-    };
     Outline {
-        answer: answer,
+        answer,
         vars: 0,
         tries: 0,
         methods: 0,
@@ -324,12 +245,12 @@ pub fn no_outline(answer: Answer) -> Outline
         guards: 0,
         states: 0,
         start: 0,
-        title: no_span(),
-        keep: no_span(),
-        variable: [none; syntax::VARIABLES],
-        tried: [no_span(); syntax::TRIES],
-        method: [nothing; syntax::METHODS],
-        region: [nowhere; machine::REGIONS],
+        title: NO_SPAN,
+        keep: NO_SPAN,
+        variable: [NO_VARIABLE; syntax::VARIABLES],
+        tried: [NO_SPAN; syntax::TRIES],
+        method: [NO_METHOD; syntax::METHODS],
+        region: [NO_REGION; machine::REGIONS],
     }
 }
 
@@ -342,31 +263,41 @@ pub fn outline_of(
     layout: Layout,
     answer: Answer,
 ) -> Outline
-    ensures answer_value { result.answer ≡ answer }
-    ensures by_index { (file : List ℕ) (ts : List Token) (m : Monitor)
+    ensures verdict { result.answer ≡ answer }
+    ensures outlines { (file : List ℕ) (ts : List Token) (m : Monitor)
         → Words file ts kinds.now values.now places.now → spell m ≡ lexemes ts
         → length m.tries ≤ 16 → length (all m.methods) ≤ 8
         → Bounded (vars m) bounds → Laid m (lexemes ts) layout → Outlines ts m result }
 {
-    let tries = count_before(kinds, syntax::KEY_TRY, kinds.len());
-    let methods = count_before(kinds, syntax::KEY_METHOD, kinds.len());
-    let starts = bounds.starts;
-    let numbers = layout.guard_of;
-    let regions = layout.regions;
+    let tokens = Tokens {
+        kinds,
+        values,
+        places,
+    };
+    let tries = tokens.count_before(syntax::KEY_TRY, kinds.len());
+    let methods = tokens.count_before(syntax::KEY_METHOD, kinds.len());
     Outline {
-        answer: answer,
+        answer,
         vars: bounds.count,
-        tries: tries,
-        methods: methods,
-        regions: regions,
+        tries,
+        methods,
+        regions: layout.regions,
         guards: layout.guards,
-        states: bounds.states as usize,
-        start: variables::number_of(bounds, starts) as usize,
-        title: name_at(values, places, NEXT),
-        keep: condition_at(kinds, places, syntax::KEY_KEEP, 0, KEEP_BYTES),
-        variable: variables_of(kinds, values, places, bounds),
-        tried: tries_of(kinds, places, tries),
-        method: methods_of(kinds, values, places, methods),
-        region: regions_of(kinds, places, numbers, regions),
+        states: usize::from(bounds.states),
+        start: usize::from(variables::number_of(bounds, bounds.starts)),
+        title: tokens.name_at(NEXT),
+        keep: tokens.condition_at(syntax::KEY_KEEP, 0, KEEP_BYTES),
+        variable: slots(NO_VARIABLE, bounds.count, |k| tokens.variable_at(bounds, k)),
+        tried: slots(
+            NO_SPAN,
+            tries,
+            |k| tokens.condition_at(syntax::KEY_TRY, k, TRY_BYTES),
+        ),
+        method: slots(NO_METHOD, methods, |k| tokens.method_at(k)),
+        region: slots(
+            NO_REGION,
+            layout.regions,
+            |k| tokens.region_at(layout.guard_of[k], k),
+        ),
     }
 }

@@ -1,9 +1,0 @@
--- `outline::between` meets its contract.
-use Rattle.outline.proofs.Formed.{between_formed}
-use Rattle.outline.proofs.between.Goals as goal
-
-pub returns : goal.returns
-returns c =
-    let a = c.args in
-    between_formed a.places.now a.opener a.size a.closer _ _ c.number_at-from.ensures.0
-    c.number_at-to.ensures.0
