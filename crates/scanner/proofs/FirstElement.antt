@@ -1,7 +1,7 @@
 -- Laws of the definitions that the scanner's code goes by, each at the first element of what is left of a list.
 use Prim.Native.Nat.{ℕ, zero, suc, ◌+◌, ◌*◌, ◌-◌, ◌^◌, ◌≤◌, ◌<◌}
 use mathlib.Core.Path.{◌≡◌, refl, ap, ◌∙◌}
-use mathlib.Core.Bool.{Bool, true, false, ◌&&◌, false≢true}
+use mathlib.Core.Bool.{Bool, true, false, ◌&&◌, ◌||◌, false≢true}
 use mathlib.Core.List.{List, [], ◌∷◌}
 use native.Mathlib.Numerals.{add-one}
 use native.Mathlib.Omega.{arith}
@@ -9,8 +9,9 @@ use lib.ListN.{length, take, drop, get_or, drop_of_length-le}
 use lib.Seq.{drop-cons}
 use lib.Dec.{leb, eqb}
 use borrow.Author.Tests.{leb-true}
+use Rattle.std.specs.Char.{is_ascii_alphabetic, is_ascii_alphanumeric}
 use Rattle.syntax.specs.Decide.Leading.{leading}
-use Rattle.syntax.specs.Bytes.{digit, between, decimal, same_bytes}
+use Rattle.syntax.specs.Bytes.{letter, digit, word_byte, between, decimal, same_bytes}
 
 -- a case distinction on a Boolean that keeps the equation
 pub by_cases : {A : Type 0} (b : Bool) → (b ≡ true → A) → (b ≡ false → A) → A
@@ -66,6 +67,23 @@ and_true false b e = absurd (false≢true e)
 and_false : (b : Bool) → b && false ≡ false
 and_false true = refl
 and_false false = refl
+
+-- a word's bytes are the kit's letters and digits, and `_`
+turned : (d u l s : Bool) → (u || l) || d || s ≡ (((d || u) || l) || s)
+turned true true l s = refl
+turned true false true s = refl
+turned true false false s = refl
+turned false true l s = refl
+turned false false true s = refl
+turned false false false s = refl
+
+pub alphanumeric : (b : ℕ) → word_byte b ≡ (is_ascii_alphanumeric b || eqb b 95)
+unfolding word_byte letter digit between
+alphanumeric b = turned (digit b) (between "A" "Z" b) (between "a" "z" b) (eqb b 95)
+
+pub letters : (b : ℕ) → letter b ≡ is_ascii_alphabetic b
+unfolding letter between
+letters b = refl
 
 pub digit_bounds : (b : ℕ) → digit b ≡ true → (48 ≤ b) × (b ≤ 57)
 unfolding digit between

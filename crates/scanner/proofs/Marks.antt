@@ -2,7 +2,7 @@
 -- and where the first begins no mark. A mark has no more than two bytes, and none has the byte 0.
 use Prim.Native.Nat.{ℕ, suc, ◌+◌, ◌≤◌, ◌<◌}
 use Prim.Native.String.{String}
-use mathlib.Core.Path.{◌≡◌, refl, sym, ◌∙◌}
+use mathlib.Core.Path.{◌≡◌, refl, sym, ap, ◌∙◌}
 use mathlib.Core.Bool.{Bool, true, false, not, ◌&&◌, false≢true}
 use mathlib.Core.List.{List, [], ◌∷◌}
 use native.Mathlib.Nat.{add-zero}
@@ -19,21 +19,22 @@ use Rattle.syntax.specs.Decide.Lexeme.{mark_number}
 use Rattle.syntax.specs.Held.Kind.{kind_of}
 use Rattle.syntax.specs.Decide.Scan.{Scan, mark_of, nothing, found}
 use Rattle.scanner.specs.Step.{marked, token_of, step_of, step_to}
-use Rattle.scanner.specs.declared.Marked.{Marked}
+use Rattle.std.specs.Prelude.{Option, Some, None}
+use Rattle.std.proofs.lemmas.Option.{none-some, same_Some}
 use Rattle.scanner.specs.declared.Token.TheVariants as token
 use Rattle.scanner.proofs.FirstElement.{by_cases, and_true}
 
 -- the mark at a byte and another
-abbrev pub two : ℕ → ℕ → Marked
+abbrev pub two : ℕ → ℕ → Option (ℕ × ℕ)
 two a b = marked (mark_of marks (a ∷ b ∷ []))
 
 -- after `=`, `:`, `!`, `<`, `>`, a byte that is not `=`
 pub not_61 : (b : ℕ) → (b ≡ 61 → ⊥)
-    → (two 61 b ≡ record { 0 = kind_of (mark equals); 1 = 1 })
-    × (two 58 b ≡ record { 0 = 0; 1 = 0 })
-    × (two 33 b ≡ record { 0 = kind_of (mark bang); 1 = 1 })
-    × (two 60 b ≡ record { 0 = kind_of (mark below); 1 = 1 })
-    × (two 62 b ≡ record { 0 = kind_of (mark above); 1 = 1 })
+    → (two 61 b ≡ Some (kind_of (mark equals), 1))
+    × (two 58 b ≡ None)
+    × (two 33 b ≡ Some (kind_of (mark bang), 1))
+    × (two 60 b ≡ Some (kind_of (mark below), 1))
+    × (two 62 b ≡ Some (kind_of (mark above), 1))
 unfolding marked mark_of marks starts_with bytes kind_of mark_number
 not_61 b n =
     let e = ne_eqb 61 b (λ q. n (sym q)) in
@@ -41,7 +42,7 @@ not_61 b n =
 
 -- after `.`, a byte that is not `.`
 pub not_46 : (b : ℕ) → (b ≡ 46 → ⊥)
-    → two 46 b ≡ record { 0 = 0; 1 = 0 }
+    → two 46 b ≡ None
 unfolding marked mark_of marks starts_with bytes kind_of mark_number
 not_46 b n =
     let e = ne_eqb 46 b (λ q. n (sym q)) in
@@ -49,7 +50,7 @@ not_46 b n =
 
 -- after `&`, a byte that is not `&`
 pub not_38 : (b : ℕ) → (b ≡ 38 → ⊥)
-    → two 38 b ≡ record { 0 = 0; 1 = 0 }
+    → two 38 b ≡ None
 unfolding marked mark_of marks starts_with bytes kind_of mark_number
 not_38 b n =
     let e = ne_eqb 38 b (λ q. n (sym q)) in
@@ -57,7 +58,7 @@ not_38 b n =
 
 -- after `|`, a byte that is not `|`
 pub not_124 : (b : ℕ) → (b ≡ 124 → ⊥)
-    → two 124 b ≡ record { 0 = 0; 1 = 0 }
+    → two 124 b ≡ None
 unfolding marked mark_of marks starts_with bytes kind_of mark_number
 not_124 b n =
     let e = ne_eqb 124 b (λ q. n (sym q)) in
@@ -86,7 +87,7 @@ pub none_two : (a b : ℕ)
     → (a ≡ 123 → ⊥) → (a ≡ 125 → ⊥) → (a ≡ 40 → ⊥) → (a ≡ 41 → ⊥) → (a ≡ 59 → ⊥)
     → (a ≡ 61 → ⊥) → (a ≡ 46 → ⊥) → (a ≡ 58 → ⊥) → (a ≡ 33 → ⊥) → (a ≡ 60 → ⊥)
     → (a ≡ 62 → ⊥) → (a ≡ 43 → ⊥) → (a ≡ 45 → ⊥) → (a ≡ 38 → ⊥) → (a ≡ 124 → ⊥)
-    → two a b ≡ record { 0 = 0; 1 = 0 }
+    → two a b ≡ None
 unfolding marked marks bytes
 none_two a b n123 n125 n40 n41 n59 n61 n46 n58 n33 n60 n62 n43 n45 n38 n124 =
     let e123 = ne_eqb 123 a (λ q. n123 (sym q)) in
@@ -176,18 +177,21 @@ pub marks_or : (bs : List ℕ) → MarkOr bs (mark_of marks bs)
 unfolding all_short short marks bytes
 marks_or bs = mark_or marks bs refl
 
-pub step_none : {bs : List ℕ} {s : Scan} → MarkOr bs s → (marked s).1 ≡ 0 → s ≡ nothing
+pub step_none : {bs : List ℕ} {s : Scan} → MarkOr bs s → marked s ≡ None → s ≡ nothing
 unfolding marked
 step_none none e = refl
-step_none (one m n l h k) e = absurd (omega arith)
+step_none (one m n l h k) e = absurd (none-some _ (sym e))
 
-pub step_one : (start : ℕ) {bs : List ℕ} {s : Scan} → MarkOr bs s → ((marked s).1 ≡ 0 → ⊥)
-    → step_of start s ≡ step_to (token.Mark (marked s).0) start (start + (marked s).1)
-unfolding marked step_of token_of
-step_one start none n = absurd (n refl)
-step_one start (one m n l h k) e = refl
+module _ {bs : List ℕ} {k n : ℕ} where
+  pub step_one : (start : ℕ) {s : Scan} → MarkOr bs s → marked s ≡ Some (k, n)
+      → step_of start s ≡ step_to (token.Mark k) start (start + n)
+  unfolding marked step_of token_of
+  step_one start none e = absurd (none-some _ e)
+  step_one start (one m n' l h i) e = ap (λ (p : ℕ × ℕ). step_to (token.Mark p.0) start (start + p.1)) (same_Some _ _ e)
 
-pub marked_length : {bs : List ℕ} {s : Scan} → MarkOr bs s → (marked s).1 ≤ 2
-unfolding marked
-marked_length none = omega arith
-marked_length (one m n l h k) = h
+  pub marked_length : {s : Scan} → MarkOr bs s → marked s ≡ Some (k, n) → n ≤ 2
+  unfolding marked
+  marked_length none e = absurd (none-some _ e)
+  marked_length (one m n' l h i) e =
+      let same : n' ≡ n = ap (λ (p : ℕ × ℕ). p.1) (same_Some _ _ e) in
+      omega arith

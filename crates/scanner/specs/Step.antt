@@ -1,5 +1,5 @@
 -- What the cursor's method finds, by the definitions of `syntax`.
-use Rattle.std.specs.Prelude.{ℕ, ◌+◌, Bool, true, false, List, take, drop, eqb}
+use Rattle.std.specs.Prelude.{ℕ, ◌+◌, Option, Some, None, List, take, drop}
 use Rattle.syntax.specs.Bytes.{blank, digit, word_byte, decimal}
 use Rattle.syntax.specs.Decide.Leading.{leading}
 use Rattle.syntax.specs.Limits.{most_word_bytes, most_digits}
@@ -8,24 +8,20 @@ use Rattle.syntax.specs.Held.Kind.{kind_of}
 use Rattle.syntax.specs.Decide.Scan.{nothing, found, scan, at_most, word_of}
 use Rattle.syntax.specs.Decide.Scan as syntax
 use Rattle.scanner.specs.declared.Token.{Token}
-use Rattle.scanner.specs.declared.Token.TheVariants.{Word, Number, Mark, None}
-use Rattle.scanner.specs.declared.Marked.{Marked}
+use Rattle.scanner.specs.declared.Token.TheVariants.{Word, Number, Mark}
+use Rattle.scanner.specs.declared.Token.TheVariants as variant
 use Rattle.scanner.specs.declared.Step.{Step}
-
--- the classes of bytes by number: 0 blanks, 1 word bytes, any other digits
-unfoldable pub passes : ℕ → ℕ → Bool
-passes k b = elim (eqb k 0) [ true ↦ blank b | false ↦ elim (eqb k 1) [ true ↦ word_byte b | false ↦ digit b ] ]
 
 abbrev pub Scan : Type 0
 Scan = syntax.Scan
 
--- the kind and the length of a mark, and 0 and 0 where there is none
-unfoldable pub marked : Scan → Marked
-marked nothing = record { 0 = 0; 1 = 0 }
-marked (found (name x) n) = record { 0 = 0; 1 = 0 }
-marked (found (key k) n) = record { 0 = 0; 1 = 0 }
-marked (found (number v) n) = record { 0 = 0; 1 = 0 }
-marked (found (mark m) n) = record { 0 = kind_of (mark m); 1 = n }
+-- the kind and the length of a mark, if one is found
+unfoldable pub marked : Scan → Option (ℕ × ℕ)
+marked nothing = None
+marked (found (name x) n) = None
+marked (found (key k) n) = None
+marked (found (number v) n) = None
+marked (found (mark m) n) = Some (kind_of (mark m), n)
 
 unfoldable pub token_of : ℕ → ℕ → Lexeme → Token
 token_of s n (name x) = Word s (s + n)
@@ -37,7 +33,7 @@ abbrev pub step_to : Token → ℕ → ℕ → Step
 step_to t s e = record { token = t; start = s; next = record { at = e } }
 
 unfoldable pub step_of : ℕ → Scan → Step
-step_of s nothing = step_to None s s
+step_of s nothing = step_to variant.None s s
 step_of s (found l n) = step_to (token_of s n l) s (s + n)
 
 -- the word, and the number, at the front of some bytes, as `scan` has them

@@ -2,15 +2,16 @@
 // reader that holds the file's slice and calls the cursor. Each promise cites the definitions of `syntax`.
 #![tactic(auto)]
 
-ghost use Rattle.std.specs.Prelude.{◌≡◌, [], ◌∷◌, ◌+◌, ◌≤◌, ◌<◌, drop, get_or, length};
-ghost use Rattle.syntax.specs.Bytes.{blank, letter, digit, word_byte, decimal};
+ghost use Rattle.std.specs.Prelude.{◌≡◌, [], ◌∷◌, ℕ, Bool, ◌+◌, ◌≤◌, ◌<◌, List, drop, length};
+ghost use Rattle.syntax.specs.Bytes.{blank, digit, word_byte, decimal};
 ghost use Rattle.syntax.specs.Decide.Leading.{leading};
 ghost use Rattle.syntax.specs.Decide.Scan.{mark_of, nothing, scan as scanned};
 ghost use Rattle.syntax.specs.Limits.{most_digits};
 ghost use Rattle.syntax.specs.Token.{marks};
-ghost use Rattle.scanner.specs.Step.{passes, marked, word_at, number_at, step_of, step_to, step_at};
+ghost use Rattle.scanner.specs.Step.{marked, word_at, number_at, step_of, step_to, step_at};
 
 // A token: a word with its offsets, a number with its value, a mark with its kind, or none.
+// Stays (interface): the scope lists by place that a token is an enum with "none" as a case.
 #[derive(Clone, Copy)]
 pub enum Token {
     Word(usize, usize),
@@ -19,6 +20,8 @@ pub enum Token {
     None,
 }
 
+// A byte of a file.
+// Stays (interface): the scope lists by place a cursor by value that returns the token and the advanced cursor.
 #[derive(Clone, Copy)]
 pub struct Cursor {
     pub at: usize,
@@ -40,120 +43,92 @@ pub struct Step {
     pub next: Cursor,
 }
 
-// A mark's kind and how many bytes it has: 0 where there is none.
-#[derive(Clone, Copy)]
-struct Marked(u8, usize);
-
-// The classes of bytes, by number, for `run_end`.
-const BLANK: u8 = 0;
-
-const WORD: u8 = 1;
-
-const DIGIT: u8 = 2;
-
 fn is_blank(b: u8) -> bool
     ensures { result ≡ blank b }
 {
-    (b == 9) | (b == 10) | (b == 13) | (b == 32)
-}
-
-fn is_letter(b: u8) -> bool
-    ensures { result ≡ letter b }
-{
-    ((65 <= b) & (b <= 90)) | ((97 <= b) & (b <= 122))
+    (b == b'\t') | (b == b'\n') | (b == b'\r') | (b == b' ')
 }
 
 fn is_digit(b: u8) -> bool
     ensures { result ≡ digit b }
 {
-    (48 <= b) & (b <= 57)
+    b.is_ascii_digit()
 }
 
 fn is_word_byte(b: u8) -> bool
     ensures { result ≡ word_byte b }
 {
-    is_letter(b) | is_digit(b) | (b == 95)
+    b.is_ascii_alphanumeric() || b == b'_'
 }
 
-fn in_class(b: u8, class: u8) -> bool
-    ensures { result ≡ passes class b }
+// Where a run of bytes that pass a test ends.
+fn run_end<P: Fn(u8) -> bool>(file: &[u8], at: usize, passes: P) -> usize
+    requires { P.IsAlwaysCallable passes }
+    ensures leads { (p : ℕ → Bool) → ((b : ℕ) (r : Bool) → P.post passes b r → r ≡ p b)
+        → result ≡ at + leading p (drop at file.now) }
+    ensures forward { at ≤ result }
 {
-    if class == BLANK {
-        is_blank(b)
-    } else if class == WORD {
-        is_word_byte(b)
-    } else {
-        is_digit(b)
-    }
-}
-
-// Where a run of bytes of one class ends.
-fn run_end(file: &[u8], at: usize, class: u8) -> usize
-    ensures { result ≡ at + leading (passes class) (drop at file.now) }
-{
-    let mut i = at;
-    while i < file.len() {
-        if !in_class(file[i], class) {
+    for i in at..file.len() {
+        if !passes(file[i]) {
             return i;
         }
-        i += 1;
     }
-    i
+    at.max(file.len())
 }
 
 // The mark that two bytes begin with, and how many bytes it has; the second byte is 0 at the end of a file.
-fn mark_of(a: u8, b: u8) -> Marked
+fn mark_of(a: u8, b: u8) -> Option<(u8, usize)>
     ensures { result ≡ marked (mark_of marks (a ∷ b ∷ [])) }
 {
     match a {
-        b'{' => Marked(syntax::LBRACE, 1),
-        b'}' => Marked(syntax::RBRACE, 1),
-        b'(' => Marked(syntax::LPAREN, 1),
-        b')' => Marked(syntax::RPAREN, 1),
-        b';' => Marked(syntax::SEMICOLON, 1),
+        b'{' => Some((syntax::LBRACE, 1)),
+        b'}' => Some((syntax::RBRACE, 1)),
+        b'(' => Some((syntax::LPAREN, 1)),
+        b')' => Some((syntax::RPAREN, 1)),
+        b';' => Some((syntax::SEMICOLON, 1)),
         b'=' => if b == b'=' {
-            Marked(syntax::SAME, 2)
+            Some((syntax::SAME, 2))
         } else {
-            Marked(syntax::EQUALS, 1)
+            Some((syntax::EQUALS, 1))
         },
         b'.' => if b == b'.' {
-            Marked(syntax::DOTS, 2)
+            Some((syntax::DOTS, 2))
         } else {
-            Marked(0, 0)
+            None
         },
         b':' => if b == b'=' {
-            Marked(syntax::BECOMES, 2)
+            Some((syntax::BECOMES, 2))
         } else {
-            Marked(0, 0)
+            None
         },
         b'!' => if b == b'=' {
-            Marked(syntax::DIFFERS, 2)
+            Some((syntax::DIFFERS, 2))
         } else {
-            Marked(syntax::BANG, 1)
+            Some((syntax::BANG, 1))
         },
         b'<' => if b == b'=' {
-            Marked(syntax::AT_MOST, 2)
+            Some((syntax::AT_MOST, 2))
         } else {
-            Marked(syntax::BELOW, 1)
+            Some((syntax::BELOW, 1))
         },
         b'>' => if b == b'=' {
-            Marked(syntax::AT_LEAST, 2)
+            Some((syntax::AT_LEAST, 2))
         } else {
-            Marked(syntax::ABOVE, 1)
+            Some((syntax::ABOVE, 1))
         },
-        b'+' => Marked(syntax::PLUS, 1),
-        b'-' => Marked(syntax::MINUS, 1),
+        b'+' => Some((syntax::PLUS, 1)),
+        b'-' => Some((syntax::MINUS, 1)),
         b'&' => if b == b'&' {
-            Marked(syntax::AND_AND, 2)
+            Some((syntax::AND_AND, 2))
         } else {
-            Marked(0, 0)
+            None
         },
         b'|' => if b == b'|' {
-            Marked(syntax::OR_OR, 2)
+            Some((syntax::OR_OR, 2))
         } else {
-            Marked(0, 0)
+            None
         },
-        _ => Marked(0, 0),
+        _ => None,
     }
 }
 
@@ -162,50 +137,44 @@ fn value_of(part: &[u8]) -> u16
     requires { (length part.now ≤ most_digits) × (leading digit part.now ≡ length part.now) }
     ensures { result ≡ decimal 0 part.now }
 {
-    let mut n: u16 = 0;
-    let mut i = 0;
-    while i < part.len() {
-        n = n * 10 + (part[i] as u16 - 48);
-        i += 1;
+    let mut n = 0;
+    for &digit in part {
+        n = n * 10 + u16::from(digit - b'0');
     }
     n
 }
 
-// A byte of a file, or 0 past its end.
-fn byte_at(file: &[u8], at: usize) -> u8
-    ensures { result ≡ get_or file.now at 0 }
-{
-    if at < file.len() { file[at] } else { 0 }
-}
-
-fn none_at(start: usize) -> Step
-    ensures { result ≡ step_of start nothing }
-{
-    Step {
-        token: Token::None,
-        start: start,
-        next: Cursor { at: start },
+impl Step {
+    // No token at a byte.
+    fn none_at(start: usize) -> Self
+        ensures { result ≡ step_of start nothing }
+    {
+        Step {
+            token: Token::None,
+            start,
+            next: Cursor { at: start },
+        }
     }
-}
 
-fn found(token: Token, start: usize, end: usize) -> Step
-    ensures { result ≡ step_to token start end }
-{
-    Step {
-        token: token,
-        start: start,
-        next: Cursor { at: end },
+    fn found(token: Token, start: usize, end: usize) -> Self
+        ensures { result ≡ step_to token start end }
+    {
+        Step {
+            token,
+            start,
+            next: Cursor { at: end },
+        }
     }
 }
 
 fn word_at(file: &[u8], start: usize) -> Step
     ensures { result ≡ step_of start (word_at (drop start file.now)) }
 {
-    let end = run_end(file, start, WORD);
+    let end = run_end(file, start, is_word_byte);
     if syntax::WORD_BYTES < end - start {
-        none_at(start)
+        Step::none_at(start)
     } else {
-        found(Token::Word(start, end), start, end)
+        Step::found(Token::Word(start, end), start, end)
     }
 }
 
@@ -213,11 +182,11 @@ fn number_at(file: &[u8], start: usize) -> Step
     requires { start ≤ length file.now }
     ensures { result ≡ step_of start (number_at (drop start file.now)) }
 {
-    let end = run_end(file, start, DIGIT);
+    let end = run_end(file, start, is_digit);
     if syntax::NUMBER_DIGITS < end - start {
-        none_at(start)
+        Step::none_at(start)
     } else {
-        found(Token::Number(value_of(&file[start..end])), start, end)
+        Step::found(Token::Number(value_of(&file[start..end])), start, end)
     }
 }
 
@@ -225,11 +194,10 @@ fn mark_at(file: &[u8], start: usize) -> Step
     requires { start < length file.now }
     ensures { result ≡ step_of start (mark_of marks (drop start file.now)) }
 {
-    let m = mark_of(file[start], byte_at(file, start + 1));
-    if m.1 == 0 {
-        none_at(start)
-    } else {
-        found(Token::Mark(m.0), start, start + m.1)
+    let second = file.get(start + 1).copied().unwrap_or(0);
+    match mark_of(file[start], second) {
+        None => Step::none_at(start),
+        Some((kind, bytes)) => Step::found(Token::Mark(kind), start, start + bytes),
     }
 }
 
@@ -237,11 +205,10 @@ fn mark_at(file: &[u8], start: usize) -> Step
 fn token_at(file: &[u8], start: usize) -> Step
     ensures { result ≡ step_of start (scanned (drop start file.now)) }
 {
-    if file.len() <= start {
-        return none_at(start);
-    }
-    let first = file[start];
-    if is_letter(first) {
+    let Some(&first) = file.get(start) else {
+        return Step::none_at(start);
+    };
+    if first.is_ascii_alphabetic() {
         word_at(file, start)
     } else if is_digit(first) {
         number_at(file, start)
@@ -261,8 +228,7 @@ impl Cursor {
     pub fn next(self, file: &[u8]) -> Step
         ensures { result ≡ step_at file.now self.at }
     {
-        let at = self.at;
-        token_at(file, run_end(file, at, BLANK))
+        token_at(file, run_end(file, self.at, is_blank))
     }
 }
 
@@ -271,15 +237,14 @@ impl<'a> Reader<'a> {
     pub fn open(file: &'a [u8], at: usize) -> Reader<'a>
         ensures { (result.file ≡ file.entry) × (result.at ≡ at) }
     {
-        Reader { file: file, at: at }
+        Reader { file, at }
     }
 
     // The next token behind blanks.
     pub fn token(self) -> Step
         ensures { result ≡ step_at self.entry.file.now self.entry.at }
     {
-        let cursor = Cursor { at: self.at };
-        cursor.next(self.file)
+        Cursor { at: self.at }.next(self.file)
     }
 }
 

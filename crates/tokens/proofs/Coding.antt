@@ -1,7 +1,7 @@
 -- How a lexeme is held, and what is found at a place of a file: its length, that it lies in the file, and how it is
 -- held.
 use Prim.Native.Nat.{ℕ, ◌+◌, ◌≤◌, ◌<◌}
-use mathlib.Core.Path.{◌≡◌, refl}
+use mathlib.Core.Path.{◌≡◌, refl, sym}
 use mathlib.Core.Bool.{true}
 use mathlib.Core.List.{List}
 use native.Mathlib.Nat.{add-sub_cancel_left}
@@ -13,7 +13,9 @@ use Rattle.syntax.specs.Bytes.{letter, digit, word_byte, decimal}
 use Rattle.syntax.specs.Decide.Leading.{leading}
 use Rattle.syntax.specs.Token.{Lexeme, number, mark, keywords}
 use Rattle.syntax.specs.Decide.Scan.{Scan, nothing, found, scan, word_of}
-use Rattle.tokens.specs.Coded.{key_code}
+use Rattle.std.specs.Prelude.{Some, None}
+use Rattle.std.proofs.lemmas.Option.{none-some, same_Some}
+use Rattle.tokens.specs.Coded.{key_of}
 use Rattle.scanner.specs.Step.{token_of, word_at, number_at}
 use Rattle.tokens.specs.Coded.{lexeme_code, code_of, Within}
 use Rattle.syntax.specs.Held.Kind.{kind_of, value_of, name_kind, first_keyword, keyword_count}
@@ -24,22 +26,22 @@ use Rattle.scanner.proofs.Marks.{MarkOr, none, one, marks_or}
 use Rattle.scanner.proofs.Scanning.{WordOr, a_name, a_key, word_or, over, within, scan_end, scan_word}
 use Rattle.scanner.proofs.Scanning.{scan_number, scan_mark}
 
-pub key_at_most : {w : List ℕ} {l : Lexeme} → WordOr w l → key_code l ≤ keyword_count
-unfolding key_code
-key_at_most a_name = omega arith
-key_at_most (a_key k) = omega (arith, keyword_few k)
+pub key_few : {w : List ℕ} {l : Lexeme} {n : ℕ} → WordOr w l → key_of l ≡ Some n → n < keyword_count
+unfolding key_of
+key_few a_name e = absurd (none-some _ e)
+key_few (a_key k) e = omega (arith, keyword_few k, same_Some _ _ e)
 
-pub name_code : {w : List ℕ} {l : Lexeme} → WordOr w l → key_code l ≡ keyword_count
+pub name_held : {w : List ℕ} {l : Lexeme} → WordOr w l → key_of l ≡ None
     → lexeme_code l ≡ record { kind = name_kind; value = length w }
-unfolding key_code kind_of value_of
-name_code a_name e = refl
-name_code (a_key k) e = absurd (omega (arith, keyword_few k))
+unfolding key_of kind_of value_of
+name_held a_name e = refl
+name_held (a_key k) e = absurd (none-some _ (sym e))
 
-pub key_code_lem : {w : List ℕ} {l : Lexeme} → WordOr w l → (key_code l ≡ keyword_count → ⊥)
-    → lexeme_code l ≡ record { kind = first_keyword + key_code l; value = 0 }
-unfolding key_code kind_of value_of
-key_code_lem a_name n = absurd (n refl)
-key_code_lem (a_key k) n = refl
+pub key_held : {w : List ℕ} {l : Lexeme} {n : ℕ} → WordOr w l → key_of l ≡ Some n
+    → lexeme_code l ≡ record { kind = first_keyword + n; value = 0 }
+unfolding key_of kind_of value_of
+key_held a_name e = absurd (none-some _ e)
+key_held (a_key k) e = rw (sym (same_Some _ _ e))
 
 -- what is found at a place s: nothing, or a lexeme of n bytes, all in the file, whose token is held as the lexeme is
 pub data Found (file : List ℕ) (s : ℕ) : Scan → Type 0 where

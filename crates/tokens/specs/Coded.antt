@@ -1,29 +1,24 @@
 -- How tokens are held as numbers: of each token its kind, a value and its place; and the number of a reserved word.
-use Rattle.std.specs.Prelude.{ℕ, suc, ◌+◌, ◌-◌, ◌≤◌, ◌≡◌, true, false, List, [], ◌∷◌, map, length, take, drop, ltb}
-use Rattle.std.specs.Prelude.{Result, Ok, Err}
-use Rattle.syntax.specs.Bytes.{same_bytes}
+use Rattle.std.specs.Prelude.{ℕ, ◌+◌, ◌-◌, ◌≤◌, ◌≡◌, true, false, List, map, length, take, drop, ltb}
+use Rattle.std.specs.Prelude.{Option, Some, None, Result, Ok, Err}
 use Rattle.syntax.specs.Decide.Lexeme.{keyword_number}
-use Rattle.syntax.specs.Held.Kind.{kind_of, value_of, keyword_count}
+use Rattle.syntax.specs.Held.Kind.{kind_of, value_of}
 use Rattle.syntax.specs.Limits.{most_bytes, most_word_bytes}
 use Rattle.syntax.specs.Token.{Lexeme, name, key, number, mark, Token, keywords}
 use Rattle.syntax.specs.Decide.Scan.{Tokens, tokens, none_at, tokenize, word_of}
 use Rattle.scanner.specs.declared.Token as token
-use Rattle.scanner.specs.declared.Token.TheVariants.{Word, Number, Mark, None}
+use Rattle.scanner.specs.declared.Token.TheVariants.{Word, Number, Mark}
+use Rattle.scanner.specs.declared.Token.TheVariants as variant
 use Rattle.tokens.specs.declared.Code.{Code}
 use Rattle.tokens.specs.declared.ScanError.{ScanError}
 use Rattle.tokens.specs.declared.ScanError.TheVariants.{TooLong, NoToken}
 
--- the number of the first of some words that a text is, and their count where it is none of them
-unfoldable pub place : List (List ℕ) → List ℕ → ℕ
-place [] w = 0
-place (k ∷ ks) w = elim (same_bytes k w) [ true ↦ 0 | false ↦ suc (place ks w) ]
-
--- the number of a keyword, and their count where there is none
-unfoldable pub key_code : Lexeme → ℕ
-key_code (name x) = keyword_count
-key_code (key k) = keyword_number k
-key_code (number n) = keyword_count
-key_code (mark m) = keyword_count
+-- the number of a keyword
+unfoldable pub key_of : Lexeme → Option ℕ
+key_of (name x) = None
+key_of (key k) = Some (keyword_number k)
+key_of (number n) = None
+key_of (mark m) = None
 
 abbrev pub lexeme_code : Lexeme → Code
 lexeme_code l = record { kind = kind_of l; value = value_of l }
@@ -33,14 +28,14 @@ unfoldable pub code_of : List ℕ → token.Token → Code
 code_of file (Word f e) = lexeme_code (word_of keywords (take (e - f) (drop f file)))
 code_of file (Number v) = lexeme_code (number v)
 code_of file (Mark m) = record { kind = m; value = 0 }
-code_of file None = record { kind = 0; value = 0 }
+code_of file variant.None = record { kind = 0; value = 0 }
 
 -- a word lies in the file, and is short
 unfoldable pub Within : List ℕ → token.Token → Type 0
 Within file (Word f e) = (f ≤ e) × (e ≤ length file) × (e ≤ f + most_word_bytes)
 Within file (Number v) = Unit
 Within file (Mark m) = Unit
-Within file None = Unit
+Within file variant.None = Unit
 
 pub record Coded (ts : List Token) (kinds values places : List ℕ) : Type 0 where
   pub by_kind : take (length ts) kinds ≡ map (λ t. kind_of t.lexeme) ts

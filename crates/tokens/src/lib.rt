@@ -1,14 +1,14 @@
 // The tokens of a whole file as numbers in lent arrays, token by token from `scanner`'s reader.
 #![tactic(auto)]
 
-ghost use Rattle.std.specs.Prelude.{◌≡◌, [], ◌∷◌, ◌+◌, ◌-◌, ◌≤◌, take, drop, length};
-ghost use Rattle.syntax.specs.Bytes.{same_bytes};
+ghost use Rattle.std.specs.Prelude.{◌≡◌, [], ◌∷◌, ◌+◌, ◌-◌, ◌≤◌, take, drop, length, position};
+ghost use Rattle.std.specs.Str.{bytes_eq};
 ghost use Rattle.syntax.specs.Decide.Scan.{word_of};
 ghost use Rattle.syntax.specs.Limits.{most_bytes, most_word_bytes};
 ghost use Rattle.syntax.specs.Token.{keywords};
-ghost use Rattle.tokens.specs.Coded.{place, key_code, lexeme_code, Within, code_of, Scans};
+ghost use Rattle.tokens.specs.Coded.{key_of, lexeme_code, Within, code_of, Scans};
 
-use scanner::{Cursor, Token};
+use scanner::{Cursor, Step, Token};
 
 // Why a file has no tokens: it is too long (1), or a byte begins none (2), and which is the first.
 #[derive(Debug, Clone, Copy, PartialEq, Eq)]
@@ -24,62 +24,34 @@ struct Code {
     value: u16,
 }
 
-// Whether a part of the file is a fixed word, byte for byte.
-fn is_word(part: &[u8], word: &[u8]) -> bool
-    ensures { result ≡ same_bytes word.now part.now }
+// The reserved words in the order of their numbers.
+const KEYWORDS: [&[u8]; 12] = [
+    b"monitor",
+    b"var",
+    b"in",
+    b"keep",
+    b"method",
+    b"waituntil",
+    b"if",
+    b"else",
+    b"true",
+    b"false",
+    b"try",
+    b"mod",
+];
+
+// The number of the first of some words that a part of the file is.
+fn place_of(part: &[u8], words: &[&[u8]]) -> Option<usize>
+    ensures { result ≡ position (λ k. bytes_eq k.now part.now) words.now }
 {
-    if part.len() != word.len() {
-        return false;
-    }
-    let mut i = 0;
-    while i < part.len() {
-        if part[i] != word[i] {
-            return false;
-        }
-        i += 1;
-    }
-    true
+    words.iter().position(|word| *word == part)
 }
 
-// The number of the first of five words that a part of the file is, and 5 where it is none of them.
-fn place_of(part: &[u8], a: &[u8], b: &[u8], c: &[u8], d: &[u8], e: &[u8]) -> u8
-    ensures { result ≡ place (a.now ∷ b.now ∷ c.now ∷ d.now ∷ e.now ∷ [])
-        part.now }
+// The number of the reserved word that a part of the file is.
+fn keyword_of(part: &[u8]) -> Option<usize>
+    ensures { result ≡ key_of (word_of keywords part.now) }
 {
-    if is_word(part, a) {
-        0
-    } else if is_word(part, b) {
-        1
-    } else if is_word(part, c) {
-        2
-    } else if is_word(part, d) {
-        3
-    } else if is_word(part, e) {
-        4
-    } else {
-        5
-    }
-}
-
-// The number of the reserved word that a part of the file is, and their count where it is none.
-fn keyword_of(part: &[u8]) -> u8
-    ensures { result ≡ key_code (word_of keywords part.now) }
-{
-    let outer = place_of(part, b"monitor", b"var", b"in", b"keep", b"method");
-    if outer < 5 {
-        return outer;
-    }
-    let inner = place_of(part, b"waituntil", b"if", b"else", b"true", b"false");
-    if inner < 5 {
-        return 5 + inner;
-    }
-    if is_word(part, b"try") {
-        10
-    } else if is_word(part, b"mod") {
-        11
-    } else {
-        12
-    }
+    place_of(part, &KEYWORDS)
 }
 
 // How a word of the file is held.
@@ -87,17 +59,15 @@ fn word_code(file: &[u8], from: usize, end: usize) -> Code
     requires { (from ≤ end) × (end ≤ length file.now) × (end ≤ from + most_word_bytes) }
     ensures { result ≡ lexeme_code (word_of keywords (take (end - from) (drop from file.now))) }
 {
-    let key = keyword_of(&file[from..end]);
-    if key == syntax::KEYWORDS {
-        Code {
+    match keyword_of(&file[from..end]) {
+        Some(key) => Code {
+            kind: syntax::FIRST_KEYWORD + key as u8,
+            value: 0,
+        },
+        None => Code {
             kind: syntax::NAME,
             value: (end - from) as u16,
-        }
-    } else {
-        Code {
-            kind: syntax::FIRST_KEYWORD + key,
-            value: 0,
-        }
+        },
     }
 }
 
@@ -110,7 +80,7 @@ fn code_of(file: &[u8], token: Token) -> Code
         Token::Word(from, end) => word_code(file, from, end),
         Token::Number(value) => Code {
             kind: syntax::NUMBER,
-            value: value,
+            value,
         },
         Token::Mark(mark) => Code {
             kind: mark,
@@ -136,27 +106,21 @@ fn scan_into(
         return Err(ScanError::TooLong);
     }
     let mut cursor = Cursor::new();
-    let mut n: usize = 0;
-    while n < syntax::FILE_BYTES {
-        let at = cursor.at;
-        let step = scanner::read_token(file, at);
-        let start = step.start;
-        let next = step.next;
+    for n in 0..syntax::FILE_BYTES {
+        let Step { token, start, next } = scanner::read_token(file, cursor.at);
         if next.at == start {
             if start < file.len() {
                 return Err(ScanError::NoToken(start));
             }
             return Ok(n);
         }
-        let token = step.token;
         let code = code_of(file, token);
         kinds[n] = code.kind;
         values[n] = code.value;
         places[n] = start as u16;
-        n += 1;
         cursor = next;
     }
-    Ok(n)
+    Ok(syntax::FILE_BYTES)
 }
 
 // The tokens of a file, and how many there are: each token's kind, a number's value or a name's length, and its place.

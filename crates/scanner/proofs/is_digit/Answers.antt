@@ -1,8 +1,7 @@
--- `scanner::is_digit` meets its contract, by computation.
-use mathlib.Core.Path.{refl}
+-- `scanner::is_digit` meets its contract: the class is that of the kit.
 use Rattle.syntax.specs.Bytes.{digit, between}
 use Rattle.scanner.proofs.is_digit.Goals as goal
 
 pub returns : goal.returns
 unfolding digit between
-returns c = refl
+returns c = c.is_ascii_digit.ensures.value

@@ -1,13 +1,11 @@
-use Prim.Native.Nat.{◌+◌, ◌-◌}
+use Prim.Native.Nat.{ℕ, ◌+◌}
 use mathlib.Core.Path.{◌≡◌}
-use lib.ListN.{length, drop}
+use mathlib.Core.Bool.{Bool}
+use lib.ListN.{drop}
 use Rattle.syntax.specs.Decide.Leading.{leading}
-use Rattle.scanner.specs.Step.{passes}
 use Rattle.scanner.proofs.run_end.Given as goal
 
 abbrev pub invariant-loop-i : goal.invariant-loop-i
-invariant-loop-i l =
-    l.i + leading (passes l.class) (drop l.i l.file) ≡ l.at + leading (passes l.class) (drop l.at l.file)
-
-abbrev pub decreases-loop-i : goal.decreases-loop-i
-decreases-loop-i l = length l.file - l.i
+invariant-loop-i g l =
+    (p : ℕ → Bool) → ((b : ℕ) (r : Bool) → goal.P-post g l.passes b r → r ≡ p b)
+    → l.i + leading p (drop l.i l.file) ≡ l.at + leading p (drop l.at l.file)

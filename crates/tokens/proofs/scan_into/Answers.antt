@@ -33,7 +33,7 @@ loop-n-init c =
 pub returns-then-start-file : goal.returns-then-start-file
 returns-then-start-file c =
     let file = c.args.file.now in
-    let e = c.read_token-step.ensures in
+    let e = c.read_token-token.ensures in
     rw e
     (scans_bad file _ _ _ _ _ _ _ _ c.loop-n.invariant.0 c.if-file-gt-FILE_BYTES.false _
     (ended_behind file c.loop-n.cursor.at)
@@ -42,25 +42,25 @@ returns-then-start-file c =
 pub returns-then-next-start : goal.returns-then-next-start
 returns-then-next-start c =
     let file = c.args.file.now in
-    let e = c.read_token-step.ensures in
+    let e = c.read_token-token.ensures in
     scans_all file _ _ _ _ _ _ _ _ c.loop-n.invariant.0 c.if-file-gt-FILE_BYTES.false
     (ended_all file c.loop-n.cursor.at (rw e at c.if-next-start.true) (rw e at c.if-start-file.false))
 
 pub code_of-code-requires : goal.code_of-code-requires
-code_of-code-requires c = rw c.read_token-step.ensures (token_taken c.args.file.now c.loop-n.cursor.at c.read_token-step.ensures c.if-next-start.false).words
+code_of-code-requires c = rw c.read_token-token.ensures (token_taken c.args.file.now c.loop-n.cursor.at c.read_token-token.ensures c.if-next-start.false).words
 
 pub overflow_cast-places : goal.overflow_cast-places
 overflow_cast-places c =
-    let step = c.read_token-step in
+    let step = c.read_token-token in
     let file = c.args.file.now in
-    let inside : step.result.start < length file = rw step.ensures (token_taken c.args.file.now c.loop-n.cursor.at c.read_token-step.ensures c.if-next-start.false).inside in
+    let inside : step.result.start < length file = rw step.ensures (token_taken c.args.file.now c.loop-n.cursor.at c.read_token-token.ensures c.if-next-start.false).inside in
     omega arith
 
 pub loop-n-preserved : goal.loop-n-preserved
 loop-n-preserved c =
     let file = c.args.file.now in (
-      rw (c.code_of-code.ensures, c.read_token-step.ensures)
-          (held_one file _ _ _ _ _ _ _ _ c.loop-n.invariant.0 _ (token_taken c.args.file.now c.loop-n.cursor.at c.read_token-step.ensures c.if-next-start.false) (omega arith) (omega arith)
+      rw (c.code_of-code.ensures, c.read_token-token.ensures)
+          (held_one file _ _ _ _ _ _ _ _ c.loop-n.invariant.0 _ (token_taken c.args.file.now c.loop-n.cursor.at c.read_token-token.ensures c.if-next-start.false) (omega arith) (omega arith)
           (omega arith)),
       simp length-set c.loop-n.invariant.1,
       simp length-set c.loop-n.invariant.2,
@@ -70,5 +70,7 @@ loop-n-preserved c =
 pub returns : goal.returns
 returns c =
     let file = c.args.file.now in
-    scans_all file _ _ _ _ _ _ _ _ c.loop-n.invariant.0 c.if-file-gt-FILE_BYTES.false
-    (tokens_end file c.loop-n.cursor.at (omega (arith, c.loop-n.invariant.0.behind)))
+    let all : c.loop-n.n ≡ 8192 = omega arith in
+    rw all at
+    (scans_all file _ _ _ _ _ _ _ _ c.loop-n.invariant.0 c.if-file-gt-FILE_BYTES.false
+    (tokens_end file c.loop-n.cursor.at (omega (arith, c.loop-n.invariant.0.behind))))

@@ -1,4 +1,3 @@
-use Prim.Native.Nat.{◌-◌}
 use mathlib.Core.Path.{◌≡◌}
 use lib.ListN.{length}
 use Rattle.tokens.proofs.Tokens.{Held}
@@ -8,6 +7,3 @@ abbrev pub invariant-loop-n : goal.invariant-loop-n
 invariant-loop-n l =
     Held l.file l.initial.kinds l.initial.values l.initial.places l.kinds l.values l.places l.n l.cursor.at × (length l.kinds ≡ 8192) × (length l.values ≡ 8192)
     × (length l.places ≡ 8192)
-
-abbrev pub decreases-loop-n : goal.decreases-loop-n
-decreases-loop-n l = 8192 - l.n

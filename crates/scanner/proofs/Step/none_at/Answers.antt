@@ -1,7 +1,7 @@
--- `scanner::none_at` meets its contract, by computation.
+-- `scanner::Step::none_at` meets its contract, by computation.
 use mathlib.Core.Path.{refl}
 use Rattle.scanner.specs.Step.{step_of}
-use Rattle.scanner.proofs.none_at.Goals as goal
+use Rattle.scanner.proofs.Step.none_at.Goals as goal
 
 pub returns : goal.returns
 unfolding step_of
