@@ -127,14 +127,13 @@ fn load_tokens(
     ensures leaves { Leaves result.answer.number kept.old holds.old after.old
         kept.new holds.new after.new }
 {
-    let judged = judging::judge(file, kinds, values, places);
-    let so_far = judged.answer;
-    if so_far.number != 0 {
-        return not_loaded(so_far);
-    }
+    let judged = match judging::judge(file, kinds, values, places) {
+        Ok(judged) => judged,
+        Err(refusal) => return not_loaded(Answer::from(refusal)),
+    };
     let n = kinds.len();
     if syntax::TOKENS < n {
-        return not_loaded(so_far);
+        return not_loaded(Answer::accepted());
     }
     let mut operands = [0u16; syntax::TOKENS];
     load_judged(
