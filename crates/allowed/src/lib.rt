@@ -167,7 +167,7 @@ pub fn choose(
     let each = run.threads.each;
     let place = each[usize::from(last % machine::THREAD_END)].place;
     let first = methods.first;
-    if threads::is_due(place) {
+    if place.is_due() {
         let spot = Spot {
             thread: last,
             region: region_at(place, 0, first),

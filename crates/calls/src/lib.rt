@@ -15,6 +15,7 @@ use answers::Answer;
 use loader::Loaded;
 use machine::StateNumber;
 use run::{Both, Running};
+use stepper::Slices;
 use table::TooShort;
 
 // What placing answers, and where it is placed the table's length, the chosen tries, the first the lowest bit, and how
@@ -248,20 +249,21 @@ pub fn load_loaded(
     let bounds = loaded.bounds;
     let layout = loaded.layout;
     let starts = bounds.starts;
-    let guard_of = layout.guard_of;
-    let begins = layout.begins;
-    let goes_on = layout.goes_on;
+    let slices = Slices {
+        holds,
+        after,
+        guard_of: &layout.guard_of,
+        begins: &layout.begins,
+        goes_on: &layout.goes_on,
+        entries: &[0u8; machine::ENTRIES],
+        regions: layout.regions,
+    };
     let count = generator::make_frames(
         seed,
         threads,
         wanted,
         variables::number_of(bounds, starts),
-        holds,
-        after,
-        &guard_of,
-        &begins,
-        &goes_on,
-        layout.regions,
+        &slices,
         out,
     );
     Made {

@@ -26,7 +26,7 @@ use answers::Answer;
 use frames::Stop;
 use layout::Layout;
 use machine::StateNumber;
-use stepper::Run;
+use stepper::{Run, Slices};
 use threads::{Place, Thread};
 use variables::Bounds;
 
@@ -170,20 +170,16 @@ pub fn run_from(
     if early.number != 0 {
         return alike(not_run(early.number, early.first, early.second));
     }
-    let guard_of = layout.guard_of;
-    let begins = layout.begins;
-    let goes_on = layout.goes_on;
-    let ended = frames::run_trace(
-        bytes,
-        start as StateNumber,
+    let slices = Slices {
         holds,
         after,
-        &guard_of,
-        &begins,
-        &goes_on,
+        guard_of: &layout.guard_of,
+        begins: &layout.begins,
+        goes_on: &layout.goes_on,
         entries,
-        layout.regions,
-    );
+        regions: layout.regions,
+    };
+    let ended = frames::run_trace(bytes, start as StateNumber, &slices);
     let plain = ended.plain;
     let table = ended.table;
     let last = ended.run;
