@@ -14,7 +14,6 @@ use answers::Answer;
 use choice::Choice;
 use judging::Judged;
 use layout::Layout;
-use passes::Found;
 use tokens::Scanned;
 use variables::Bounds;
 
@@ -78,7 +77,7 @@ fn load_judged(
     names::resolve(file, kinds, values, places, operands);
     layout::link_braces(kinds, operands);
     let lows = bounds.lows;
-    if let Found::At(k) = divisors::find_unvalued(kinds, operands, places, lows, bounds.count) {
+    if let Some(k) = divisors::find_unvalued(kinds, operands, places, lows, bounds.count) {
         return not_loaded(answers::say(15, wide(k), 0));
     }
     let tries = layout::tries_of(kinds, keep);
