@@ -14,7 +14,7 @@ use answers::Answer;
 use choice::Choice;
 use judging::Judged;
 use layout::Layout;
-use tokens::Scanned;
+use tokens::ScanError;
 use variables::Bounds;
 
 // 1 to 9 and 15: the answer, and of an accepted file its variables, its layout, how many tries it has with the choice among
@@ -163,9 +163,9 @@ pub fn load(file: &[u8], kept: &mut [u8], holds: &mut [u16], after: &mut [u16]) 
     let mut values = [0u16; syntax::FILE_BYTES];
     let mut places = [0u16; syntax::FILE_BYTES];
     match tokens::scan(file, &mut kinds, &mut values, &mut places) {
-        Scanned::TooLong => not_loaded(answers::say(1, 0, 0)),
-        Scanned::Bad(k) => not_loaded(answers::say(2, k, 0)),
-        Scanned::Tokens(n) => load_tokens(
+        Err(ScanError::TooLong) => not_loaded(answers::say(1, 0, 0)),
+        Err(ScanError::NoToken(k)) => not_loaded(answers::say(2, k, 0)),
+        Ok(n) => load_tokens(
             file,
             &kinds[..n],
             &values[..n],
