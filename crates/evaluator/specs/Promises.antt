@@ -152,9 +152,10 @@ pub record Plainly (ks : List ℕ) (n k : ℕ) (Read : Type 0) : Type 0 where
 abbrev pub AtomSum : List ℕ → List ℕ → List ℕ → Bool → List ℕ → ℕ → List ℕ → ℕ → ℕ → Type 0
 AtomSum ks values vars minus lanes at sums n k = Plainly ks n k (TermRead ks values vars minus lanes 0 at sums 0 n)
 
--- an expression of atoms
-abbrev pub PlainRead : List ℕ → List ℕ → List ℕ → ℕ → List ℕ → ℕ → ℕ → Type 0
-PlainRead ks values vars at sums n k = Plainly ks n k (ExprRead ks values vars at sums 0 n)
+-- an expression of atoms, and the kind behind it
+pub record PlainRead (ks values vars : List ℕ) (at : ℕ) (sums : List ℕ) (n k : ℕ) : Type 0 where
+  pub kind : k ≡ get_or ks n no_kind
+  pub sum : ExprRead ks values vars at sums 0 n
 
 -- the test of a comparison mark's kind
 unfoldable pub test_of : ℕ → ℕ → ℕ → Bool
