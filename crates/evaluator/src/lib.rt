@@ -18,7 +18,7 @@ ghost use Rattle.meaning.specs.Decide.Bodies.{run_block};
 ghost use Rattle.meaning.specs.Held.{Biased, Ranges};
 ghost use Rattle.evaluator.specs.Coding.{Codes, EndsCond, RunAs, lane};
 ghost use Rattle.evaluator.specs.Promises.{Placed, Next, Closes, Operand, AtomRead, Small, Adds};
-ghost use Rattle.evaluator.specs.Promises.{Remains, Near, Joined, TermRead, ExprRead, AtomSum, PlainRead, test_of};
+ghost use Rattle.evaluator.specs.Promises.{Remains, Near, Joined, TermRead, ExprRead, AtomSum, test_of};
 ghost use Rattle.evaluator.specs.Promises.{CompareRead, CondRead, ConjRead, SimpleRead, Stored, BlockRun};
 ghost use Rattle.evaluator.specs.Promises.{StmtRun, BranchRun};
 
@@ -60,13 +60,11 @@ struct Sum {
     next: usize,
 }
 
-// The same of an expression without `mod`, or of its first operands: no lane lacks a value. And the kind of the token
-// behind it.
+// The same of an expression without `mod`, or of its first operands: no lane lacks a value.
 #[derive(Clone, Copy)]
 struct Plain {
     lanes: [u32; 16],
     next: usize,
-    kind: u8,
 }
 
 // Whether a condition holds in each lane, the lanes that lack a value, and the token behind it.
@@ -176,6 +174,7 @@ fn moved(lanes: [u32; 16], plus: [u32; 16], minus: [u32; 16]) -> [u32; 16]
 }
 
 // Sums with what a term adds less what it takes away, added in each lane or taken away.
+#[inline(always)]
 fn joined(lanes: [u32; 16], taken: bool, plus: [u32; 16], minus: u32) -> [u32; 16]
     requires near { Near 8192 lanes }
     requires small { Small plus }
@@ -268,29 +267,28 @@ fn eval_atom(text: &Text<'_>, vars: &[u16; 96], lanes: [u32; 16], taken: bool, a
     requires placed { Placed text.now.kinds.now at }
     requires near { Near at lanes }
     ensures { AtomSum text.now.kinds.now text.now.values.now vars.now taken lanes at result.lanes
-        result.next result.kind }
+        result.next }
 {
     let atom = text.read_atom(at);
     let plus = operands(vars, atom.slot, atom.plus);
     Plain {
         lanes: joined(lanes, taken, plus, atom.minus),
         next: atom.next,
-        kind: text.kind_at(atom.next),
     }
 }
 
 // An expression, if it has no `mod`.
 fn eval_plain(text: &Text<'_>, vars: &[u16; 96], at: usize) -> Option<Plain>
     requires { Placed text.now.kinds.now at }
-    ensures { IfSome result (λ plain. PlainRead text.now.kinds.now text.now.values.now vars.now at plain.lanes
-        plain.next plain.kind) }
+    ensures { IfSome result (λ plain. ExprRead text.now.kinds.now text.now.values.now vars.now at plain.lanes 0
+        plain.next) }
 {
     let mut lanes = [ZERO; 16];
     let mut taken = false;
     let mut place = at;
     loop {
         let sum = eval_atom(text, vars, lanes, taken, place);
-        taken = match sum.kind {
+        taken = match text.kind_at(sum.next) {
             syntax::PLUS => false,
             syntax::MINUS => true,
             syntax::KEY_MOD => return None,
@@ -341,7 +339,7 @@ fn compare_plain(text: &Text<'_>, vars: &[u16; 96], at: usize) -> Option<Truth>
     let one = eval_plain(text, vars, at)?;
     let two = eval_plain(text, vars, text.after(one.next))?;
     Some(Truth {
-        holds: compare(one.kind, one.lanes, two.lanes),
+        holds: compare(text.kind_at(one.next), one.lanes, two.lanes),
         lacks: 0,
         next: two.next,
     })
@@ -352,10 +350,12 @@ fn eval_compare(text: &Text<'_>, vars: &[u16; 96], at: usize) -> Truth
     ensures { CompareRead text.now.kinds.now text.now.values.now vars.now at result.holds
         result.lacks result.next }
 {
-    match compare_plain(text, vars, at) {
-        Some(truth) => truth,
-        None => compare_mod(text, vars, at),
+    if let Some(truth) = compare_plain(text, vars, at) {
+        return truth;
     }
+    // Handed on by its fields, so that the way without `mod` copies nothing.
+    let Truth { holds, lacks, next } = compare_mod(text, vars, at);
+    Truth { holds, lacks, next }
 }
 
 #[cycle(eval_cond_eval_conj_eval_simple)]

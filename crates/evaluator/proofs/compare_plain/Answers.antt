@@ -5,5 +5,5 @@ use Rattle.evaluator.proofs.compare_plain.Goals as goal
 
 pub returns : goal.returns
 returns c =
-    compare_reads c.in_ok-one.ensures.sum c.in_ok-one.ensures.kind c.after.ensures c.in_ok-two.ensures.sum
+    compare_reads c.in_ok-one.ensures c.kind_at.ensures c.after.ensures c.in_ok-two.ensures
     c.compare.ensures (λ u. rw (member_none u))

@@ -1,6 +1,5 @@
 -- `evaluator::eval_atom` meets its contract: the operand's two parts are added and taken away, or the other way round.
 use native.Mathlib.Omega.{arith}
-use mathlib.Core.Path.{◌∙◌}
 use Rattle.evaluator.proofs.Readings.{term_alone, near_more}
 use Rattle.evaluator.proofs.eval_atom.Goals as goal
 
@@ -14,10 +13,6 @@ joined-requires c =
     }
 
 pub returns : goal.returns
-returns c =
-    record {
-      kind = c.kind_at.ensures;
-      alone = λ no_mod.
-          term_alone 0 c.read_atom-atom.ensures c.requires.near (omega (arith, c.requires.placed))
-          (λ e. no_mod (c.kind_at.ensures ∙ e)) c.operands-plus.ensures c.joined.ensures;
-    }
+returns c = λ no_mod.
+    term_alone 0 c.read_atom-atom.ensures c.requires.near (omega (arith, c.requires.placed)) no_mod
+    c.operands-plus.ensures c.joined.ensures

@@ -2,14 +2,15 @@
 -- measure is the count of tokens left: a sign is one, so it falls.
 use native.Mathlib.Omega.{arith}
 use mathlib.Core.Path.{◌≡◌, sym, ◌∙◌}
-use Rattle.syntax.specs.Held.Kind.{kind_of}
+use lib.ListN.{get_or}
+use Rattle.syntax.specs.Held.Kind.{kind_of, no_kind}
 use Rattle.syntax.specs.Decide.Lexeme.{mark_number, keyword_number}
 use Rattle.syntax.specs.Token.{mark}
 use Rattle.syntax.specs.Tree.{sign_mark}
 use Rattle.evaluator.specs.Promises.{sign_of}
 use Rattle.evaluator.proofs.Readings.{past_sign, sign_no_mod, open_first, open_last, open_more}
 use Rattle.evaluator.proofs.eval_plain.Goals as goal
-use Rattle.evaluator.proofs.eval_plain.Goals.{in-16, in-17, Joined-sum}
+use Rattle.evaluator.proofs.eval_plain.Goals.{in-16, in-17, Joined-kind_at}
 
 pub loop-taken-init : goal.loop-taken-init
 loop-taken-init = λ c. open_first c.requires.within
@@ -22,34 +23,36 @@ eval_atom-sum-requires c =
 pub returns-in_default : goal.returns-in_default
 unfolding kind_of mark_number keyword_number
 returns-in_default c =
-    let atom = c.eval_atom-sum.ensures in
-    record {
-      kind = atom.kind;
-      sum =
-          open_last c.loop-taken.invariant (atom.alone (λ e. omega (arith, c.in_default, e))) (λ e. omega (arith, c.in_default, atom.kind, e))
-          (λ e. omega (arith, c.in_default, atom.kind, e));
-    }
+    open_last c.loop-taken.invariant (c.eval_atom-sum.ensures (λ e. omega (arith, c.in_default, c.kind_at.ensures, e)))
+    (λ e. omega (arith, c.in_default, c.kind_at.ensures, e)) (λ e. omega (arith, c.in_default, c.kind_at.ensures, e))
 
 -- the sign behind an atom, which is then alone
-sign : (c : Joined-sum)
-    → c.eval_atom-sum.result.kind ≡ kind_of (mark (sign_mark (sign_of c.match-sum.taken)))
+sign : (c : Joined-kind_at)
+    → get_or c.args.text.now.kinds.now
+    c.eval_atom-sum.result.next no_kind ≡ kind_of (mark (sign_mark (sign_of c.match-kind_at.taken)))
 unfolding mark_number sign_mark sign_of kind_of keyword_number
-sign c = elim c.match-sum.branch [
-  | in-16 w ↦ rw w.taken-is w.in-16.is
-  | in-17 w ↦ rw w.taken-is w.in-17.is
-]
+sign c =
+    sym c.kind_at.ensures
+    ∙ elim c.match-kind_at.branch [
+      | in-16 w ↦ rw w.taken-is w.in-16.is
+      | in-17 w ↦ rw w.taken-is w.in-17.is
+    ]
+
+pub after-place-requires : goal.after-place-requires
+after-place-requires c =
+    (c.eval_atom-sum.ensures (sign_no_mod (sign_of c.match-kind_at.taken) (sign (goal.at.after-place-requires c).Joined-kind_at))).to
 
 pub loop-taken-smaller : goal.loop-taken-smaller
 loop-taken-smaller c =
-    let atom = c.eval_atom-sum.ensures in
+    let s = sign (goal.at.loop-taken-smaller c).Joined-kind_at in
     omega (
       arith,
-      past_sign (sign_of c.match-sum.taken) c.after-place.ensures (sym atom.kind ∙ sign (goal.at.loop-taken-smaller c).Joined-sum),
-      atom.alone (sign_no_mod (sign_of c.match-sum.taken) (sign (goal.at.loop-taken-smaller c).Joined-sum)),
+      past_sign (sign_of c.match-kind_at.taken) c.after-place.ensures s,
+      c.eval_atom-sum.ensures (sign_no_mod (sign_of c.match-kind_at.taken) s),
     )
 
 pub loop-taken-preserved : goal.loop-taken-preserved
 loop-taken-preserved c =
-    let atom = c.eval_atom-sum.ensures in
-    open_more c.loop-taken.invariant (atom.alone (sign_no_mod (sign_of c.match-sum.taken) (sign (goal.at.loop-taken-preserved c).Joined-sum)))
-    c.match-sum.taken (sym atom.kind ∙ sign (goal.at.loop-taken-preserved c).Joined-sum) c.after-place.ensures
+    let s = sign (goal.at.loop-taken-preserved c).Joined-kind_at in
+    open_more c.loop-taken.invariant (c.eval_atom-sum.ensures (sign_no_mod (sign_of c.match-kind_at.taken) s))
+    c.match-kind_at.taken s c.after-place.ensures
