@@ -143,18 +143,10 @@ TermRead ks values vars minus lanes lacks at sums lacks' n =
 abbrev pub ExprRead : List ℕ → List ℕ → List ℕ → ℕ → List ℕ → ℕ → ℕ → Type 0
 ExprRead ks values vars at sums lacks n = Sums spell_expr EndsExpr (λ j. expr_value) ks values vars at sums lacks n
 
--- what is read where the kind at a place tells that no `mod` goes on there
-pub record Plainly (ks : List ℕ) (n k : ℕ) (Read : Type 0) : Type 0 where
-  pub kind : k ≡ get_or ks n no_kind
-  pub alone : (k ≡ kind_of (key k_mod) → ⊥) → Read
-
--- an atom behind sums and a sign, as a term
-abbrev pub AtomSum : List ℕ → List ℕ → List ℕ → Bool → List ℕ → ℕ → List ℕ → ℕ → ℕ → Type 0
-AtomSum ks values vars minus lanes at sums n k = Plainly ks n k (TermRead ks values vars minus lanes 0 at sums 0 n)
-
--- an expression of atoms
-abbrev pub PlainRead : List ℕ → List ℕ → List ℕ → ℕ → List ℕ → ℕ → ℕ → Type 0
-PlainRead ks values vars at sums n k = Plainly ks n k (ExprRead ks values vars at sums 0 n)
+-- an atom behind sums and a sign, as a term, where no `mod` goes on there
+abbrev pub AtomSum : List ℕ → List ℕ → List ℕ → Bool → List ℕ → ℕ → List ℕ → ℕ → Type 0
+AtomSum ks values vars minus lanes at sums n =
+    (get_or ks n no_kind ≡ kind_of (key k_mod) → ⊥) → TermRead ks values vars minus lanes 0 at sums 0 n
 
 -- the test of a comparison mark's kind
 unfoldable pub test_of : ℕ → ℕ → ℕ → Bool

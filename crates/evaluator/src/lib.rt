@@ -7,7 +7,7 @@
 // one its comparison or assignment begins again (`compare_mod`, `assign_mod`); where truths are joined, so is a word.
 #![tactic(auto)]
 
-ghost use Rattle.std.specs.Prelude.{◌≡◌, cond, false, List, ◌∷◌, ◌++◌, ℕ, ◌+◌, ◌-◌, ◌%◌, ◌<◌, ◌≤◌, drop, length, get_or, set, ℤ};
+ghost use Rattle.std.specs.Prelude.{◌≡◌, cond, false, List, ◌∷◌, ◌++◌, IfSome, ℕ, ◌+◌, ◌-◌, ◌%◌, ◌<◌, ◌≤◌, drop, length, get_or, set, ℤ};
 ghost use Rattle.sets.specs.Set.{member};
 ghost use Rattle.syntax.specs.Limits.{most_vars};
 ghost use Rattle.syntax.specs.Token.{Lexeme, key, mark, rbrace, k_if};
@@ -18,7 +18,7 @@ ghost use Rattle.meaning.specs.Decide.Bodies.{run_block};
 ghost use Rattle.meaning.specs.Held.{Biased, Ranges};
 ghost use Rattle.evaluator.specs.Coding.{Codes, EndsCond, RunAs, lane};
 ghost use Rattle.evaluator.specs.Promises.{Placed, Next, Closes, Operand, AtomRead, Small, Adds};
-ghost use Rattle.evaluator.specs.Promises.{Remains, Near, Joined, TermRead, ExprRead, AtomSum, PlainRead, test_of};
+ghost use Rattle.evaluator.specs.Promises.{Remains, Near, Joined, TermRead, ExprRead, AtomSum, test_of};
 ghost use Rattle.evaluator.specs.Promises.{CompareRead, CondRead, ConjRead, SimpleRead, Stored, BlockRun};
 ghost use Rattle.evaluator.specs.Promises.{StmtRun, BranchRun};
 
@@ -26,6 +26,21 @@ use std::array;
 
 // What is added to an expression's value.
 const ZERO: u32 = 1073741824;
+
+// A file's tokens, held as numbers.
+#[derive(Clone, Copy)]
+struct Text<'a> {
+    kinds: &'a [u8],
+    values: &'a [u16],
+}
+
+// A file, for a run: its tokens, and the lowest and the highest value of each variable, with 128 added.
+#[derive(Clone, Copy)]
+struct File<'a> {
+    text: Text<'a>,
+    lows: [u16; syntax::VARIABLES],
+    highs: [u16; syntax::VARIABLES],
+}
 
 // An operand: a variable's slot, or one past all slots and a number, as what is added less what is taken away; and the
 // token behind it.
@@ -45,12 +60,11 @@ struct Sum {
     next: usize,
 }
 
-// The same up to the first `mod`, the token there or behind the expression, and its kind.
+// The same of an expression without `mod`, or of its first operands: no lane lacks a value.
 #[derive(Clone, Copy)]
 struct Plain {
     lanes: [u32; 16],
     next: usize,
-    kind: u8,
 }
 
 // Whether a condition holds in each lane, the lanes that lack a value, and the token behind it.
@@ -75,56 +89,67 @@ pub struct Ran {
     pub values: [u16; 96],
 }
 
-fn kind_at(kinds: &[u8], at: usize) -> u8
-    ensures { result ≡ get_or kinds.now at no_kind }
-{
-    kinds.get(at).copied().unwrap_or(syntax::NO_KIND)
-}
-
-fn value_at(values: &[u16], at: usize) -> u16
-    ensures { result ≡ get_or values.now at 0 }
-{
-    values.get(at).copied().unwrap_or(0)
-}
-
-// The place of the next token, or the end.
-fn after(kinds: &[u8], at: usize) -> usize
-    requires { at ≤ length kinds.now }
-    ensures { Next kinds.now at result }
-{
-    if at < kinds.len() { at + 1 } else { at }
-}
-
-fn read_atom(kinds: &[u8], values: &[u16], at: usize) -> Atom
-    requires { Placed kinds.now at }
-    ensures { AtomRead kinds.now values.now at result.slot result.plus result.minus result.next }
-{
-    let kind = kind_at(kinds, at);
-    let next = after(kinds, at);
-    if kind == syntax::NAME {
-        let slot = usize::from(value_at(values, at));
-        return Atom {
-            slot,
-            plus: 128,
-            minus: 128,
-            next,
-        };
+impl Text<'_> {
+    fn kind_at(&self, at: usize) -> u8
+        ensures { result ≡ get_or self.now.kinds.now at no_kind }
+    {
+        self.kinds.get(at).copied().unwrap_or(syntax::NO_KIND)
     }
-    if kind == syntax::MINUS {
-        let minus = u32::from(value_at(values, next));
-        return Atom {
+
+    fn value_at(&self, at: usize) -> u16
+        ensures { result ≡ get_or self.now.values.now at 0 }
+    {
+        self.values.get(at).copied().unwrap_or(0)
+    }
+
+    // The place of the next token, or the end.
+    fn after(&self, at: usize) -> usize
+        requires { at ≤ length self.now.kinds.now }
+        ensures { Next self.now.kinds.now at result }
+    {
+        if at < self.kinds.len() { at + 1 } else { at }
+    }
+
+    // The closing brace of the block that opens at a token, or the end where what is held is none.
+    fn close_of(&self, brace: usize) -> usize
+        requires { brace ≤ length self.now.kinds.now }
+        ensures { Closes self.now.kinds.now self.now.values.now brace result }
+    {
+        let close = usize::from(self.value_at(brace));
+        if brace <= close && close <= self.kinds.len() {
+            return close;
+        }
+        self.kinds.len()
+    }
+
+    fn read_atom(&self, at: usize) -> Atom
+        requires { Placed self.now.kinds.now at }
+        ensures { AtomRead self.now.kinds.now self.now.values.now at result.slot result.plus result.minus result.next }
+    {
+        let kind = self.kind_at(at);
+        let next = self.after(at);
+        if kind == syntax::NAME {
+            return Atom {
+                slot: usize::from(self.value_at(at)),
+                plus: 128,
+                minus: 128,
+                next,
+            };
+        }
+        if kind == syntax::MINUS {
+            return Atom {
+                slot: syntax::VARIABLES,
+                plus: 0,
+                minus: u32::from(self.value_at(next)),
+                next: self.after(next),
+            };
+        }
+        Atom {
             slot: syntax::VARIABLES,
-            plus: 0,
-            minus,
-            next: after(kinds, next),
-        };
-    }
-    let plus = u32::from(value_at(values, at));
-    Atom {
-        slot: syntax::VARIABLES,
-        plus,
-        minus: 0,
-        next,
+            plus: u32::from(self.value_at(at)),
+            minus: 0,
+            next,
+        }
     }
 }
 
@@ -149,6 +174,7 @@ fn moved(lanes: [u32; 16], plus: [u32; 16], minus: [u32; 16]) -> [u32; 16]
 }
 
 // Sums with what a term adds less what it takes away, added in each lane or taken away.
+#[inline(always)]
 fn joined(lanes: [u32; 16], taken: bool, plus: [u32; 16], minus: u32) -> [u32; 16]
     requires near { Near 8192 lanes }
     requires small { Small plus }
@@ -183,27 +209,24 @@ fn divide(vars: &[u16; 96], left: Atom, right: Atom) -> sixteen::Rests
 
 // What is summed up to a term, with the term added or taken away.
 fn eval_term(
-    kinds: &[u8],
-    values: &[u16],
+    text: &Text<'_>,
     vars: &[u16; 96],
     lanes: [u32; 16],
     lacks: u16,
     taken: bool,
     at: usize,
 ) -> Sum
-    requires placed { Placed kinds.now at }
+    requires placed { Placed text.now.kinds.now at }
     requires near { Near at lanes }
-    ensures { TermRead kinds.now values.now vars.now taken lanes lacks at
+    ensures { TermRead text.now.kinds.now text.now.values.now vars.now taken lanes lacks at
         result.lanes result.lacks result.next }
 {
-    let left = read_atom(kinds, values, at);
-    let next = left.next;
-    if kind_at(kinds, next) == syntax::KEY_MOD {
-        let right = read_atom(kinds, values, after(kinds, next));
+    let left = text.read_atom(at);
+    if text.kind_at(left.next) == syntax::KEY_MOD {
+        let right = text.read_atom(text.after(left.next));
         let rests = divide(vars, left, right);
-        let plus = rests.lanes;
         return Sum {
-            lanes: joined(lanes, taken, plus, 0),
+            lanes: joined(lanes, taken, rests.lanes, 0),
             lacks: sets::union(lacks, rests.lacks),
             next: right.next,
         };
@@ -212,14 +235,14 @@ fn eval_term(
     Sum {
         lanes: joined(lanes, taken, plus, left.minus),
         lacks,
-        next,
+        next: left.next,
     }
 }
 
 // An expression with or without `mod`.
-fn eval_expr(kinds: &[u8], values: &[u16], vars: &[u16; 96], at: usize) -> Sum
-    requires { Placed kinds.now at }
-    ensures { ExprRead kinds.now values.now vars.now at result.lanes result.lacks
+fn eval_expr(text: &Text<'_>, vars: &[u16; 96], at: usize) -> Sum
+    requires { Placed text.now.kinds.now at }
+    ensures { ExprRead text.now.kinds.now text.now.values.now vars.now at result.lanes result.lacks
         result.next }
 {
     let mut lanes = [ZERO; 16];
@@ -227,267 +250,186 @@ fn eval_expr(kinds: &[u8], values: &[u16], vars: &[u16; 96], at: usize) -> Sum
     let mut taken = false;
     let mut place = at;
     loop {
-        let sum = eval_term(kinds, values, vars, lanes, lacks, taken, place);
-        let kind = kind_at(kinds, sum.next);
-        if kind == syntax::PLUS {
-            taken = false;
-        } else if kind == syntax::MINUS {
-            taken = true;
-        } else {
-            return sum;
-        }
+        let sum = eval_term(text, vars, lanes, lacks, taken, place);
+        taken = match text.kind_at(sum.next) {
+            syntax::PLUS => false,
+            syntax::MINUS => true,
+            _ => return sum,
+        };
         lanes = sum.lanes;
         lacks = sum.lacks;
-        place = after(kinds, sum.next);
+        place = text.after(sum.next);
     }
 }
 
 // What is summed up to an operand, with the operand added or taken away.
-fn eval_atom(
-    kinds: &[u8],
-    values: &[u16],
-    vars: &[u16; 96],
-    lanes: [u32; 16],
-    taken: bool,
-    at: usize,
-) -> Plain
-    requires placed { Placed kinds.now at }
+fn eval_atom(text: &Text<'_>, vars: &[u16; 96], lanes: [u32; 16], taken: bool, at: usize) -> Plain
+    requires placed { Placed text.now.kinds.now at }
     requires near { Near at lanes }
-    ensures { AtomSum kinds.now values.now vars.now taken lanes at result.lanes
-        result.next result.kind }
+    ensures { AtomSum text.now.kinds.now text.now.values.now vars.now taken lanes at result.lanes
+        result.next }
 {
-    let atom = read_atom(kinds, values, at);
-    let one = operands(vars, atom.slot, atom.plus);
-    let two = [atom.minus; 16];
-    let kind = kind_at(kinds, atom.next);
-    if taken {
-        return Plain {
-            lanes: moved(lanes, two, one),
-            next: atom.next,
-            kind,
-        };
-    }
+    let atom = text.read_atom(at);
+    let plus = operands(vars, atom.slot, atom.plus);
     Plain {
-        lanes: moved(lanes, one, two),
+        lanes: joined(lanes, taken, plus, atom.minus),
         next: atom.next,
-        kind,
     }
 }
 
-// An expression without `mod`. The kind tells whether it was one.
-fn eval_plain(kinds: &[u8], values: &[u16], vars: &[u16; 96], at: usize) -> Plain
-    requires { Placed kinds.now at }
-    ensures { PlainRead kinds.now values.now vars.now at result.lanes result.next
-        result.kind }
+// An expression, if it has no `mod`.
+fn eval_plain(text: &Text<'_>, vars: &[u16; 96], at: usize) -> Option<Plain>
+    requires { Placed text.now.kinds.now at }
+    ensures { IfSome result (λ plain. ExprRead text.now.kinds.now text.now.values.now vars.now at plain.lanes 0
+        plain.next) }
 {
     let mut lanes = [ZERO; 16];
     let mut taken = false;
     let mut place = at;
     loop {
-        let sum = eval_atom(kinds, values, vars, lanes, taken, place);
-        let kind = sum.kind;
-        if kind == syntax::PLUS {
-            taken = false;
-        } else if kind == syntax::MINUS {
-            taken = true;
-        } else {
-            return sum;
-        }
+        let sum = eval_atom(text, vars, lanes, taken, place);
+        taken = match text.kind_at(sum.next) {
+            syntax::PLUS => false,
+            syntax::MINUS => true,
+            syntax::KEY_MOD => return None,
+            _ => return Some(sum),
+        };
         lanes = sum.lanes;
-        place = after(kinds, sum.next);
+        place = text.after(sum.next);
     }
 }
 
+#[inline(always)]
 fn compare(kind: u8, a: [u32; 16], b: [u32; 16]) -> [bool; 16]
     ensures { (j : ℕ) → j < 16 → get_or result j false ≡ test_of kind (get_or a j 0) (get_or b j 0) }
 {
-    if kind == syntax::BELOW {
-        return sixteen::below(a, b);
+    match kind {
+        syntax::BELOW => sixteen::below(a, b),
+        syntax::ABOVE => sixteen::below(b, a),
+        syntax::AT_MOST => sixteen::other(sixteen::below(b, a)),
+        syntax::AT_LEAST => sixteen::other(sixteen::below(a, b)),
+        syntax::DIFFERS => sixteen::union(sixteen::below(a, b), sixteen::below(b, a)),
+        _ => sixteen::other(sixteen::union(sixteen::below(a, b), sixteen::below(b, a))),
     }
-    if kind == syntax::ABOVE {
-        return sixteen::below(b, a);
-    }
-    if kind == syntax::AT_MOST {
-        return sixteen::other(sixteen::below(b, a));
-    }
-    if kind == syntax::AT_LEAST {
-        return sixteen::other(sixteen::below(a, b));
-    }
-    let differ = sixteen::union(sixteen::below(a, b), sixteen::below(b, a));
-    if kind == syntax::DIFFERS {
-        return differ;
-    }
-    sixteen::other(differ)
 }
 
-fn test(kind: u8, a: u32, b: u32) -> bool
-    ensures { result ≡ test_of kind a b }
-{
-    if kind == syntax::BELOW {
-        return a < b;
-    }
-    if kind == syntax::ABOVE {
-        return b < a;
-    }
-    if kind == syntax::AT_MOST {
-        return !(b < a);
-    }
-    if kind == syntax::AT_LEAST {
-        return !(a < b);
-    }
-    if kind == syntax::DIFFERS {
-        return (a < b) | (b < a);
-    }
-    !((a < b) | (b < a))
-}
-
-// The same as `compare`, which is called once and so stands where it is called.
-fn compare_each(kind: u8, a: [u32; 16], b: [u32; 16]) -> [bool; 16]
-    ensures { (j : ℕ) → j < 16 → get_or result j false ≡ test_of kind (get_or a j 0) (get_or b j 0) }
-{
-    array::from_fn(|j| test(kind, a[j], b[j]))
-}
-
-// A comparison with `mod`.
-fn compare_mod(kinds: &[u8], values: &[u16], vars: &[u16; 96], at: usize) -> Truth
-    requires { Placed kinds.now at }
-    ensures { CompareRead kinds.now values.now vars.now at result.holds
+// A comparison, with or without `mod`. A call of its own, so that the way without `mod` keeps few registers.
+#[inline(never)]
+fn compare_mod(text: &Text<'_>, vars: &[u16; 96], at: usize) -> Truth
+    requires { Placed text.now.kinds.now at }
+    ensures { CompareRead text.now.kinds.now text.now.values.now vars.now at result.holds
         result.lacks result.next }
 {
-    let one = eval_expr(kinds, values, vars, at);
-    let kind = kind_at(kinds, one.next);
-    let next = after(kinds, one.next);
-    let two = eval_expr(kinds, values, vars, next);
-    let a = one.lanes;
-    let b = two.lanes;
-    let holds = compare_each(kind, a, b);
+    let one = eval_expr(text, vars, at);
+    let kind = text.kind_at(one.next);
+    let two = eval_expr(text, vars, text.after(one.next));
     Truth {
-        holds,
+        holds: compare(kind, one.lanes, two.lanes),
         lacks: sets::union(one.lacks, two.lacks),
         next: two.next,
     }
 }
 
-// Called twice, `compare_mod` stays a call, and what it returns is handed on by its fields: so the way without `mod`
-// keeps few registers and copies nothing.
-fn eval_compare(kinds: &[u8], values: &[u16], vars: &[u16; 96], at: usize) -> Truth
-    requires { Placed kinds.now at }
-    ensures { CompareRead kinds.now values.now vars.now at result.holds
-        result.lacks result.next }
+// A comparison, if it has no `mod`.
+fn compare_plain(text: &Text<'_>, vars: &[u16; 96], at: usize) -> Option<Truth>
+    requires { Placed text.now.kinds.now at }
+    ensures { IfSome result (λ truth. CompareRead text.now.kinds.now text.now.values.now vars.now at truth.holds
+        truth.lacks truth.next) }
 {
-    let one = eval_plain(kinds, values, vars, at);
-    let kind = one.kind;
-    if kind == syntax::KEY_MOD {
-        let with = compare_mod(kinds, values, vars, at);
-        let holds = with.holds;
-        return Truth {
-            holds,
-            lacks: with.lacks,
-            next: with.next,
-        };
-    }
-    let next = after(kinds, one.next);
-    let two = eval_plain(kinds, values, vars, next);
-    if two.kind == syntax::KEY_MOD {
-        let with = compare_mod(kinds, values, vars, at);
-        let holds = with.holds;
-        return Truth {
-            holds,
-            lacks: with.lacks,
-            next: with.next,
-        };
-    }
-    let a = one.lanes;
-    let b = two.lanes;
-    let holds = compare(kind, a, b);
-    Truth {
-        holds,
+    let one = eval_plain(text, vars, at)?;
+    let two = eval_plain(text, vars, text.after(one.next))?;
+    Some(Truth {
+        holds: compare(text.kind_at(one.next), one.lanes, two.lanes),
         lacks: 0,
         next: two.next,
+    })
+}
+
+fn eval_compare(text: &Text<'_>, vars: &[u16; 96], at: usize) -> Truth
+    requires { Placed text.now.kinds.now at }
+    ensures { CompareRead text.now.kinds.now text.now.values.now vars.now at result.holds
+        result.lacks result.next }
+{
+    if let Some(truth) = compare_plain(text, vars, at) {
+        return truth;
     }
+    // Handed on by its fields, so that the way without `mod` copies nothing.
+    let Truth { holds, lacks, next } = compare_mod(text, vars, at);
+    Truth { holds, lacks, next }
 }
 
 #[cycle(eval_cond_eval_conj_eval_simple)]
-fn eval_cond(kinds: &[u8], values: &[u16], vars: &[u16; 96], at: usize) -> Truth
-    requires { Placed kinds.now at }
-    ensures { CondRead kinds.now values.now vars.now at result.holds result.lacks
+fn eval_cond(text: &Text<'_>, vars: &[u16; 96], at: usize) -> Truth
+    requires { Placed text.now.kinds.now at }
+    ensures { CondRead text.now.kinds.now text.now.values.now vars.now at result.holds result.lacks
         result.next }
 {
     let mut holds = [false; 16];
     let mut lacks: u16 = 0;
     let mut place = at;
     loop {
-        let conj = eval_conj(kinds, values, vars, place);
-        let one = conj.holds;
-        let all = sixteen::union(holds, one);
-        let missing = sets::union(lacks, conj.lacks);
+        let conj = eval_conj(text, vars, place);
+        // Stays (proof): the array that a call gives is bound by `let`; the borrow checker does not cover it laid in `holds`.
+        let all = sixteen::union(holds, conj.holds);
         holds = all;
-        lacks = missing;
-        if kind_at(kinds, conj.next) == syntax::OR_OR {
-            place = after(kinds, conj.next);
-        } else {
+        lacks = sets::union(lacks, conj.lacks);
+        if text.kind_at(conj.next) != syntax::OR_OR {
             return Truth {
                 holds,
                 lacks,
                 next: conj.next,
             };
         }
+        place = text.after(conj.next);
     }
 }
 
 #[cycle(eval_cond_eval_conj_eval_simple)]
-fn eval_conj(kinds: &[u8], values: &[u16], vars: &[u16; 96], at: usize) -> Truth
-    requires { Placed kinds.now at }
-    ensures { ConjRead kinds.now values.now vars.now at result.holds result.lacks
+fn eval_conj(text: &Text<'_>, vars: &[u16; 96], at: usize) -> Truth
+    requires { Placed text.now.kinds.now at }
+    ensures { ConjRead text.now.kinds.now text.now.values.now vars.now at result.holds result.lacks
         result.next }
 {
     let mut holds = [true; 16];
     let mut lacks: u16 = 0;
     let mut place = at;
     loop {
-        let simple = eval_simple(kinds, values, vars, place);
-        let one = simple.holds;
-        let all = sixteen::both(holds, one);
-        let missing = sets::union(lacks, simple.lacks);
+        let simple = eval_simple(text, vars, place);
+        // Stays (proof): as in `eval_cond`.
+        let all = sixteen::both(holds, simple.holds);
         holds = all;
-        lacks = missing;
-        if kind_at(kinds, simple.next) == syntax::AND_AND {
-            place = after(kinds, simple.next);
-        } else {
+        lacks = sets::union(lacks, simple.lacks);
+        if text.kind_at(simple.next) != syntax::AND_AND {
             return Truth {
                 holds,
                 lacks,
                 next: simple.next,
             };
         }
+        place = text.after(simple.next);
     }
 }
 
 #[cycle(eval_cond_eval_conj_eval_simple)]
-fn eval_simple(kinds: &[u8], values: &[u16], vars: &[u16; 96], at: usize) -> Truth
-    requires { Placed kinds.now at }
-    ensures { SimpleRead kinds.now values.now vars.now at result.holds
+fn eval_simple(text: &Text<'_>, vars: &[u16; 96], at: usize) -> Truth
+    requires { Placed text.now.kinds.now at }
+    ensures { SimpleRead text.now.kinds.now text.now.values.now vars.now at result.holds
         result.lacks result.next }
 {
-    let kind = kind_at(kinds, at);
-    let next = after(kinds, at);
+    let kind = text.kind_at(at);
+    let next = text.after(at);
     if kind == syntax::BANG {
-        let simple = eval_simple(kinds, values, vars, next);
-        let a = simple.holds;
+        let simple = eval_simple(text, vars, next);
         return Truth {
-            holds: sixteen::other(a),
-            lacks: simple.lacks,
-            next: simple.next,
+            holds: sixteen::other(simple.holds),
+            ..simple
         };
     }
     if kind == syntax::LPAREN {
-        let cond = eval_cond(kinds, values, vars, next);
-        let past = after(kinds, cond.next);
-        let holds = cond.holds;
+        let cond = eval_cond(text, vars, next);
         return Truth {
-            holds,
-            lacks: cond.lacks,
-            next: past,
+            next: text.after(cond.next),
+            ..cond
         };
     }
     if kind == syntax::KEY_TRUE {
@@ -504,7 +446,7 @@ fn eval_simple(kinds: &[u8], values: &[u16], vars: &[u16; 96], at: usize) -> Tru
             next,
         };
     }
-    eval_compare(kinds, values, vars, at)
+    eval_compare(text, vars, at)
 }
 
 // The lanes in which the condition that begins at a token holds.
@@ -520,9 +462,8 @@ pub fn holds(kinds: &[u8], values: &[u16], vars: &[u16; 96], at: usize) -> u16
     if kinds.len() < at {
         return 0;
     }
-    let cond = eval_cond(kinds, values, vars, at);
-    let lanes = cond.holds;
-    sets::minus(sixteen::mask(lanes), cond.lacks)
+    let cond = eval_cond(&Text { kinds, values }, vars, at);
+    sets::minus(sixteen::mask(cond.holds), cond.lacks)
 }
 
 // The new value in the lanes of a set, with 128 added, and the old one in the others.
@@ -547,8 +488,7 @@ fn put(vars: &mut [u16; 96], slot: usize, lanes: [u32; 16])
 // An assignment in the lanes of a set: it stores the values, and says in which lanes they are in range, or nothing was
 // stored.
 fn store(
-    lows: [u16; syntax::VARIABLES],
-    highs: [u16; syntax::VARIABLES],
+    file: &File<'_>,
     vars: &mut [u16; 96],
     on: [bool; 16],
     slot: usize,
@@ -556,11 +496,11 @@ fn store(
 ) -> [bool; 16]
     requires vars_len { length vars.old ≡ 96 }
     requires near { Near 8193 sums }
-    ensures { Stored lows highs vars.old on slot sums result vars.new }
+    ensures { Stored file.now.lows file.now.highs vars.old on slot sums result vars.new }
 {
     if slot < syntax::VARIABLES {
-        let low = [u32::from(lows[slot]) + (ZERO - 128); 16];
-        let high = [u32::from(highs[slot]) + (ZERO - 128); 16];
+        let low = [u32::from(file.lows[slot]) + (ZERO - 128); 16];
+        let high = [u32::from(file.highs[slot]) + (ZERO - 128); 16];
         let out = sixteen::union(sixteen::below(sums, low), sixteen::below(high, sums));
         let ok = sixteen::other(sixteen::both(on, out));
         let old = operands(vars, slot, 0);
@@ -570,166 +510,110 @@ fn store(
     sixteen::other(on)
 }
 
-// The closing brace of the block that opens at a token, or the end where what is held is none.
-fn close_of(kinds: &[u8], values: &[u16], brace: usize) -> usize
-    requires { brace ≤ length kinds.now }
-    ensures { Closes kinds.now values.now brace result }
-{
-    let close = usize::from(value_at(values, brace));
-    if brace <= close {
-        if close <= kinds.len() {
-            return close;
-        }
-    }
-    kinds.len()
-}
-
-// An assignment with `mod`.
-fn assign_mod(
-    kinds: &[u8],
-    values: &[u16],
-    lows: [u16; syntax::VARIABLES],
-    highs: [u16; syntax::VARIABLES],
-    vars: &mut [u16; 96],
-    on: [bool; 16],
-    at: usize,
-) -> Step
-    requires placed { Placed kinds.now at }
+// An assignment with `mod`, a call of its own as `compare_mod` is.
+#[inline(never)]
+fn assign_mod(file: &File<'_>, vars: &mut [u16; 96], on: [bool; 16], at: usize) -> Step
+    requires placed { Placed file.now.text.kinds.now at }
     requires vars_len { length vars.old ≡ 96 }
-    requires at_in_bounds { at < length kinds.now }
-    requires fact { get_or kinds.now at no_kind ≡ kind_of (key k_if) → ⊥ }
-    ensures { StmtRun kinds.now values.now lows highs vars.old on at
+    requires at_in_bounds { at < length file.now.text.kinds.now }
+    requires no_if { get_or file.now.text.kinds.now at no_kind ≡ kind_of (key k_if) → ⊥ }
+    ensures { StmtRun file.now.text.kinds.now file.now.text.values.now file.now.lows file.now.highs vars.old on at
         result.ok vars.new result.next }
 {
-    let second = after(kinds, at);
-    let third = after(kinds, second);
-    let sum = eval_expr(kinds, values, vars, third);
-    let next = after(kinds, sum.next);
-    let assigned = usize::from(value_at(values, at));
-    let lanes = sum.lanes;
-    let stored = store(lows, highs, vars, on, assigned, lanes);
-    let ok = sixteen::faulted(stored, on, sum.lacks);
-    Step { ok, next }
+    let text = &file.text;
+    let second = text.after(at);
+    let third = text.after(second);
+    let sum = eval_expr(text, vars, third);
+    let assigned = usize::from(text.value_at(at));
+    let stored = store(file, vars, on, assigned, sum.lanes);
+    Step {
+        ok: sixteen::faulted(stored, on, sum.lacks),
+        next: text.after(sum.next),
+    }
 }
 
 // Statements up to the closing brace, in the lanes of a set: whether they ran there with no fault.
 #[cycle(run_block_run_branch_run_stmt)]
-fn run_block(
-    kinds: &[u8],
-    values: &[u16],
-    lows: [u16; syntax::VARIABLES],
-    highs: [u16; syntax::VARIABLES],
-    vars: &mut [u16; 96],
-    on: [bool; 16],
-    at: usize,
-) -> [bool; 16]
-    requires placed { Placed kinds.now at }
+fn run_block(file: &File<'_>, vars: &mut [u16; 96], on: [bool; 16], at: usize) -> [bool; 16]
+    requires placed { Placed file.now.text.kinds.now at }
     requires vars_len { length vars.old ≡ 96 }
-    ensures { BlockRun kinds.now values.now lows highs vars.old on at
+    ensures { BlockRun file.now.text.kinds.now file.now.text.values.now file.now.lows file.now.highs vars.old on at
         result vars.new }
 {
     let mut ok = [true; 16];
     let mut place = at;
     loop {
-        let kind = kind_at(kinds, place);
+        let kind = file.text.kind_at(place);
         if kind == syntax::RBRACE {
             return ok;
         }
         if kind == syntax::NO_KIND {
             return ok;
         }
-        let one = run_stmt(kinds, values, lows, highs, vars, on, place);
-        let first = one.ok;
-        let all = sixteen::both(ok, first);
+        let one = run_stmt(file, vars, on, place);
+        // Stays (proof): as in `eval_cond`.
+        let all = sixteen::both(ok, one.ok);
         ok = all;
         place = one.next;
     }
 }
 
 #[cycle(run_block_run_branch_run_stmt)]
-fn run_stmt(
-    kinds: &[u8],
-    values: &[u16],
-    lows: [u16; syntax::VARIABLES],
-    highs: [u16; syntax::VARIABLES],
-    vars: &mut [u16; 96],
-    on: [bool; 16],
-    at: usize,
-) -> Step
-    requires placed { Placed kinds.now at }
+fn run_stmt(file: &File<'_>, vars: &mut [u16; 96], on: [bool; 16], at: usize) -> Step
+    requires placed { Placed file.now.text.kinds.now at }
     requires vars_len { length vars.old ≡ 96 }
-    requires at_in_bounds { at < length kinds.now }
-    ensures { StmtRun kinds.now values.now lows highs vars.old on at
+    requires at_in_bounds { at < length file.now.text.kinds.now }
+    ensures { StmtRun file.now.text.kinds.now file.now.text.values.now file.now.lows file.now.highs vars.old on at
         result.ok vars.new result.next }
 {
-    let second = after(kinds, at);
-    let third = after(kinds, second);
-    if kind_at(kinds, at) == syntax::KEY_IF {
-        let cond = eval_cond(kinds, values, vars, third);
-        let open = after(kinds, cond.next);
-        let holds = cond.holds;
-        let step = run_branch(kinds, values, lows, highs, vars, on, open, holds);
-        let ran = step.ok;
+    let text = &file.text;
+    let second = text.after(at);
+    let third = text.after(second);
+    if text.kind_at(at) == syntax::KEY_IF {
+        let cond = eval_cond(text, vars, third);
+        let open = text.after(cond.next);
+        let step = run_branch(file, vars, on, open, cond.holds);
         return Step {
-            ok: sixteen::faulted(ran, on, cond.lacks),
+            ok: sixteen::faulted(step.ok, on, cond.lacks),
             next: step.next,
         };
     }
-    let sum = eval_plain(kinds, values, vars, third);
-    if sum.kind == syntax::KEY_MOD {
-        return assign_mod(kinds, values, lows, highs, vars, on, at);
+    let Some(sum) = eval_plain(text, vars, third) else {
+        return assign_mod(file, vars, on, at);
+    };
+    let assigned = usize::from(text.value_at(at));
+    Step {
+        ok: store(file, vars, on, assigned, sum.lanes),
+        next: text.after(sum.next),
     }
-    let next = after(kinds, sum.next);
-    let assigned = usize::from(value_at(values, at));
-    let lanes = sum.lanes;
-    let ok = store(lows, highs, vars, on, assigned, lanes);
-    Step { ok, next }
 }
 
 // The block that opens at a token where the condition in front of it holds, and where not the one behind `else`, if
 // there is one.
 #[cycle(run_block_run_branch_run_stmt)]
 fn run_branch(
-    kinds: &[u8],
-    values: &[u16],
-    lows: [u16; syntax::VARIABLES],
-    highs: [u16; syntax::VARIABLES],
+    file: &File<'_>,
     vars: &mut [u16; 96],
     on: [bool; 16],
     brace: usize,
     holds: [bool; 16],
 ) -> Step
-    requires placed { Placed kinds.now brace }
+    requires placed { Placed file.now.text.kinds.now brace }
     requires vars_len { length vars.old ≡ 96 }
-    ensures { BranchRun kinds.now values.now lows highs vars.old on brace
+    ensures { BranchRun file.now.text.kinds.now file.now.text.values.now file.now.lows file.now.highs vars.old on brace
         holds result.ok vars.new result.next }
 {
-    let close = close_of(kinds, values, brace);
-    let next = after(kinds, close);
-    let first = after(kinds, brace);
-    let ok = run_block(
-        kinds,
-        values,
-        lows,
-        highs,
-        vars,
-        sixteen::both(on, holds),
-        first,
-    );
-    if kind_at(kinds, next) == syntax::KEY_ELSE {
-        let open = after(kinds, next);
-        let last = close_of(kinds, values, open);
-        let behind = after(kinds, last);
-        let second = after(kinds, open);
-        let more = run_block(
-            kinds,
-            values,
-            lows,
-            highs,
-            vars,
-            sixteen::unless(on, holds),
-            second,
-        );
+    let text = &file.text;
+    let close = text.close_of(brace);
+    let next = text.after(close);
+    let first = text.after(brace);
+    let ok = run_block(file, vars, sixteen::both(on, holds), first);
+    if text.kind_at(next) == syntax::KEY_ELSE {
+        let open = text.after(next);
+        let last = text.close_of(open);
+        let behind = text.after(last);
+        let second = text.after(open);
+        let more = run_block(file, vars, sixteen::unless(on, holds), second);
         return Step {
             ok: sixteen::both(ok, more),
             next: behind,
@@ -765,7 +649,14 @@ pub fn run_body(
             values: ended,
         };
     }
-    let lanes = run_block(kinds, values, lows, highs, &mut ended, [true; 16], at);
-    let ok = sixteen::mask(lanes);
-    Ran { ok, values: ended }
+    let file = File {
+        text: Text { kinds, values },
+        lows,
+        highs,
+    };
+    let lanes = run_block(&file, &mut ended, [true; 16], at);
+    Ran {
+        ok: sixteen::mask(lanes),
+        values: ended,
+    }
 }

@@ -13,59 +13,59 @@ use Rattle.evaluator.proofs.Readings.{simple_compare, conj_chain, cond_chain, ch
 use Rattle.evaluator.proofs.Readings.{chain_more}
 use Rattle.evaluator.proofs.+eval_cond_eval_conj_eval_simple.Goals as goal
 
-pub eval_cond-loop-place-init : goal.eval_cond-loop-place-init
-eval_cond-loop-place-init t c = chain_first cond_chain c.requires.within
+pub eval_cond-loop-holds-init : goal.eval_cond-loop-holds-init
+eval_cond-loop-holds-init t c = chain_first cond_chain c.requires.within
 
 pub eval_cond-eval_conj-conj-requires : goal.eval_cond-eval_conj-conj-requires
 eval_cond-eval_conj-conj-requires t c =
-    let inv = c.loop-place.invariant in
+    let inv = c.loop-holds.invariant in
     (omega (arith, inv.from, inv.to, c.decreases), record { within = inv.to; short = c.requires.short })
 
-pub eval_cond-loop-place-smaller : goal.eval_cond-loop-place-smaller
+pub eval_cond-loop-holds-smaller : goal.eval_cond-loop-holds-smaller
 unfolding kind_of mark_number keyword_number
-eval_cond-loop-place-smaller t c =
+eval_cond-loop-holds-smaller t c =
     let step = kind_within (kind_of (mark or_or)) c.after-place.ensures
-    (sym c.kind_at.ensures ∙ c.if-kind_at-eq-OR_OR.true) refl in
+    (sym c.kind_at.ensures ∙ c.if-kind_at-ne-OR_OR.false) refl in
     omega (arith, step, c.eval_conj-conj.ensures, c.after-place.ensures)
 
-pub eval_cond-loop-place-preserved : goal.eval_cond-loop-place-preserved
+pub eval_cond-loop-holds-preserved : goal.eval_cond-loop-holds-preserved
 unfolding kind_of mark_number keyword_number
-eval_cond-loop-place-preserved t c =
-    chain_more cond_chain c.loop-place.invariant c.eval_conj-conj.ensures c.union-all.ensures
-    c.union-missing.ensures (sym c.kind_at.ensures ∙ c.if-kind_at-eq-OR_OR.true) c.after-place.ensures
+eval_cond-loop-holds-preserved t c =
+    chain_more cond_chain c.loop-holds.invariant c.eval_conj-conj.ensures c.union-all.ensures
+    c.union-lacks.ensures (sym c.kind_at.ensures ∙ c.if-kind_at-ne-OR_OR.false) c.after-place.ensures
 
-pub eval_cond-returns-else-kind_at-eq-OR_OR : goal.eval_cond-returns-else-kind_at-eq-OR_OR
+pub eval_cond-returns-then-kind_at-ne-OR_OR : goal.eval_cond-returns-then-kind_at-ne-OR_OR
 unfolding kind_of mark_number keyword_number
-eval_cond-returns-else-kind_at-eq-OR_OR t c =
-    chain_last cond_chain c.loop-place.invariant c.eval_conj-conj.ensures c.union-all.ensures
-    c.union-missing.ensures (λ e. c.if-kind_at-eq-OR_OR.false (c.kind_at.ensures ∙ e))
+eval_cond-returns-then-kind_at-ne-OR_OR t c =
+    chain_last cond_chain c.loop-holds.invariant c.eval_conj-conj.ensures c.union-all.ensures
+    c.union-lacks.ensures (λ e. c.if-kind_at-ne-OR_OR.true (c.kind_at.ensures ∙ e))
 
-pub eval_conj-loop-place-init : goal.eval_conj-loop-place-init
-eval_conj-loop-place-init t c = chain_first conj_chain c.requires.within
+pub eval_conj-loop-holds-init : goal.eval_conj-loop-holds-init
+eval_conj-loop-holds-init t c = chain_first conj_chain c.requires.within
 
 pub eval_conj-eval_simple-simple-requires : goal.eval_conj-eval_simple-simple-requires
 eval_conj-eval_simple-simple-requires t c =
-    let inv = c.loop-place.invariant in
+    let inv = c.loop-holds.invariant in
     (omega (arith, inv.from, inv.to, c.decreases), record { within = inv.to; short = c.requires.short })
 
-pub eval_conj-loop-place-smaller : goal.eval_conj-loop-place-smaller
+pub eval_conj-loop-holds-smaller : goal.eval_conj-loop-holds-smaller
 unfolding kind_of mark_number keyword_number
-eval_conj-loop-place-smaller t c =
+eval_conj-loop-holds-smaller t c =
     let step = kind_within (kind_of (mark and_and)) c.after-place.ensures
-    (sym c.kind_at.ensures ∙ c.if-kind_at-eq-AND_AND.true) refl in
+    (sym c.kind_at.ensures ∙ c.if-kind_at-ne-AND_AND.false) refl in
     omega (arith, step, c.eval_simple-simple.ensures, c.after-place.ensures)
 
-pub eval_conj-loop-place-preserved : goal.eval_conj-loop-place-preserved
+pub eval_conj-loop-holds-preserved : goal.eval_conj-loop-holds-preserved
 unfolding kind_of mark_number keyword_number
-eval_conj-loop-place-preserved t c =
-    chain_more conj_chain c.loop-place.invariant c.eval_simple-simple.ensures c.both-all.ensures
-    c.union-missing.ensures (sym c.kind_at.ensures ∙ c.if-kind_at-eq-AND_AND.true) c.after-place.ensures
+eval_conj-loop-holds-preserved t c =
+    chain_more conj_chain c.loop-holds.invariant c.eval_simple-simple.ensures c.both-all.ensures
+    c.union-lacks.ensures (sym c.kind_at.ensures ∙ c.if-kind_at-ne-AND_AND.false) c.after-place.ensures
 
-pub eval_conj-returns-else-kind_at-eq-AND_AND : goal.eval_conj-returns-else-kind_at-eq-AND_AND
+pub eval_conj-returns-then-kind_at-ne-AND_AND : goal.eval_conj-returns-then-kind_at-ne-AND_AND
 unfolding kind_of mark_number keyword_number
-eval_conj-returns-else-kind_at-eq-AND_AND t c =
-    chain_last conj_chain c.loop-place.invariant c.eval_simple-simple.ensures c.both-all.ensures
-    c.union-missing.ensures (λ e. c.if-kind_at-eq-AND_AND.false (c.kind_at.ensures ∙ e))
+eval_conj-returns-then-kind_at-ne-AND_AND t c =
+    chain_last conj_chain c.loop-holds.invariant c.eval_simple-simple.ensures c.both-all.ensures
+    c.union-lacks.ensures (λ e. c.if-kind_at-ne-AND_AND.true (c.kind_at.ensures ∙ e))
 
 pub eval_simple-eval_simple-simple-requires : goal.eval_simple-eval_simple-simple-requires
 unfolding kind_of mark_number keyword_number
@@ -95,7 +95,7 @@ pub eval_simple-returns-then-kind-eq-LPAREN : goal.eval_simple-returns-then-kind
 unfolding kind_of mark_number keyword_number
 eval_simple-returns-then-kind-eq-LPAREN t c =
     simple_bracketed (sym c.kind_at-kind.ensures ∙ c.if-kind-eq-LPAREN.true) c.after-next.ensures
-    c.eval_cond-cond.ensures c.after-past.ensures
+    c.eval_cond-cond.ensures c.after.ensures
 
 pub eval_simple-returns-then-kind-eq-KEY_TRUE : goal.eval_simple-returns-then-kind-eq-KEY_TRUE
 unfolding constant_kind kind_of mark_number keyword_number

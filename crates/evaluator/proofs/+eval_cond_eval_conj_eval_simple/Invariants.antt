@@ -6,24 +6,24 @@ use Rattle.evaluator.proofs.Readings.{Linked}
 use Rattle.evaluator.proofs.+eval_cond_eval_conj_eval_simple.Given as goal
 
 abbrev pub decreases-eval_cond : goal.decreases-eval_cond
-decreases-eval_cond l = 3 * (length l.kinds.now - l.at) + 2
+decreases-eval_cond l = 3 * (length l.text.now.kinds.now - l.at) + 2
 
 abbrev pub decreases-eval_conj : goal.decreases-eval_conj
-decreases-eval_conj l = 3 * (length l.kinds.now - l.at) + 1
+decreases-eval_conj l = 3 * (length l.text.now.kinds.now - l.at) + 1
 
 abbrev pub decreases-eval_simple : goal.decreases-eval_simple
-decreases-eval_simple l = 3 * (length l.kinds.now - l.at)
+decreases-eval_simple l = 3 * (length l.text.now.kinds.now - l.at)
 
-abbrev pub invariant-eval_cond-loop-place : goal.invariant-eval_cond-loop-place
-invariant-eval_cond-loop-place l =
-    Linked spell_cond EndsWhole cond_value ◌||◌ l.kinds l.values l.vars l.at l.holds l.lacks l.place
+abbrev pub invariant-eval_cond-loop-holds : goal.invariant-eval_cond-loop-holds
+invariant-eval_cond-loop-holds l =
+    Linked spell_cond EndsWhole cond_value ◌||◌ l.text.kinds.now l.text.values.now l.vars l.at l.holds l.lacks l.place
 
-abbrev pub decreases-eval_cond-loop-place : goal.decreases-eval_cond-loop-place
-decreases-eval_cond-loop-place l = length l.kinds - l.place
+abbrev pub decreases-eval_cond-loop-holds : goal.decreases-eval_cond-loop-holds
+decreases-eval_cond-loop-holds l = length l.text.kinds.now - l.place
 
-abbrev pub invariant-eval_conj-loop-place : goal.invariant-eval_conj-loop-place
-invariant-eval_conj-loop-place l =
-    Linked spell_conj EndsConj conj_value ◌&&◌ l.kinds l.values l.vars l.at l.holds l.lacks l.place
+abbrev pub invariant-eval_conj-loop-holds : goal.invariant-eval_conj-loop-holds
+invariant-eval_conj-loop-holds l =
+    Linked spell_conj EndsConj conj_value ◌&&◌ l.text.kinds.now l.text.values.now l.vars l.at l.holds l.lacks l.place
 
-abbrev pub decreases-eval_conj-loop-place : goal.decreases-eval_conj-loop-place
-decreases-eval_conj-loop-place l = length l.kinds - l.place
+abbrev pub decreases-eval_conj-loop-holds : goal.decreases-eval_conj-loop-holds
+decreases-eval_conj-loop-holds l = length l.text.kinds.now - l.place

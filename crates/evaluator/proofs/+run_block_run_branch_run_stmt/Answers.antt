@@ -14,37 +14,37 @@ use Rattle.evaluator.proofs.Runs.{begun_first, begun_last, begun_more, stmt_assi
 use Rattle.evaluator.proofs.Runs.{branch_one, branch_two}
 use Rattle.evaluator.proofs.+run_block_run_branch_run_stmt.Goals as goal
 
-pub run_block-loop-lows-init : goal.run_block-loop-lows-init
-run_block-loop-lows-init t c = begun_first c.requires.placed.within c.requires.vars_len
+pub run_block-loop-on-init : goal.run_block-loop-on-init
+run_block-loop-on-init t c = begun_first c.requires.placed.within c.requires.vars_len
 
 pub run_block-returns-then-kind-eq-RBRACE : goal.run_block-returns-then-kind-eq-RBRACE
 unfolding kind_of mark_number keyword_number
 run_block-returns-then-kind-eq-RBRACE t c =
     let kind = sym c.kind_at-kind.ensures ∙ c.if-kind-eq-RBRACE.true in
-    begun_last c.loop-lows.invariant (λ e. apart (kind_of (mark rbrace)) name_kind refl kind e)
+    begun_last c.loop-on.invariant (λ e. apart (kind_of (mark rbrace)) name_kind refl kind e)
     (λ e. apart (kind_of (mark rbrace)) (kind_of (key k_if)) refl kind e)
 
 pub run_block-returns-then-kind : goal.run_block-returns-then-kind
 unfolding kind_of mark_number keyword_number
 run_block-returns-then-kind t c =
     let kind = sym c.kind_at-kind.ensures ∙ c.if-kind.true in
-    begun_last c.loop-lows.invariant (λ e. apart no_kind name_kind refl kind e)
+    begun_last c.loop-on.invariant (λ e. apart no_kind name_kind refl kind e)
     (λ e. apart no_kind (kind_of (key k_if)) refl kind e)
 
 pub run_block-run_stmt-one-requires : goal.run_block-run_stmt-one-requires
 run_block-run_stmt-one-requires t c =
-    let inv = c.loop-lows.invariant in (
+    let inv = c.loop-on.invariant in (
       omega (arith, inv.from, inv.to, c.decreases),
-      (record { within = inv.to; short = c.requires.placed.short }, (inv.long, kind_here c.args.kinds.now c.loop-lows.place (λ e. c.if-kind.false (c.kind_at-kind.ensures ∙ e)))),
+      (record { within = inv.to; short = c.requires.placed.short }, (inv.long, kind_here c.args.file.now.text.kinds.now c.loop-on.place (λ e. c.if-kind.false (c.kind_at-kind.ensures ∙ e)))),
     )
 
-pub run_block-loop-lows-smaller : goal.run_block-loop-lows-smaller
-run_block-loop-lows-smaller t c = omega (arith, c.run_stmt-one.ensures)
+pub run_block-loop-on-smaller : goal.run_block-loop-on-smaller
+run_block-loop-on-smaller t c = omega (arith, c.run_stmt-one.ensures)
 
-pub run_block-loop-lows-preserved : goal.run_block-loop-lows-preserved
+pub run_block-loop-on-preserved : goal.run_block-loop-on-preserved
 unfolding kind_of mark_number keyword_number
-run_block-loop-lows-preserved t c =
-    begun_more c.loop-lows.invariant c.run_stmt-one.ensures
+run_block-loop-on-preserved t c =
+    begun_more c.loop-on.invariant c.run_stmt-one.ensures
     (λ e. c.if-kind-eq-RBRACE.false (c.kind_at-kind.ensures ∙ e)) c.both-all.ensures
 
 pub run_branch-run_block-ok-requires : goal.run_branch-run_block-ok-requires
@@ -101,24 +101,18 @@ run_stmt-returns-then-kind_at-eq-KEY_IF t c =
     stmt_if (sym c.kind_at.ensures ∙ c.if-kind_at-eq-KEY_IF.true) c.requires.at_in_bounds c.after-second.ensures
     c.after-third.ensures c.eval_cond-cond.ensures c.after-open.ensures c.run_branch-step.ensures c.faulted.ensures
 
-pub run_stmt-assign_mod-requires-clause-fact : goal.run_stmt-assign_mod-requires-clause-fact
+pub run_stmt-assign_mod-requires-clause-no_if : goal.run_stmt-assign_mod-requires-clause-no_if
 unfolding kind_of mark_number keyword_number
-run_stmt-assign_mod-requires-clause-fact t c = λ e. c.if-kind_at-eq-KEY_IF.false (c.kind_at.ensures ∙ e)
+run_stmt-assign_mod-requires-clause-no_if t c = λ e. c.if-kind_at-eq-KEY_IF.false (c.kind_at.ensures ∙ e)
 
-pub run_stmt-after-next-requires : goal.run_stmt-after-next-requires
-unfolding kind_of mark_number keyword_number
-run_stmt-after-next-requires t c = (c.eval_plain-sum.ensures.alone c.if-sum-eq-KEY_MOD.false).to
-
-pub run_stmt-store-ok-requires-clause-near : goal.run_stmt-store-ok-requires-clause-near
-unfolding kind_of mark_number keyword_number
-run_stmt-store-ok-requires-clause-near t c =
-    let expr = c.eval_plain-sum.ensures.alone c.if-sum-eq-KEY_MOD.false in
+pub run_stmt-store-requires-clause-near : goal.run_stmt-store-requires-clause-near
+run_stmt-store-requires-clause-near t c =
+    let expr = c.in-Some.ensures in
     near_more expr.near (omega (arith, expr, c.requires.placed))
 
 pub run_stmt-returns : goal.run_stmt-returns
 unfolding kind_of mark_number keyword_number
 run_stmt-returns t c =
     stmt_assign (λ e. c.if-kind_at-eq-KEY_IF.false (c.kind_at.ensures ∙ e)) c.requires.at_in_bounds
-    c.after-second.ensures c.after-third.ensures (c.eval_plain-sum.ensures.alone c.if-sum-eq-KEY_MOD.false)
-    c.after-next.ensures (c.from-assigned.ensures ∙ c.value_at.ensures) c.store-ok.ensures
-    (λ j l. none_lack c.args.on c.store-ok.result j)
+    c.after-second.ensures c.after-third.ensures c.in-Some.ensures c.after.ensures
+    (c.from-assigned.ensures ∙ c.value_at.ensures) c.store.ensures (λ j l. none_lack c.args.on c.store.result j)

@@ -15,6 +15,6 @@ store-stored-requires c =
 
 pub returns : goal.returns
 returns c =
-    stmt_assign c.requires.fact c.requires.at_in_bounds c.after-second.ensures c.after-third.ensures
-    c.eval_expr-sum.ensures c.after-next.ensures (c.from-assigned.ensures ∙ c.value_at.ensures) c.store-stored.ensures
-    c.faulted-ok.ensures
+    stmt_assign c.requires.no_if c.requires.at_in_bounds c.after-second.ensures c.after-third.ensures
+    c.eval_expr-sum.ensures c.after.ensures (c.from-assigned.ensures ∙ c.value_at.ensures) c.store-stored.ensures
+    c.faulted.ensures

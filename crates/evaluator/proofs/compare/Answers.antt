@@ -1,70 +1,41 @@
--- `evaluator::compare` meets its contract: at each return the tests that led there choose the case of `test_of`.
-use borrow.Author.Tests.{eq-eqb, ne_eqb}
+-- `evaluator::compare` meets its contract: each arm's mark chooses the case of `test_of`.
+use native.Mathlib.Omega.{arith}
+use borrow.Author.Tests.{ne_eqb}
 use Rattle.syntax.specs.Held.Kind.{kind_of}
 use Rattle.syntax.specs.Decide.Lexeme.{mark_number, keyword_number}
 use Rattle.evaluator.specs.Promises.{test_of}
 use Rattle.evaluator.proofs.compare.Goals as goal
 
-pub returns-then-kind-eq-BELOW : goal.returns-then-kind-eq-BELOW
+pub returns-in-12 : goal.returns-in-12
 unfolding test_of kind_of mark_number keyword_number
-returns-then-kind-eq-BELOW c = λ j l. simp (c.below.ensures j l, eq-eqb _ _ c.if-kind-eq-BELOW.true)
+returns-in-12 c = λ j l. rw c.in-12.is (c.below.ensures j l)
 
-pub returns-then-kind-eq-ABOVE : goal.returns-then-kind-eq-ABOVE
+pub returns-in-14 : goal.returns-in-14
 unfolding test_of kind_of mark_number keyword_number
-returns-then-kind-eq-ABOVE c = λ j l. simp (
-  c.below-then-kind-eq-ABOVE.ensures j l,
-  ne_eqb _ _ c.if-kind-eq-BELOW.false,
-  eq-eqb _ _ c.if-kind-eq-ABOVE.true,
+returns-in-14 c = λ j l. rw c.in-14.is (c.below-in-14.ensures j l)
+
+pub returns-in-13 : goal.returns-in-13
+unfolding test_of kind_of mark_number keyword_number
+returns-in-13 c = λ j l. rw (c.in-13.is, c.other.ensures j l, c.below-in-13.ensures j l)
+
+pub returns-in-15 : goal.returns-in-15
+unfolding test_of kind_of mark_number keyword_number
+returns-in-15 c = λ j l. rw (c.in-15.is, c.other-in-15.ensures j l, c.below-in-15.ensures j l)
+
+pub returns-in-11 : goal.returns-in-11
+unfolding test_of kind_of mark_number keyword_number
+returns-in-11 c = λ j l. rw (c.in-11.is, c.union.ensures j l, c.below-in-11.ensures j l, c.below-in-11-2.ensures j l)
+
+pub returns-in_default : goal.returns-in_default
+unfolding test_of kind_of mark_number keyword_number
+returns-in_default c = λ j l. rw (
+  c.other-in_default.ensures j l,
+  c.union-in_default.ensures j l,
+  c.below-in_default.ensures j l,
+  c.below-in_default-2.ensures j l,
+  ne_eqb c.args.kind 12 (λ e. omega (arith, c.in_default, e)),
+  ne_eqb c.args.kind 14 (λ e. omega (arith, c.in_default, e)),
+  ne_eqb c.args.kind 13 (λ e. omega (arith, c.in_default, e)),
+  ne_eqb c.args.kind 15 (λ e. omega (arith, c.in_default, e)),
+  ne_eqb c.args.kind 11 (λ e. omega (arith, c.in_default, e)),
 )
-
-pub returns-then-kind-eq-AT_MOST : goal.returns-then-kind-eq-AT_MOST
-unfolding test_of kind_of mark_number keyword_number
-returns-then-kind-eq-AT_MOST c = λ j l.
-    simp (
-      c.other.ensures j l,
-      c.below-then-kind-eq-AT_MOST.ensures j l,
-      ne_eqb _ _ c.if-kind-eq-BELOW.false,
-      ne_eqb _ _ c.if-kind-eq-ABOVE.false,
-      eq-eqb _ _ c.if-kind-eq-AT_MOST.true,
-    )
-
-pub returns-then-kind-eq-AT_LEAST : goal.returns-then-kind-eq-AT_LEAST
-unfolding test_of kind_of mark_number keyword_number
-returns-then-kind-eq-AT_LEAST c = λ j l.
-    simp (
-      c.other-then-kind-eq-AT_LEAST.ensures j l,
-      c.below-then-kind-eq-AT_LEAST.ensures j l,
-      ne_eqb _ _ c.if-kind-eq-BELOW.false,
-      ne_eqb _ _ c.if-kind-eq-ABOVE.false,
-      ne_eqb _ _ c.if-kind-eq-AT_MOST.false,
-      eq-eqb _ _ c.if-kind-eq-AT_LEAST.true,
-    )
-
-pub returns-then-kind-eq-DIFFERS : goal.returns-then-kind-eq-DIFFERS
-unfolding test_of kind_of mark_number keyword_number
-returns-then-kind-eq-DIFFERS c = λ j l.
-    simp (
-      c.union-differ.ensures j l,
-      c.below-3.ensures j l,
-      c.below-2.ensures j l,
-      ne_eqb _ _ c.if-kind-eq-BELOW.false,
-      ne_eqb _ _ c.if-kind-eq-ABOVE.false,
-      ne_eqb _ _ c.if-kind-eq-AT_MOST.false,
-      ne_eqb _ _ c.if-kind-eq-AT_LEAST.false,
-      eq-eqb _ _ c.if-kind-eq-DIFFERS.true,
-    )
-
-pub returns : goal.returns
-unfolding test_of kind_of mark_number keyword_number
-returns c = λ j l.
-    simp (
-      c.other-2.ensures j l,
-      c.union-differ.ensures j l,
-      c.below-3.ensures j l,
-      c.below-2.ensures j l,
-      ne_eqb _ _ c.if-kind-eq-BELOW.false,
-      ne_eqb _ _ c.if-kind-eq-ABOVE.false,
-      ne_eqb _ _ c.if-kind-eq-AT_MOST.false,
-      ne_eqb _ _ c.if-kind-eq-AT_LEAST.false,
-      ne_eqb _ _ c.if-kind-eq-DIFFERS.false,
-    )

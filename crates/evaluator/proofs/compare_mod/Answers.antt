@@ -4,5 +4,5 @@ use Rattle.evaluator.proofs.compare_mod.Goals as goal
 
 pub returns : goal.returns
 returns c =
-    compare_reads c.eval_expr-one.ensures c.kind_at-kind.ensures c.after-next.ensures
-    c.eval_expr-two.ensures c.compare_each-holds.ensures c.union.ensures
+    compare_reads c.eval_expr-one.ensures c.kind_at-kind.ensures c.after.ensures
+    c.eval_expr-two.ensures c.compare.ensures c.union.ensures

@@ -10,44 +10,35 @@ use Rattle.syntax.specs.Tree.{sign_mark}
 use Rattle.evaluator.specs.Promises.{sign_of}
 use Rattle.evaluator.proofs.Readings.{past_sign, open_first, open_last, open_more}
 use Rattle.evaluator.proofs.eval_expr.Goals as goal
-use Rattle.evaluator.proofs.eval_expr.Goals.{then-kind-eq-PLUS, else-kind-eq-PLUS+then-kind-eq-MINUS, Joined-kind-eq-PLUS}
+use Rattle.evaluator.proofs.eval_expr.Goals.{in-16, in-17, Joined-kind_at}
+
+pub loop-sum-init : goal.loop-sum-init
+loop-sum-init = λ c. open_first c.requires.within
 
 pub eval_term-sum-requires : goal.eval_term-sum-requires
 eval_term-sum-requires c =
-    let inv = c.loop-lacks.invariant in
+    let inv = c.loop-sum.invariant in
     record { placed = record { within = inv.to; short = c.requires.short }; near = inv.near }
 
-pub returns-else-kind-eq-MINUS : goal.returns-else-kind-eq-MINUS
+pub returns-in_default : goal.returns-in_default
 unfolding kind_of mark_number keyword_number
-returns-else-kind-eq-MINUS c =
-    open_last c.loop-lacks.invariant c.eval_term-sum.ensures
-    (λ e. c.if-kind-eq-PLUS.false (c.kind_at-kind.ensures ∙ e))
-    (λ e. c.if-kind-eq-MINUS.false (c.kind_at-kind.ensures ∙ e))
+returns-in_default c =
+    open_last c.loop-sum.invariant c.eval_term-sum.ensures (λ e. omega (arith, c.in_default, c.kind_at.ensures, e))
+    (λ e. omega (arith, c.in_default, c.kind_at.ensures, e))
 
 -- the sign behind a term
-sign : (c : Joined-kind-eq-PLUS)
-    → get_or c.args.kinds.now
-    c.eval_term-sum.result.next no_kind ≡ kind_of (mark (sign_mark (sign_of c.if-kind-eq-PLUS.taken)))
+sign : (c : Joined-kind_at)
+    → get_or c.args.text.now.kinds.now
+    c.eval_term-sum.result.next no_kind ≡ kind_of (mark (sign_mark (sign_of c.match-kind_at.taken)))
 unfolding mark_number sign_mark sign_of kind_of keyword_number
 sign c =
-    sym c.kind_at-kind.ensures
-    ∙ elim c.if-kind-eq-PLUS.branch [
-      | then-kind-eq-PLUS w ↦ rw w.taken-is w.if-kind-eq-PLUS.true
-      | else-kind-eq-PLUS+then-kind-eq-MINUS w ↦ rw w.taken-is w.if-kind-eq-MINUS.true
+    sym c.kind_at.ensures
+    ∙ elim c.match-kind_at.branch [
+      | in-16 w ↦ rw w.taken-is w.in-16.is
+      | in-17 w ↦ rw w.taken-is w.in-17.is
     ]
 
-pub loop-lacks-smaller : goal.loop-lacks-smaller
-loop-lacks-smaller c =
-    omega (
-      arith,
-      past_sign (sign_of c.if-kind-eq-PLUS.taken) c.after-place.ensures (sign (goal.at.loop-lacks-smaller c).Joined-kind-eq-PLUS),
-      c.eval_term-sum.ensures,
-    )
-
-pub loop-lacks-preserved : goal.loop-lacks-preserved
-loop-lacks-preserved c =
-    open_more c.loop-lacks.invariant c.eval_term-sum.ensures c.if-kind-eq-PLUS.taken (sign (goal.at.loop-lacks-preserved c).Joined-kind-eq-PLUS)
+pub loop-sum-preserved : goal.loop-sum-preserved
+loop-sum-preserved c =
+    open_more c.loop-sum.invariant c.eval_term-sum.ensures c.match-kind_at.taken (sign (goal.at.loop-sum-preserved c).Joined-kind_at)
     c.after-place.ensures
-
-pub loop-lacks-init : goal.loop-lacks-init
-loop-lacks-init = λ c. open_first c.requires.within

@@ -2,58 +2,57 @@
 -- measure is the count of tokens left: a sign is one, so it falls.
 use native.Mathlib.Omega.{arith}
 use mathlib.Core.Path.{◌≡◌, sym, ◌∙◌}
-use Rattle.syntax.specs.Held.Kind.{kind_of}
+use lib.ListN.{get_or}
+use Rattle.syntax.specs.Held.Kind.{kind_of, no_kind}
 use Rattle.syntax.specs.Decide.Lexeme.{mark_number, keyword_number}
 use Rattle.syntax.specs.Token.{mark}
 use Rattle.syntax.specs.Tree.{sign_mark}
 use Rattle.evaluator.specs.Promises.{sign_of}
 use Rattle.evaluator.proofs.Readings.{past_sign, sign_no_mod, open_first, open_last, open_more}
 use Rattle.evaluator.proofs.eval_plain.Goals as goal
-use Rattle.evaluator.proofs.eval_plain.Goals.{then-kind-eq-PLUS, else-kind-eq-PLUS+then-kind-eq-MINUS, Joined-kind-eq-PLUS}
+use Rattle.evaluator.proofs.eval_plain.Goals.{in-16, in-17, Joined-kind_at}
+
+pub loop-taken-init : goal.loop-taken-init
+loop-taken-init = λ c. open_first c.requires.within
 
 pub eval_atom-sum-requires : goal.eval_atom-sum-requires
 eval_atom-sum-requires c =
     let inv = c.loop-taken.invariant in
     record { placed = record { within = inv.to; short = c.requires.short }; near = inv.near }
 
-pub returns-else-kind-eq-MINUS : goal.returns-else-kind-eq-MINUS
+pub returns-in_default : goal.returns-in_default
 unfolding kind_of mark_number keyword_number
-returns-else-kind-eq-MINUS c =
-    let atom = c.eval_atom-sum.ensures in
-    record {
-      kind = atom.kind;
-      alone = λ no_mod.
-          open_last c.loop-taken.invariant (atom.alone no_mod) (λ e. c.if-kind-eq-PLUS.false (atom.kind ∙ e))
-          (λ e. c.if-kind-eq-MINUS.false (atom.kind ∙ e));
-    }
+returns-in_default c =
+    open_last c.loop-taken.invariant (c.eval_atom-sum.ensures (λ e. omega (arith, c.in_default, c.kind_at.ensures, e)))
+    (λ e. omega (arith, c.in_default, c.kind_at.ensures, e)) (λ e. omega (arith, c.in_default, c.kind_at.ensures, e))
 
 -- the sign behind an atom, which is then alone
-sign : (c : Joined-kind-eq-PLUS)
-    → c.eval_atom-sum.result.kind ≡ kind_of (mark (sign_mark (sign_of c.if-kind-eq-PLUS.taken)))
+sign : (c : Joined-kind_at)
+    → get_or c.args.text.now.kinds.now
+    c.eval_atom-sum.result.next no_kind ≡ kind_of (mark (sign_mark (sign_of c.match-kind_at.taken)))
 unfolding mark_number sign_mark sign_of kind_of keyword_number
-sign c = elim c.if-kind-eq-PLUS.branch [
-  | then-kind-eq-PLUS w ↦ rw w.taken-is w.if-kind-eq-PLUS.true
-  | else-kind-eq-PLUS+then-kind-eq-MINUS w ↦ rw w.taken-is w.if-kind-eq-MINUS.true
-]
+sign c =
+    sym c.kind_at.ensures
+    ∙ elim c.match-kind_at.branch [
+      | in-16 w ↦ rw w.taken-is w.in-16.is
+      | in-17 w ↦ rw w.taken-is w.in-17.is
+    ]
 
 pub after-place-requires : goal.after-place-requires
 after-place-requires c =
-    (c.eval_atom-sum.ensures.alone (sign_no_mod (sign_of c.if-kind-eq-PLUS.taken) (sign (goal.at.after-place-requires c).Joined-kind-eq-PLUS))).to
+    (c.eval_atom-sum.ensures (sign_no_mod (sign_of c.match-kind_at.taken) (sign (goal.at.after-place-requires c).Joined-kind_at))).to
 
 pub loop-taken-smaller : goal.loop-taken-smaller
 loop-taken-smaller c =
-    let atom = c.eval_atom-sum.ensures in
+    let s = sign (goal.at.loop-taken-smaller c).Joined-kind_at in
     omega (
       arith,
-      past_sign (sign_of c.if-kind-eq-PLUS.taken) c.after-place.ensures (sym atom.kind ∙ sign (goal.at.loop-taken-smaller c).Joined-kind-eq-PLUS),
-      atom.alone (sign_no_mod (sign_of c.if-kind-eq-PLUS.taken) (sign (goal.at.loop-taken-smaller c).Joined-kind-eq-PLUS)),
+      past_sign (sign_of c.match-kind_at.taken) c.after-place.ensures s,
+      c.eval_atom-sum.ensures (sign_no_mod (sign_of c.match-kind_at.taken) s),
     )
 
 pub loop-taken-preserved : goal.loop-taken-preserved
 loop-taken-preserved c =
-    let atom = c.eval_atom-sum.ensures in
-    open_more c.loop-taken.invariant (atom.alone (sign_no_mod (sign_of c.if-kind-eq-PLUS.taken) (sign (goal.at.loop-taken-preserved c).Joined-kind-eq-PLUS)))
-    c.if-kind-eq-PLUS.taken (sym atom.kind ∙ sign (goal.at.loop-taken-preserved c).Joined-kind-eq-PLUS) c.after-place.ensures
-
-pub loop-taken-init : goal.loop-taken-init
-loop-taken-init = λ c. open_first c.requires.within
+    let s = sign (goal.at.loop-taken-preserved c).Joined-kind_at in
+    open_more c.loop-taken.invariant (c.eval_atom-sum.ensures (sign_no_mod (sign_of c.match-kind_at.taken) s))
+    c.match-kind_at.taken s c.after-place.ensures

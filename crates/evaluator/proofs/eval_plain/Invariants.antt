@@ -5,7 +5,7 @@ use Rattle.evaluator.proofs.eval_plain.Given as goal
 
 abbrev pub invariant-loop-taken : goal.invariant-loop-taken
 invariant-loop-taken l =
-    Open l.kinds l.values l.vars l.at l.lanes 0 l.taken l.place
+    Open l.text.kinds.now l.text.values.now l.vars l.at l.lanes 0 l.taken l.place
 
 abbrev pub decreases-loop-taken : goal.decreases-loop-taken
-decreases-loop-taken l = length l.kinds - l.place
+decreases-loop-taken l = length l.text.kinds.now - l.place

@@ -19,4 +19,4 @@ returns-then-kinds-at c = λ vs as' ls us b j l codes biased ranges e short.
 pub returns : goal.returns
 returns c = λ vs as' ls us b j l codes biased ranges e short.
     let ran = c.run_block-lanes.ensures.runs j l vs as' ls us b codes biased ranges e in
-    rw (c.mask-ok.ensures j l) (rw (get_or-replicate 16 j true false l) at ran)
+    rw (c.mask.ensures j l) (rw (get_or-replicate 16 j true false l) at ran)

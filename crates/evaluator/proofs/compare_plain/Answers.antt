@@ -1,0 +1,9 @@
+-- `evaluator::compare_plain` meets its contract: two expressions with a mark between, neither of which has a `mod`.
+use Rattle.sets.proofs.SetLaws.{member_none}
+use Rattle.evaluator.proofs.Readings.{compare_reads}
+use Rattle.evaluator.proofs.compare_plain.Goals as goal
+
+pub returns : goal.returns
+returns c =
+    compare_reads c.in_ok-one.ensures c.kind_at.ensures c.after.ensures c.in_ok-two.ensures
+    c.compare.ensures (λ u. rw (member_none u))
