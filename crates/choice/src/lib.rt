@@ -58,16 +58,16 @@ fn binds(
     ensures { result
         ≡ binds_by keep.now holds.now tried.now guard set s to }
 {
-    if misses(states::number_at(tried, s), set) {
+    if misses(states::at(tried, s, 0), set) {
         return false;
     }
-    if states::byte_at(keep, s) != 1 {
+    if states::at(keep, s, 0) != 1 {
         return false;
     }
     if machine::STATE_END <= to {
         return false;
     }
-    sets::has(states::number_at(holds, s), guard as u32)
+    sets::has(states::at(holds, s, 0), guard as u32)
 }
 
 // Try i is dropped, in a pass, by a region from a state.
@@ -120,9 +120,9 @@ fn drop_row(
 {
     let mut choice = before;
     for s in 0..states {
-        let to = states::number_at(row, s);
+        let to = states::at(row, s, 0);
         if binds(keep, holds, tried, guard, set, s, to) {
-            let lost = sets::minus(choice.chosen, states::number_at(tried, to));
+            let lost = sets::minus(choice.chosen, states::at(tried, to, 0));
             if lost != 0 {
                 choice = drop_all(choice, lost, pass, region, s);
             }
@@ -186,7 +186,7 @@ pub fn choose(
     ensures { (m : Monitor) → Tried m states guard_of regions start tries keep.now
         holds.now after.now tried.now → Chooses m result }
 {
-    let mut choice = undropped(sets::below(states::number_at(tried, start), tries));
+    let mut choice = undropped(sets::below(states::at(tried, start, 0), tries));
     if machine::STATE_END < states {
         return choice;
     }
@@ -234,7 +234,7 @@ pub fn strengthen(kept: &mut [u8], tried: &[u16], chosen: u16, states: StateNumb
         return;
     }
     for s in 0..states {
-        if misses(states::number_at(tried, s), chosen) {
+        if misses(states::at(tried, s, 0), chosen) {
             kept[s as usize] = 0;
         }
     }

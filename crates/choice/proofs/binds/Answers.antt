@@ -15,7 +15,7 @@ missing : (c : After-misses) →
     c.misses.result ≡ lacks (get_or a.tried.now a.s 0) a.set
 missing c =
     let a = c.args in
-    c.misses.ensures ∙ ap (λ (x : ℕ). lacks x a.set) c.number_at.ensures
+    c.misses.ensures ∙ ap (λ (x : ℕ). lacks x a.set) c.at.ensures
 
 pub returns-then-misses : goal.returns-then-misses
 returns-then-misses c =
@@ -23,11 +23,11 @@ returns-then-misses c =
     sym (unbound_set a.keep.now a.holds.now a.tried.now a.guard a.set a.s a.to
     (sym (missing (goal.at.returns-then-misses c).After-misses) ∙ c.if-misses.true))
 
-pub returns-then-byte_at-ne1 : goal.returns-then-byte_at-ne1
-returns-then-byte_at-ne1 c =
+pub returns-then-at-ne1 : goal.returns-then-at-ne1
+returns-then-at-ne1 c =
     let a = c.args in
     sym (unbound_keep a.keep.now a.holds.now a.tried.now a.guard a.set a.s a.to
-    (ne_eqb _ 1 (λ e. c.if-byte_at-ne1.true (c.byte_at.ensures ∙ e))))
+    (ne_eqb _ 1 (λ e. c.if-at-ne1.true (c.at-2.ensures ∙ e))))
 
 pub returns-then-to-ge-STATE_END : goal.returns-then-to-ge-STATE_END
 returns-then-to-ge-STATE_END c =
@@ -38,7 +38,7 @@ returns-then-to-ge-STATE_END c =
 pub returns : goal.returns
 returns c =
     let a = c.args in
-    c.has.ensures ∙ ap (λ (x : ℕ). member x a.guard) c.number_at-2.ensures
+    c.has.ensures ∙ ap (λ (x : ℕ). member x a.guard) c.at-3.ensures
     ∙ sym (bound a.keep.now a.holds.now a.tried.now a.guard a.set a.s a.to
     (sym (missing (goal.at.returns c).After-misses) ∙ c.if-misses.false)
-    (eq-eqb _ 1 (sym c.byte_at.ensures ∙ c.if-byte_at-ne1.false)) (lt-ltb a.to 4096 c.if-to-ge-STATE_END.false))
+    (eq-eqb _ 1 (sym c.at-2.ensures ∙ c.if-at-ne1.false)) (lt-ltb a.to 4096 c.if-to-ge-STATE_END.false))

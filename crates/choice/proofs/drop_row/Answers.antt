@@ -18,20 +18,20 @@ unfolding slot_of
 loop-s-preserved c =
     let i = c.loop-s in
     let a = c.args in
-    let to = c.number_at-to in (
+    let to = c.at-to in (
       omega arith,
       λ u low. elim c.if-binds.branch [
         | then-binds+then-lost-ne0 w ↦
             next_slot i.s _ a.pass a.region _ (slot_of i.choice u) _ (member w.minus-lost.result u) (i.invariant.1 u low)
             (broken_bit a.row.now a.keep.now a.holds.now a.tried.now a.guard a.set u i.s
-            to.result to.ensures i.choice.chosen w.number_at.result w.minus-lost.result
-            (sym c.binds.ensures ∙ w.if-binds.true) w.number_at.ensures (w.minus-lost.ensures u))
+            to.result to.ensures i.choice.chosen w.at.result w.minus-lost.result
+            (sym c.binds.ensures ∙ w.if-binds.true) w.at.ensures (w.minus-lost.ensures u))
             (rw w.choice-is (w.drop_all-choice.ensures u low))
         | then-binds+else-lost-ne0 w ↦
             next_slot i.s _ a.pass a.region _ (slot_of i.choice u) _ false (i.invariant.1 u low)
             (broken_bit a.row.now a.keep.now a.holds.now a.tried.now a.guard a.set u i.s
-            to.result to.ensures i.choice.chosen w.number_at.result w.minus-lost.result
-            (sym c.binds.ensures ∙ w.if-binds.true) w.number_at.ensures (w.minus-lost.ensures u)
+            to.result to.ensures i.choice.chosen w.at.result w.minus-lost.result
+            (sym c.binds.ensures ∙ w.if-binds.true) w.at.ensures (w.minus-lost.ensures u)
             ∙ ap (λ (x : ℕ). member x u) w.if-lost-ne0.false ∙ member_none u)
             (rw w.choice-is (sym (mark_off _ _ _ _ refl)))
         | else-binds w ↦
