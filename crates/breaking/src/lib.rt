@@ -19,7 +19,7 @@ use variables::Bounds;
 fn fails(kept: &[u8], to: StateNumber) -> bool
     ensures { result ≡ fails_by kept.now to }
 {
-    to == states::FAULT || states::byte_at(kept, to) != 1
+    to == states::FAULT || states::at(kept, to, 0) != 1
 }
 
 // Does a region break at a state, by what is held of that state (`here`, `held`) and the outcome of its body?

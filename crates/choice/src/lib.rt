@@ -45,31 +45,6 @@ fn misses(set: u16, other: u16) -> bool
     sets::minus(other, set) != 0
 }
 
-// While a set of tries stands: do keep, the set and a guard hold at a state, from which the body stays in range?
-fn binds(
-    keep: &[u8],
-    holds: &[u16],
-    tried: &[u16],
-    guard: u8,
-    set: u16,
-    s: StateNumber,
-    to: StateNumber,
-) -> bool
-    ensures { result
-        ≡ binds_by keep.now holds.now tried.now guard set s to }
-{
-    if misses(states::number_at(tried, s), set) {
-        return false;
-    }
-    if states::byte_at(keep, s) != 1 {
-        return false;
-    }
-    if machine::STATE_END <= to {
-        return false;
-    }
-    sets::has(states::number_at(holds, s), guard as u32)
-}
-
 // Try i is dropped, in a pass, by a region from a state.
 fn mark(choice: Choice, i: usize, pass: u8, region: u8, state: StateNumber) -> Choice
     ensures { (u : ℕ) → u < most_tries
@@ -100,74 +75,87 @@ fn drop_all(choice: Choice, lost: u16, pass: u8, region: u8, state: StateNumber)
     next
 }
 
-// The states of one region, by the outcomes of its body: each try that it breaks while a set stands is dropped.
-fn drop_row(
-    row: &[StateNumber],
-    states: StateNumber,
-    guard: u8,
-    keep: &[u8],
-    holds: &[u16],
-    tried: &[u16],
-    set: u16,
-    pass: u8,
-    region: u8,
-    before: Choice,
-) -> Choice
-    ensures { (u : ℕ) → u < most_tries
-        → slot_of result u ≡ row_slot states
-        (breaks_row row.now guard keep.now holds.now tried.now set u) pass region
-        (slot_of before u) }
-{
-    let mut choice = before;
-    for s in 0..states {
-        let to = states::number_at(row, s);
-        if binds(keep, holds, tried, guard, set, s, to) {
-            let lost = sets::minus(choice.chosen, states::number_at(tried, to));
-            if lost != 0 {
-                choice = drop_all(choice, lost, pass, region, s);
-            }
-        }
-    }
-    choice
+// What holds at each state: keep, as 1 or 0, and of the guards and of the tries those that hold, as sets.
+#[derive(Clone, Copy)]
+struct Truths<'a> {
+    keep: &'a [u8],
+    holds: &'a [u16],
+    tried: &'a [u16],
 }
 
-// One pass over all regions.
-fn drop_pass(
-    after: &[StateNumber],
-    states: StateNumber,
-    guard_of: [u8; machine::REGIONS],
-    regions: usize,
-    keep: &[u8],
-    holds: &[u16],
-    tried: &[u16],
-    set: u16,
-    pass: u8,
-    before: Choice,
-) -> Choice
-    requires { (states ≤ most_states) × (regions ≤ most_regions) × (most_after ≤ length after.now) }
-    ensures { (u : ℕ) → u < most_tries
-        → slot_of result u ≡ rows_slot regions states
-        (breaks_by after.now guard_of keep.now holds.now tried.now set u) pass
-        (slot_of before u) }
-{
-    let mut choice = before;
-    for r in 0..regions {
-        let from = r * machine::STATES;
-        let to = from + machine::STATES;
-        choice = drop_row(
-            &after[from..to],
-            states,
-            guard_of[r],
-            keep,
-            holds,
-            tried,
-            set,
-            pass,
-            r as u8,
-            choice,
-        );
+impl Truths<'_> {
+    // While a set of tries stands: do keep, the set and a guard hold at a state, from which the body stays in range?
+    fn binds(self, guard: u8, set: u16, s: StateNumber, to: StateNumber) -> bool
+        ensures { result
+            ≡ binds_by self.entry.keep.now self.entry.holds.now self.entry.tried.now guard set s to }
+    {
+        if misses(states::at(self.tried, s, 0), set) {
+            return false;
+        }
+        if states::at(self.keep, s, 0) != 1 {
+            return false;
+        }
+        if machine::STATE_END <= to {
+            return false;
+        }
+        sets::has(states::at(self.holds, s, 0), guard as u32)
     }
-    choice
+
+    // The states of one region, by the outcomes of its body: each try that it breaks while a set stands is dropped.
+    fn drop_row(
+        self,
+        row: &[StateNumber],
+        states: StateNumber,
+        guard: u8,
+        set: u16,
+        pass: u8,
+        region: u8,
+        before: Choice,
+    ) -> Choice
+        ensures { (u : ℕ) → u < most_tries
+            → slot_of result u ≡ row_slot states
+            (breaks_row row.now guard self.entry.keep.now self.entry.holds.now self.entry.tried.now set u) pass region
+            (slot_of before u) }
+    {
+        let mut choice = before;
+        for s in 0..states {
+            let to = states::at(row, s, 0);
+            if self.binds(guard, set, s, to) {
+                let lost = sets::minus(choice.chosen, states::at(self.tried, to, 0));
+                if lost != 0 {
+                    choice = drop_all(choice, lost, pass, region, s);
+                }
+            }
+        }
+        choice
+    }
+
+    // One pass over all regions.
+    fn drop_pass(
+        self,
+        after: &[StateNumber],
+        states: StateNumber,
+        guard_of: [u8; machine::REGIONS],
+        regions: usize,
+        set: u16,
+        pass: u8,
+        before: Choice,
+    ) -> Choice
+        requires { (states ≤ most_states) × (regions ≤ most_regions) × (most_after ≤ length after.now) }
+        ensures { (u : ℕ) → u < most_tries
+            → slot_of result u ≡ rows_slot regions states
+            (breaks_by after.now guard_of self.entry.keep.now self.entry.holds.now self.entry.tried.now set u) pass
+            (slot_of before u) }
+    {
+        let mut choice = before;
+        for r in 0..regions {
+            let from = r * machine::STATES;
+            let to = from + machine::STATES;
+            let row = &after[from..to];
+            choice = self.drop_row(row, states, guard_of[r], set, pass, r as u8, choice);
+        }
+        choice
+    }
 }
 
 // The choice among so many tries, of which those that hold at each state are held in `tried`: `start` is the state at
@@ -186,7 +174,8 @@ pub fn choose(
     ensures { (m : Monitor) → Tried m states guard_of regions start tries keep.now
         holds.now after.now tried.now → Chooses m result }
 {
-    let mut choice = undropped(sets::below(states::number_at(tried, start), tries));
+    let truths = Truths { keep, holds, tried };
+    let mut choice = undropped(sets::below(states::at(tried, start, 0), tries));
     if machine::STATE_END < states {
         return choice;
     }
@@ -201,18 +190,7 @@ pub fn choose(
     }
     for k in 0..tries {
         let set = choice.chosen;
-        let next = drop_pass(
-            after,
-            states,
-            guard_of,
-            regions,
-            keep,
-            holds,
-            tried,
-            set,
-            (k + 1) as u8,
-            choice,
-        );
+        let next = truths.drop_pass(after, states, guard_of, regions, set, (k + 1) as u8, choice);
         if next.chosen == set {
             return choice;
         }
@@ -234,7 +212,7 @@ pub fn strengthen(kept: &mut [u8], tried: &[u16], chosen: u16, states: StateNumb
         return;
     }
     for s in 0..states {
-        if misses(states::number_at(tried, s), chosen) {
+        if misses(states::at(tried, s, 0), chosen) {
             kept[s as usize] = 0;
         }
     }

@@ -15,4 +15,4 @@ pub returns-else-to-eq-FAULT : goal.returns-else-to-eq-FAULT
 unfolding fails_by
 returns-else-to-eq-FAULT c =
     rw (ne_eqb c.args.to 4096 c.if-to-eq-FAULT.false)
-    (ap (λ (n : ℕ). not (eqb n 1)) c.byte_at.ensures)
+    (ap (λ (n : ℕ). not (eqb n 1)) c.at.ensures)

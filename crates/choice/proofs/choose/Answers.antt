@@ -27,7 +27,7 @@ loop-k-init c =
       omega (arith, c.undropped-choice.ensures.0),
       λ m held. stage_first m held c.below.result c.undropped-choice.result
           (λ u low. c.below.ensures u low
-          ∙ ap (λ (x : ℕ). member x u && ltb u a.tries) c.number_at.ensures) c.undropped-choice.ensures.1,
+          ∙ ap (λ (x : ℕ). member x u && ltb u a.tries) c.at.ensures) c.undropped-choice.ensures.1,
     )
 
 pub returns-then-next-set : goal.returns-then-next-set

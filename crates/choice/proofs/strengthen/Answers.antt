@@ -38,7 +38,7 @@ lacking : (m : After-misses) →
     m.misses.result ≡ lacks (get_or a.tried.now i.s 0) a.chosen
 lacking m =
     let a = m.args in
-    m.misses.ensures ∙ ap (λ (x : ℕ). lacks x a.chosen) m.number_at.ensures
+    m.misses.ensures ∙ ap (λ (x : ℕ). lacks x a.chosen) m.at.ensures
 
 -- a turn changes state s alone
 others : (c : Joined-misses) →
