@@ -13,5 +13,5 @@ returns-then-not-past_15 c =
 
 pub returns : goal.returns
 returns c =
-    number_told (c.load-loaded.ensures.loads (long 4096 0) (long 4096 0) (long 65536 0)) _ _ c.number_in.ensures.answer_value
+    number_told (c.load-loaded.ensures.loads (long 4096 0) (long 4096 0) (long 65536 0)) _ _ c.number_in.ensures.verdict
     (sym c.past_15.ensures ∙ c.if-not-past_15.false) c.number_in.ensures.number_is

@@ -30,8 +30,8 @@ returns-in-Bad c kept holds after loads =
 pub returns-in-Tokens : goal.returns-in-Tokens
 returns-in-Tokens c kept holds after loads =
     let t = scanned_tokens c.scan.ensures c.in-Tokens.n c.in-Tokens.is in
-    outline_told loads _ c.outline_of.ensures.answer_value (sym c.past_15.ensures ∙ c.if-not-past_15.false)
-    t.3 c.outline_of.ensures.by_index
+    outline_told loads _ c.outline_of.ensures.verdict (sym c.past_15.ensures ∙ c.if-not-past_15.false)
+    t.3 c.outline_of.ensures.outlines
 
 pub slice_bounds-kinds-end : goal.slice_bounds-kinds-end
 slice_bounds-kinds-end = λ c. (scanned_counted c.scan.ensures c.in-Tokens.n c.in-Tokens.is).in_kinds.room

@@ -13,5 +13,5 @@ returns-then-not-past_8 c =
 
 pub returns : goal.returns
 returns c =
-    state_told (c.load-loaded.ensures.loads (long 4096 0) (long 4096 0) (long 65536 0)) _ _ c.state_of.ensures.answer_value
+    state_told (c.load-loaded.ensures.loads (long 4096 0) (long 4096 0) (long 65536 0)) _ _ c.state_of.ensures.verdict
     (sym c.past_8.ensures ∙ c.if-not-past_8.false) c.state_of.ensures.state_is
