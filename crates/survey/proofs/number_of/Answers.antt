@@ -1,7 +1,5 @@
 -- `survey::number_of` meets its contract, by the verdict of what was loaded.
 use mathlib.Core.Path.{sym, ◌∙◌}
-use borrow.Author.Tests.{not-false}
-use Rattle.logic.proofs.Bools.{not_true}
 use Rattle.logic.proofs.Lists.{long}
 use Rattle.survey.proofs.Passed.{number_untold, number_told}
 use Rattle.survey.proofs.number_of.Goals as goal

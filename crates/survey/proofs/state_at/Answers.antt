@@ -1,7 +1,5 @@
 -- `survey::state_at` meets its contract, by the verdict of what was loaded.
 use mathlib.Core.Path.{sym, ◌∙◌}
-use borrow.Author.Tests.{not-false}
-use Rattle.logic.proofs.Bools.{not_true}
 use Rattle.logic.proofs.Lists.{long}
 use Rattle.survey.proofs.Passed.{state_untold, state_told}
 use Rattle.survey.proofs.state_at.Goals as goal
