@@ -1,2 +1,3 @@
+pub mod FromFn
 pub mod Moving
 pub mod Ranges

@@ -15,11 +15,13 @@ ghost use Rattle.lookup.specs.Slices.{move_by, move_in, Within, slot_of, Trimmed
 use answers::Answer;
 use layout::Layout;
 use machine::StateNumber;
+use std::array;
 use variables::Bounds;
 
 // The verdict of a file, and a state of it: whether there is one with the number, whether the kept condition holds there,
 // the values of its variables, each with 128 added, the guards that hold there, and for each region the state after its
 // body.
+// Stays (interface): C reads `known` beside the values, and what a body does as a number in `after`.
 #[repr(C)]
 #[derive(Clone, Copy)]
 pub struct State {
@@ -33,6 +35,7 @@ pub struct State {
 }
 
 // The verdict of a file, and the number of a state of it, where the values are a state's.
+// Stays (interface): C reads `known` beside the number.
 #[repr(C)]
 #[derive(Clone, Copy)]
 pub struct Numbered {
@@ -51,13 +54,13 @@ pub fn no_state(answer: Answer) -> State
     ensures { (result.answer ≡ answer) × NoState result }
 {
     State {
-        answer: answer,
+        answer,
         known: false,
         kept: false,
         vars: 0,
-        values: [0u16; syntax::VARIABLES],
+        values: [0; syntax::VARIABLES],
         holds: 0,
-        after: [0u16; machine::REGIONS],
+        after: [0; machine::REGIONS],
     }
 }
 
@@ -68,7 +71,7 @@ fn move_by(kept: bool, holds: u16, guard: u8, to: StateNumber) -> u16
     if !kept {
         return NEVER;
     }
-    if !sets::has(holds, guard as u32) {
+    if !sets::has(holds, u32::from(guard)) {
         return NEVER;
     }
     if to == machine::STATE_END { FAULTS } else { to }
@@ -93,7 +96,7 @@ fn move_at(
         kept,
         holds,
         layout.guard_of[r],
-        after[r * machine::STATES + number as usize],
+        after[r * machine::STATES + usize::from(number)],
     )
 }
 
@@ -109,13 +112,7 @@ fn moves(
     ensures { (r : ℕ) → r < most_regions
         → get_or result r 0 ≡ move_in layout.regions layout.guard_of kept holds after.now number r }
 {
-    let mut found = [0u16; machine::REGIONS];
-    let mut r: usize = 0;
-    while r < machine::REGIONS {
-        found[r] = move_at(layout, kept, holds, after, number, r);
-        r += 1;
-    }
-    found
+    array::from_fn(|r| move_at(layout, kept, holds, after, number, r))
 }
 
 // The state with a number, from what was loaded of a file.
@@ -128,21 +125,18 @@ pub fn state_of(
     after: &[StateNumber; machine::AFTER],
     number: usize,
 ) -> State
-    ensures answer_value { result.answer ≡ answer }
+    ensures verdict { result.answer ≡ answer }
     ensures state_is { (m : Monitor) → Looked m bounds layout kept.now holds.now after.now
         → StateIs m number result }
 {
-    if machine::STATES <= number {
+    if number >= machine::STATES || number >= usize::from(bounds.states) {
         return no_state(answer);
     }
     let s = number as StateNumber;
-    if bounds.states <= s {
-        return no_state(answer);
-    }
     let is_kept = kept[number] == 1;
     let holding = sets::below(holds[number], layout.guards);
     State {
-        answer: answer,
+        answer,
         known: true,
         kept: is_kept,
         vars: bounds.count,
@@ -156,18 +150,13 @@ pub fn state_of(
 fn within(bounds: Bounds, values: [u16; syntax::VARIABLES]) -> bool
     ensures { (vs : List Var) → Bounded vs bounds → Within vs values result }
 {
-    let mut k: usize = 0;
-    while k < syntax::VARIABLES {
-        if bounds.count <= k {
-            return true;
-        }
+    for k in 0..bounds.count.min(syntax::VARIABLES) {
         if values[k] < bounds.lows[k] {
             return false;
         }
         if bounds.highs[k] < values[k] {
             return false;
         }
-        k += 1;
     }
     true
 }
@@ -183,13 +172,7 @@ fn slot(values: [u16; syntax::VARIABLES], n: usize, k: usize) -> u16
 fn trimmed(values: [u16; syntax::VARIABLES], n: usize) -> [u16; syntax::VARIABLES]
     ensures { Trimmed n values result }
 {
-    let mut held = [0u16; syntax::VARIABLES];
-    let mut k: usize = 0;
-    while k < syntax::VARIABLES {
-        held[k] = slot(values, n, k);
-        k += 1;
-    }
-    held
+    array::from_fn(|k| slot(values, n, k))
 }
 
 // A file that is refused, or values that are no state's.
@@ -197,7 +180,7 @@ pub fn no_number(answer: Answer) -> Numbered
     ensures { (result.answer ≡ answer) × NoNumber result }
 {
     Numbered {
-        answer: answer,
+        answer,
         known: false,
         number: 0,
     }
@@ -205,7 +188,7 @@ pub fn no_number(answer: Answer) -> Numbered
 
 // The number of the state with some values, each with 128 added.
 pub fn number_in(bounds: Bounds, answer: Answer, values: [u16; syntax::VARIABLES]) -> Numbered
-    ensures answer_value { result.answer ≡ answer }
+    ensures verdict { result.answer ≡ answer }
     ensures number_is { (vs : List Var) → Bounded vs bounds → NumberIs vs values result }
 {
     if !within(bounds, values) {
@@ -213,8 +196,8 @@ pub fn number_in(bounds: Bounds, answer: Answer, values: [u16; syntax::VARIABLES
     }
     let held = trimmed(values, bounds.count);
     Numbered {
-        answer: answer,
+        answer,
         known: true,
-        number: variables::number_of(bounds, held) as usize,
+        number: usize::from(variables::number_of(bounds, held)),
     }
 }

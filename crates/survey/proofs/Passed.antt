@@ -1,7 +1,6 @@
 -- What was loaded of a file tells its states: a file that the checks 1 to 7 and 15 pass, or 8 too, has a verdict with one
 -- of few numbers, by which the calls test it.
 use Prim.Native.Nat.{ℕ, ◌≤◌}
-use native.Mathlib.Omega.{arith}
 use mathlib.Core.Path.{◌≡◌, refl, sym, subst, ap, ◌∙◌}
 use mathlib.Core.Bool.{true, false, ◌||◌}
 use mathlib.Core.Logic.{⊎_elim}

@@ -8,4 +8,4 @@ pub returns-then-layout-r : goal.returns-then-layout-r
 returns-then-layout-r c = move_behind _ _ _ _ _ _ _ c.if-layout-r.true
 
 pub returns : goal.returns
-returns c = c.move_by.ensures ∙ move_inside _ _ _ _ _ _ _ (omega (arith, c.if-layout-r.false))
+returns c = (rw c.from.ensures at c.move_by.ensures) ∙ move_inside _ _ _ _ _ _ _ (omega (arith, c.if-layout-r.false))

@@ -7,14 +7,14 @@ pub returns-then-not-kept : goal.returns-then-not-kept
 returns-then-not-kept c = move_not_kept _ _ _ c.if-not-kept.true
 
 pub returns-then-not-has : goal.returns-then-not-has
-returns-then-not-has c = move_no_guard _ _ _ (sym c.has.ensures ∙ c.if-not-has.true)
+returns-then-not-has c = move_no_guard _ _ _ (sym (rw c.from.ensures at c.has.ensures) ∙ c.if-not-has.true)
 
 pub returns-then-to-eq-STATE_END : goal.returns-then-to-eq-STATE_END
 returns-then-to-eq-STATE_END c =
     move_faults _ _ _ c.if-not-kept.false
-    (sym c.has.ensures ∙ c.if-not-has.false) c.if-to-eq-STATE_END.true
+    (sym (rw c.from.ensures at c.has.ensures) ∙ c.if-not-has.false) c.if-to-eq-STATE_END.true
 
 pub returns-else-to-eq-STATE_END : goal.returns-else-to-eq-STATE_END
 returns-else-to-eq-STATE_END c =
     move_ends _ _ _ c.if-not-kept.false
-    (sym c.has.ensures ∙ c.if-not-has.false) c.if-to-eq-STATE_END.false
+    (sym (rw c.from.ensures at c.has.ensures) ∙ c.if-not-has.false) c.if-to-eq-STATE_END.false

@@ -6,24 +6,18 @@ use Rattle.meaning.specs.Model.{vars}
 use Rattle.lookup.specs.Slices.{move_in}
 use Rattle.lookup.proofs.Moving.{kept_is, guards_are, moved}
 use Rattle.lookup.proofs.state_of.Goals as goal
+use Rattle.lookup.proofs.state_of.Goals.{then-number-ge-STATES-via-then-number-ge-STATES, then-number-ge-STATES-via-else-number-ge-STATES+then-number-from}
 
 pub returns-then-number-ge-STATES : goal.returns-then-number-ge-STATES
 returns-then-number-ge-STATES c =
     record {
-      answer_value = c.no_state.ensures.0;
+      verdict = c.no_state.ensures.0;
       state_is = λ m k. record {
-        told = λ h. absurd (omega (arith, k.bounded.few_states, c.if-number-ge-STATES.true));
+        told = λ h. elim c.then-number-ge-STATES.branch [
+          | then-number-ge-STATES-via-then-number-ge-STATES w ↦ absurd (omega (arith, k.bounded.few_states, w.if-number-ge-STATES.true))
+          | then-number-ge-STATES-via-else-number-ge-STATES+then-number-from w ↦ absurd (omega (arith, k.bounded.states, w.if-number-from.true))
+        ];
         untold = λ h. c.no_state.ensures.1;
-      };
-    }
-
-pub returns-then-bounds-s : goal.returns-then-bounds-s
-returns-then-bounds-s c =
-    record {
-      answer_value = c.no_state-then-bounds-s.ensures.0;
-      state_is = λ m k. record {
-        told = λ h. absurd (omega (arith, k.bounded.states, c.if-bounds-s.true));
-        untold = λ h. c.no_state-then-bounds-s.ensures.1;
       };
     }
 
@@ -32,7 +26,7 @@ returns c =
     let v = c in
     let b = v in
     let a = b.args in record {
-      answer_value = refl;
+      verdict = refl;
       state_is = λ m k. record {
         told = λ low.
             let on = kept_is k a.number low in
@@ -47,6 +41,6 @@ returns c =
                   ∙ ap (λ (x : Bool). move_in a.layout.regions a.layout.guard_of x b.below-holding.result a.after.now a.number q) on
                   ∙ moved k a.number low b.below-holding.result holding q;
             };
-        untold = λ h. absurd (omega (arith, k.bounded.states, b.if-bounds-s.false));
+        untold = λ h. absurd (omega (arith, k.bounded.states, b.if-number-from.false));
       };
     }

@@ -1,4 +1,3 @@
-use Prim.Native.Nat.{◌-◌, ◌≤◌}
 use mathlib.Core.Path.{◌≡◌}
 use mathlib.Core.Logic.{◌↔◌}
 use mathlib.Core.List.{List}
@@ -10,9 +9,6 @@ use Rattle.lookup.proofs.within.Given as goal
 
 abbrev pub invariant-loop-k : goal.invariant-loop-k
 invariant-loop-k l =
-    (l.k ≤ 6) × (length l.values ≡ 6)
+    (length l.values ≡ 6)
     × ((vs : List Var) (b : Bounded vs l.bounds) (six : length l.values ≡ 6)
     → From vs l.bounds b l.values six 0 ↔ From vs l.bounds b l.values six l.k)
-
-abbrev pub decreases-loop-k : goal.decreases-loop-k
-decreases-loop-k l = 6 - l.k

@@ -1,7 +1,5 @@
 -- `survey::fates_of` meets its contract, by the verdict of what was loaded: its fields are those of the choice.
 use mathlib.Core.Path.{refl, sym, ◌∙◌}
-use borrow.Author.Tests.{not-false}
-use Rattle.logic.proofs.Bools.{not_true}
 use Rattle.logic.proofs.Lists.{long}
 use Rattle.choice.specs.Slots.{slot_of}
 use Rattle.survey.proofs.Passed.{fates_untold, fates_told}
