@@ -19,13 +19,6 @@ ghost use Rattle.divisors.specs.Coded.{Lowest, Coded};
 // The value 1, with 128 added.
 const ONE: u16 = 129;
 
-// An operand as an index; as a call it asks no proof that it fits.
-fn wide(x: u16) -> usize
-    ensures { result ≡ x }
-{
-    x as usize
-}
-
 // Is a condition of keep, a try or a guard on, behind one more token?
 fn asks(on: bool, kind: u8) -> bool
     ensures { (l : Lexeme) → kind ≡ kind_of l → result ≡ check.asks on l }
@@ -54,11 +47,7 @@ fn low_variable(lows: [u16; syntax::VARIABLES], count: usize, slot: usize) -> bo
 fn is_number(kinds: &[u8], at: usize) -> bool
     ensures { result ≡ eqb (get_or kinds.now at no_kind) number_kind }
 {
-    if at < kinds.len() {
-        kinds[at] == syntax::NUMBER
-    } else {
-        false
-    }
+    kinds.get(at) == Some(&syntax::NUMBER)
 }
 
 // Can the divisor that begins at a token be below 1?
@@ -80,17 +69,12 @@ fn low_divisor(
     if operands.len() <= at {
         return false;
     }
-    let kind = kinds[at];
-    if kind == syntax::NAME {
-        return low_variable(lows, count, wide(operands[at]));
+    match kinds[at] {
+        syntax::NAME => low_variable(lows, count, usize::from(operands[at])),
+        syntax::NUMBER => operands[at] == 0,
+        syntax::MINUS => is_number(kinds, at + 1),
+        _ => false,
     }
-    if kind == syntax::NUMBER {
-        return operands[at] == 0;
-    }
-    if kind == syntax::MINUS {
-        return is_number(kinds, at + 1);
-    }
-    false
 }
 
 // Is a token of a kind a `mod` that is asked, and can the divisor behind it be below 1?
@@ -122,13 +106,7 @@ fn has_mod(kinds: &[u8]) -> bool
     ensures { result ≡ false
         → (i : ℕ) → i < length kinds.now → get_or kinds.now i 0 ≡ kind_of (key k_mod) → ⊥ }
 {
-    let mut found = false;
-    let mut i = 0;
-    while i < kinds.len() {
-        found = found | (kinds[i] == syntax::KEY_MOD);
-        i += 1;
-    }
-    found
+    kinds.contains(&syntax::KEY_MOD)
 }
 
 // 15: the place of the first `mod` of keep, a try or a guard that lacks a value in some state.
@@ -151,14 +129,11 @@ pub fn find_unvalued(
         return None;
     }
     let mut on = false;
-    let mut i = 0;
-    while i < kinds.len() {
-        let kind = kinds[i];
+    for (i, &kind) in kinds.iter().enumerate() {
         if offends(kinds, operands, lows, count, on, kind, i + 1) {
             return Some(places[i]);
         }
         on = asks(on, kind);
-        i += 1;
     }
     None
 }

@@ -20,6 +20,7 @@ use Rattle.syntax.specs.Held.Kind.{kind_of, value_of, Words}
 use Rattle.syntax.proofs.ByKind.{kind_mark}
 use Rattle.meaning.specs.Accepted.{opens, closes}
 use Rattle.meaning.specs.Decide.Check.{tally, crowded, past_limit}
+use Rattle.std.specs.Int.{from_bool}
 use Rattle.logic.proofs.Bools.{is_false, no_some, clash}
 use Rattle.passes.specs.Pass.{found_of}
 use Rattle.std.specs.Prelude.{Some, None}
@@ -96,6 +97,11 @@ pub tally_least : (b : Bool) (n : ℕ) → n ≤ tally b n
 unfolding tally
 tally_least true n = omega arith
 tally_least false n = omega arith
+
+pub counted : (b : Bool) (n r : ℕ) → r ≡ from_bool b → n + r ≡ tally b n
+unfolding tally
+counted true n r e = omega arith
+counted false n r e = omega arith
 
 pub tally_up : (b : Bool) (n r i : ℕ) → r ≡ tally b n → n ≤ i → r ≤ i + 1
 unfolding tally

@@ -18,29 +18,13 @@ fn either(kind: u8, a: u8, b: u8) -> bool
     kind == a || kind == b
 }
 
-// A count, with one more where the test holds.
-fn more(n: usize, one: bool) -> usize
-    requires { n < 9223372036854775808 }
-    ensures { result ≡ tally one n }
-{
-    if one {
-        return n + 1;
-    }
-    n
-}
-
 // Is this token past the 1,024th, or one that opens the thirteenth level?
 fn crowds(kind: u8, passed: usize, opened: usize, closed: usize) -> bool
     requires { closed ≤ passed }
     ensures { (l : Lexeme) → kind ≡ kind_of l → result ≡ (leb most_tokens passed || (opens l && leb (closed + most_open) opened)) }
 {
-    if syntax::TOKENS <= passed {
-        return true;
-    }
-    if either(kind, syntax::LBRACE, syntax::LPAREN) {
-        return closed + syntax::OPEN <= opened;
-    }
-    false
+    syntax::TOKENS <= passed
+        || either(kind, syntax::LBRACE, syntax::LPAREN) && closed + syntax::OPEN <= opened
 }
 
 // 3: more than 1,024 tokens, or brackets and braces nested deeper than 12.
@@ -51,17 +35,14 @@ pub fn find_crowded(kinds: &[u8], places: &[u16]) -> Option<u16>
     if places.len() != kinds.len() {
         return None;
     }
-    let mut opened: usize = 0;
-    let mut closed: usize = 0;
-    let mut i = 0;
-    while i < kinds.len() {
-        let kind = kinds[i];
-        if crowds(kind, i, opened, closed) {
-            return Some(places[i]);
+    let mut opened = 0;
+    let mut closed = 0;
+    for (passed, &kind) in kinds.iter().enumerate() {
+        if crowds(kind, passed, opened, closed) {
+            return Some(places[passed]);
         }
-        opened = more(opened, either(kind, syntax::LBRACE, syntax::LPAREN));
-        closed = more(closed, either(kind, syntax::RBRACE, syntax::RPAREN));
-        i += 1;
+        opened += usize::from(either(kind, syntax::LBRACE, syntax::LPAREN));
+        closed += usize::from(either(kind, syntax::RBRACE, syntax::RPAREN));
     }
     None
 }
@@ -72,19 +53,13 @@ fn exceeds(kind: u8, vars: usize, methods: usize, regions: usize, tries: usize) 
         → result ≡ ((is_key k_var l && leb most_vars vars) || (is_key k_method l && leb most_methods methods)
         || (is_key k_waituntil l && leb most_regions regions) || (is_key k_try l && leb most_tries tries)) }
 {
-    if kind == syntax::KEY_VAR {
-        return syntax::VARIABLES <= vars;
+    match kind {
+        syntax::KEY_VAR => syntax::VARIABLES <= vars,
+        syntax::KEY_METHOD => syntax::METHODS <= methods,
+        syntax::KEY_WAITUNTIL => machine::REGIONS <= regions,
+        syntax::KEY_TRY => syntax::TRIES <= tries,
+        _ => false,
     }
-    if kind == syntax::KEY_METHOD {
-        return syntax::METHODS <= methods;
-    }
-    if kind == syntax::KEY_WAITUNTIL {
-        return machine::REGIONS <= regions;
-    }
-    if kind == syntax::KEY_TRY {
-        return syntax::TRIES <= tries;
-    }
-    false
 }
 
 // 5: a var past 6, a method past 8, a waituntil past 16 or a try past 16.
@@ -95,22 +70,18 @@ pub fn find_past_limit(kinds: &[u8], places: &[u16]) -> Option<u16>
     if places.len() != kinds.len() {
         return None;
     }
-    let mut vars: usize = 0;
-    let mut methods: usize = 0;
-    let mut regions: usize = 0;
-    let mut tries: usize = 0;
-    let mut i = 0;
-    while i < kinds.len() {
-        let kind = kinds[i];
-        let place = places[i];
+    let mut vars = 0;
+    let mut methods = 0;
+    let mut regions = 0;
+    let mut tries = 0;
+    for (i, &kind) in kinds.iter().enumerate() {
         if exceeds(kind, vars, methods, regions, tries) {
-            return Some(place);
+            return Some(places[i]);
         }
-        vars = more(vars, kind == syntax::KEY_VAR);
-        methods = more(methods, kind == syntax::KEY_METHOD);
-        regions = more(regions, kind == syntax::KEY_WAITUNTIL);
-        tries = more(tries, kind == syntax::KEY_TRY);
-        i += 1;
+        vars += usize::from(kind == syntax::KEY_VAR);
+        methods += usize::from(kind == syntax::KEY_METHOD);
+        regions += usize::from(kind == syntax::KEY_WAITUNTIL);
+        tries += usize::from(kind == syntax::KEY_TRY);
     }
     None
 }

@@ -64,26 +64,24 @@ returns-then-offends c file ts values vs h coded =
     let a = c.loop-i in
     let l = (token_at ts a.i).lexeme in
     let t = c.offends.ensures vs (lexemes ts) l coded (kind_at h a.i) in
-    offends (valuing vs) h false a.on a.i (a.invariant.1 file ts values vs h coded) (omega arith)
+    offends (valuing vs) h false a.on a.i (a.invariant file ts values vs h coded) (omega arith)
     (sym (tested vs ts a.i a.on _ l t) ∙ c.if-offends.true)
 
 pub loop-i-preserved : goal.loop-i-preserved
-loop-i-preserved c = (
-  omega arith,
-  λ file ts values vs h coded.
-      let a = c.loop-i in
-      let l = (token_at ts a.i).lexeme in
-      let k = kind_at h a.i in
-      let t = c.offends.ensures vs (lexemes ts) l coded k in
-      goes_on (valuing vs) h false a.on a.i (a.invariant.1 file ts values vs h coded) (omega arith)
-      (sym (tested vs ts a.i a.on _ l t) ∙ c.if-offends.false)
-      ∙ ap (λ (b : Bool). unvalued vs b (drop (a.i + 1) ts)) (sym (c.asks-on.ensures l k)),
-)
+loop-i-preserved c =
+    λ file ts values vs h coded.
+    let a = c.loop-i in
+    let l = (token_at ts a.i).lexeme in
+    let k = kind_at h a.i in
+    let t = c.offends.ensures vs (lexemes ts) l coded k in
+    goes_on (valuing vs) h false a.on a.i (a.invariant file ts values vs h coded) (omega arith)
+    (sym (tested vs ts a.i a.on _ l t) ∙ c.if-offends.false)
+    ∙ ap (λ (b : Bool). unvalued vs b (drop (a.i + 1) ts)) (sym (c.asks-on.ensures l k))
 
 pub returns : goal.returns
 returns c file ts values vs h coded =
     let a = c.loop-i in
-    ends (valuing vs) h false a.on a.i (a.invariant.1 file ts values vs h coded) (omega arith)
+    ends (valuing vs) h false a.on a.i (a.invariant file ts values vs h coded) (omega arith)
 
 pub loop-i-init : goal.loop-i-init
-loop-i-init = λ c. (omega arith, λ file ts values vs h coded. refl)
+loop-i-init = λ c file ts values vs h coded. refl

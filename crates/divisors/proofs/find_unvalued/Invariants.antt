@@ -1,8 +1,8 @@
-use Prim.Native.Nat.{ℕ, ◌-◌, ◌≤◌}
+use Prim.Native.Nat.{ℕ}
 use mathlib.Core.Path.{◌≡◌}
 use mathlib.Core.Bool.{false}
 use mathlib.Core.List.{List}
-use lib.ListN.{length, drop}
+use lib.ListN.{drop}
 use Rattle.syntax.specs.Token.{Token, lexemes}
 use Rattle.syntax.specs.Tree.{Var}
 use Rattle.syntax.specs.Held.Kind.{Words}
@@ -12,9 +12,5 @@ use Rattle.divisors.proofs.find_unvalued.Given as goal
 
 abbrev pub invariant-loop-i : goal.invariant-loop-i
 invariant-loop-i l =
-    (l.i ≤ length l.kinds)
-    × ((file : List ℕ) (ts : List Token) (values : List ℕ) (vs : List Var) → Words file ts l.kinds values l.places
+    ((file : List ℕ) (ts : List Token) (values : List ℕ) (vs : List Var) → Words file ts l.kinds values l.places
     → Coded vs (lexemes ts) l.kinds l.operands l.lows l.count → unvalued vs false ts ≡ unvalued vs l.on (drop l.i ts))
-
-abbrev pub decreases-loop-i : goal.decreases-loop-i
-decreases-loop-i l = length l.kinds - l.i

@@ -12,19 +12,19 @@ returns-then-kinds-at c vs ls coded = sym (at_end_lem coded _ c.if-kinds-at.true
 pub returns-then-operands-at : goal.returns-then-operands-at
 returns-then-operands-at c vs ls coded = absurd (omega (arith, operands_long coded 0))
 
-pub returns-then-kind-eq-NAME : goal.returns-then-kind-eq-NAME
-returns-then-kind-eq-NAME c vs ls coded =
-    let t = at_name coded _ (omega arith) c.if-kind-eq-NAME.true in
-    c.low_variable.ensures vs t.0 coded.lowest (c.wide.ensures ∙ t.1) ∙ sym t.2
+pub returns-in-0 : goal.returns-in-0
+returns-in-0 c vs ls coded =
+    let t = at_name coded _ (omega arith) c.in-0.is in
+    c.low_variable.ensures vs t.0 coded.lowest (c.from.ensures ∙ t.1) ∙ sym t.2
 
-pub returns-then-kind-eq-NUMBER : goal.returns-then-kind-eq-NUMBER
-returns-then-kind-eq-NUMBER c vs ls coded = sym (at_number coded _ (omega arith) c.if-kind-eq-NUMBER.true)
+pub returns-in-1 : goal.returns-in-1
+returns-in-1 c vs ls coded = sym (at_number coded _ (omega arith) c.in-1.is)
 
-pub returns-then-kind-eq-MINUS : goal.returns-then-kind-eq-MINUS
+pub returns-in-17 : goal.returns-in-17
 unfolding kind_of mark_number
-returns-then-kind-eq-MINUS c vs ls coded = c.is_number.ensures ∙ sym (at_minus coded _ (omega arith) c.if-kind-eq-MINUS.true)
+returns-in-17 c vs ls coded = c.is_number.ensures ∙ sym (at_minus coded _ (omega arith) c.in-17.is)
 
-pub returns : goal.returns
+pub returns-in_default : goal.returns-in_default
 unfolding kind_of mark_number
-returns c vs ls coded =
-    sym (at_other coded _ (omega arith) c.if-kind-eq-NAME.false c.if-kind-eq-NUMBER.false c.if-kind-eq-MINUS.false)
+returns-in_default c vs ls coded =
+    sym (at_other coded _ (omega arith) (omega arith) (omega arith) (omega arith))

@@ -19,9 +19,9 @@ returns-then-either c l e = rw (
   c.if-either.true,
 )
 
-pub returns : goal.returns
+pub returns-else-either : goal.returns-else-either
 unfolding kind_of mark_number
-returns c l e = rw (
+returns-else-either c l e = rw (
   lt-leb most_tokens _ c.if-passed-ge-TOKENS.false,
   kind_opens l,
   ← e,

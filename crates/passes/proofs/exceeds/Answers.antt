@@ -1,36 +1,37 @@
 -- `passes::exceeds` is the test of `past_limit` at a token: a kind is at most one of the four keywords.
 use mathlib.Core.Bool.{or-false}
+use native.Mathlib.Omega.{arith}
 use borrow.Author.Tests.{ne_eqb}
-use Rattle.syntax.specs.Token.{key, k_var, k_method, k_waituntil, k_try}
 use Rattle.syntax.specs.Decide.Lexeme.{keyword_number}
 use Rattle.syntax.specs.Held.Kind.{kind_of}
 use Rattle.syntax.proofs.ByKind.{kind_key}
 use Rattle.passes.proofs.exceeds.Goals as goal
 
-pub returns-then-kind-eq-KEY_VAR : goal.returns-then-kind-eq-KEY_VAR
+pub returns-in-33 : goal.returns-in-33
 unfolding kind_of keyword_number
-returns-then-kind-eq-KEY_VAR c l e = simp (kind_key, ← e, c.if-kind-eq-KEY_VAR.true, or-false)
+returns-in-33 c l e = simp (kind_key, ← e, c.in-33.is, or-false)
 
-pub returns-then-kind-eq-KEY_METHOD : goal.returns-then-kind-eq-KEY_METHOD
+pub returns-in-36 : goal.returns-in-36
 unfolding kind_of keyword_number
-returns-then-kind-eq-KEY_METHOD c l e = simp (kind_key, ← e, c.if-kind-eq-KEY_METHOD.true, or-false)
+returns-in-36 c l e = simp (kind_key, ← e, c.in-36.is, or-false)
 
-pub returns-then-kind-eq-KEY_WAITUNTIL : goal.returns-then-kind-eq-KEY_WAITUNTIL
+pub returns-in-37 : goal.returns-in-37
 unfolding kind_of keyword_number
-returns-then-kind-eq-KEY_WAITUNTIL c l e = simp (kind_key, ← e, c.if-kind-eq-KEY_WAITUNTIL.true, or-false)
+returns-in-37 c l e = simp (kind_key, ← e, c.in-37.is, or-false)
 
-pub returns-then-kind-eq-KEY_TRY : goal.returns-then-kind-eq-KEY_TRY
+pub returns-in-42 : goal.returns-in-42
 unfolding kind_of keyword_number
-returns-then-kind-eq-KEY_TRY c l e = simp (kind_key, ← e, c.if-kind-eq-KEY_TRY.true)
+returns-in-42 c l e = simp (kind_key, ← e, c.in-42.is)
 
-pub returns : goal.returns
+pub returns-in_default : goal.returns-in_default
 unfolding kind_of keyword_number
-returns c l e =
+returns-in_default c l e =
+    let kind = c.args.kind in
     simp (
       kind_key,
       ← e,
-      ne_eqb _ (kind_of (key k_var)) c.if-kind-eq-KEY_VAR.false,
-      ne_eqb _ (kind_of (key k_method)) c.if-kind-eq-KEY_METHOD.false,
-      ne_eqb _ (kind_of (key k_waituntil)) c.if-kind-eq-KEY_WAITUNTIL.false,
-      ne_eqb _ (kind_of (key k_try)) c.if-kind-eq-KEY_TRY.false,
+      ne_eqb kind 33 (omega arith),
+      ne_eqb kind 36 (omega arith),
+      ne_eqb kind 37 (omega arith),
+      ne_eqb kind 42 (omega arith),
     )

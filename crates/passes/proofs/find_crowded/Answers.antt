@@ -4,7 +4,7 @@ use native.Mathlib.Omega.{arith}
 use mathlib.Core.Path.{sym, ◌∙◌}
 use Rattle.syntax.specs.Decide.Lexeme.{mark_number}
 use Rattle.syntax.specs.Held.Kind.{kind_of}
-use Rattle.passes.proofs.ByIndex.{token_at, kind_at, places_long, tally_up, offends, goes_on, ends, crowding}
+use Rattle.passes.proofs.ByIndex.{token_at, kind_at, places_long, tally_up, counted, offends, goes_on, ends, crowding}
 use Rattle.passes.proofs.ByIndex.{kind_opens, kind_closes}
 use Rattle.passes.proofs.find_crowded.Goals as goal
 
@@ -13,36 +13,35 @@ returns-then-places-kinds c file ts values h = absurd (c.if-places-kinds.true (p
 
 pub returns-then-crowds : goal.returns-then-crowds
 returns-then-crowds c file ts values h =
-    let a = c.loop-i in
-    let t = c.crowds.ensures (token_at ts a.i).lexeme (kind_at h a.i) in
-    offends crowding h (0, 0, 0) (a.i, a.opened, a.closed) a.i (a.invariant.3 file ts values h) (omega arith)
+    let a = c.loop-passed in
+    let t = c.crowds.ensures (token_at ts a.passed).lexeme (kind_at h a.passed) in
+    offends crowding h (0, 0, 0) (a.passed, a.opened, a.closed) a.passed (a.invariant.2 file ts values h) (omega arith)
     (sym t ∙ c.if-crowds.true)
 
-pub loop-i-preserved : goal.loop-i-preserved
+pub loop-passed-preserved : goal.loop-passed-preserved
 unfolding kind_of mark_number
-loop-i-preserved c = (
-  omega arith,
-  tally_up _ _ _ _ c.more-opened.ensures (omega arith),
-  tally_up _ _ _ _ c.more-closed.ensures (omega arith),
+loop-passed-preserved c = (
+  tally_up _ _ _ _ (counted _ _ _ c.from-opened.ensures) (omega arith),
+  tally_up _ _ _ _ (counted _ _ _ c.from-closed.ensures) (omega arith),
   λ file ts values h.
-      let a = c.loop-i in
-      let l = (token_at ts a.i).lexeme in
-      let k = kind_at h a.i in
+      let a = c.loop-passed in
+      let l = (token_at ts a.passed).lexeme in
+      let k = kind_at h a.passed in
       let t = c.crowds.ensures l k in
       rw (
-        c.more-opened.ensures,
-        c.more-closed.ensures,
+        (counted _ _ _ c.from-opened.ensures),
+        (counted _ _ _ c.from-closed.ensures),
         c.either.ensures,
-        c.either-in-loop-i.ensures,
+        c.either-in-loop-passed.ensures,
         k,
         ← kind_opens,
         ← kind_closes,
       )
-      (goes_on crowding h (0, 0, 0) (a.i, a.opened, a.closed) a.i (a.invariant.3 file ts values h) (omega arith)
+      (goes_on crowding h (0, 0, 0) (a.passed, a.opened, a.closed) a.passed (a.invariant.2 file ts values h) (omega arith)
       (sym t ∙ c.if-crowds.false)),
 )
 
 pub returns : goal.returns
 returns c file ts values h =
-    let a = c.loop-i in
-    ends crowding h (0, 0, 0) (a.i, a.opened, a.closed) a.i (a.invariant.3 file ts values h) (omega arith)
+    let a = c.loop-passed in
+    ends crowding h (0, 0, 0) (a.passed, a.opened, a.closed) a.passed (a.invariant.2 file ts values h) (omega arith)
