@@ -1,7 +1,7 @@
 // One digit of the formats, 0-9 or A-F; and what writing into a lent buffer is, with its laws.
 #![tactic(auto)]
 
-ghost use Rattle.std.specs.Prelude.{◌≡◌, ◌%◌, ◌+◌, ◌≤◌, leb, length};
+ghost use Rattle.std.specs.Prelude.{◌≡◌, ◌%◌, ◌+◌, ◌≤◌, ◌<◌, true, false, length};
 ghost use Rattle.meaning.specs.Hex.{hex_digit};
 ghost use Rattle.digits.specs.Written.{Writes};
 
@@ -15,7 +15,8 @@ pub fn hex_digit(n: u8) -> u8
 
 // Whether so many bytes fit into a buffer from a place on.
 pub fn has_room(out: &[u8], at: usize, size: usize) -> bool
-    ensures { result ≡ leb (at + size) (length out.now) }
+    ensures room { result ≡ true → at + size ≤ length out.now }
+    ensures too_little { result ≡ false → length out.now < at + size }
 {
     size <= out.len() && at <= out.len() - size
 }
