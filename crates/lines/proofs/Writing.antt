@@ -33,7 +33,7 @@ place_two threads t = refl
 -- what f gives for the places of a list is what h gives for its elements, joined
 module _ {A : Type 0} (h : A → List ℕ) (joined : List A → List ℕ) (none : joined [] ≡ [])
     (more : (a : A) (as' : List A) → joined (a ∷ as') ≡ h a ++ joined as') (d : A) where
-  each : (l : List A) (k : ℕ) (f : ℕ → List ℕ) → ((j : ℕ) → j < length l → f (k + j) ≡ h (get_or l j d))
+  pub each : (l : List A) (k : ℕ) (f : ℕ → List ℕ) → ((j : ℕ) → j < length l → f (k + j) ≡ h (get_or l j d))
       → for_each (length l) k f ≡ joined l
   unfolding for_each
   each [] k f e = sym none
