@@ -10,39 +10,40 @@ ghost use Rattle.lines.specs.Written.{PutsLine};
 ghost use Rattle.point.specs.Held.{region_part, due_part, idle_part, held_byte, held_set, held_value, held_each};
 ghost use Rattle.point.specs.Held.{held_shared, held_notices, held_table, held_point};
 
+use std::array;
 use threads::{Place, Thread};
 
 // The bytes of a point.
 pub const POINT: usize = 49;
 
 // A place as three numbers that have no bit in common, so that a byte is made of it without a branch.
+#[tactic(auto, unfolding(crate::specs::Held::region_part, threads::specs::Held::place_of))]
 fn region_part(place: Place) -> u8
     ensures { result ≡ region_part (place_of place) }
 {
     match place {
         Place::Idle => 0,
-        Place::Waiting(r) => r,
-        Place::Due(r) => r,
+        Place::Waiting(r) | Place::Due(r) => r,
     }
 }
 
+#[tactic(auto, unfolding(crate::specs::Held::due_part, threads::specs::Held::place_of))]
 fn due_part(place: Place) -> u8
     ensures { result ≡ due_part (place_of place) }
 {
     match place {
-        Place::Idle => 0,
-        Place::Waiting(_) => 0,
+        Place::Idle | Place::Waiting(_) => 0,
         Place::Due(_) => 16,
     }
 }
 
+#[tactic(auto, unfolding(crate::specs::Held::idle_part, threads::specs::Held::place_of))]
 fn idle_part(place: Place) -> u8
     ensures { result ≡ idle_part (place_of place) }
 {
     match place {
         Place::Idle => 255,
-        Place::Waiting(_) => 0,
-        Place::Due(_) => 0,
+        Place::Waiting(_) | Place::Due(_) => 0,
     }
 }
 
@@ -56,38 +57,14 @@ fn place_byte(place: Place) -> u8
 pub fn place_bytes(threads: [Thread; machine::THREADS]) -> [u8; machine::THREADS]
     ensures { (t : ℕ) → t < 16 → get_or result t 0 ≡ held_byte (places_of threads t) }
 {
-    let mut bytes = [0u8; machine::THREADS];
-    let mut t = 0;
-    while t < machine::THREADS {
-        let thread = threads[t];
-        let place = thread.place;
-        bytes[t] = place_byte(place);
-        t += 1;
-    }
-    bytes
+    array::from_fn(|t| place_byte(threads[t].place))
 }
 
 // The turns of the threads, a byte each.
 pub fn turn_bytes(threads: [Thread; machine::THREADS]) -> [u8; machine::THREADS]
     ensures { (t : ℕ) → t < 16 → get_or result t 0 ≡ turns_of threads t }
 {
-    let mut bytes = [0u8; machine::THREADS];
-    let mut t = 0;
-    while t < machine::THREADS {
-        let thread = threads[t];
-        bytes[t] = thread.turn;
-        t += 1;
-    }
-    bytes
-}
-
-// One byte.
-fn put_byte(out: &mut [u8], at: usize, b: u8) -> usize
-    requires { at + 1 ≤ length out.old }
-    ensures { Writes (b ∷ []) out.old at result out.new }
-{
-    out[at] = b;
-    at + 1
+    array::from_fn(|t| threads[t].turn)
 }
 
 // A set of sixteen, low byte first.
@@ -95,8 +72,7 @@ fn put_set(out: &mut [u8], at: usize, set: u16) -> usize
     requires { at + 2 ≤ length out.old }
     ensures { Writes (held_set set) out.old at result out.new }
 {
-    let next = put_byte(out, at, (set % 256) as u8);
-    put_byte(out, next, (set / 256) as u8)
+    digits::put_bytes(out, at, &set.to_le_bytes())
 }
 
 // The values of the variables, each with 128 added.
@@ -104,14 +80,7 @@ fn put_values(out: &mut [u8], at: usize, values: [u16; syntax::VARIABLES]) -> us
     requires { at + 6 ≤ length out.old }
     ensures { Writes (for_each most_vars 0 (held_value values)) out.old at result out.new }
 {
-    let mut to = at;
-    let mut k = 0;
-    while k < syntax::VARIABLES {
-        let value = values[k];
-        to = put_byte(out, to, lines::value_byte(value));
-        k += 1;
-    }
-    to
+    digits::put_bytes(out, at, &lines::value_bytes(values))
 }
 
 // A byte for each thread: its place, or its turn.
@@ -119,14 +88,7 @@ fn put_each(out: &mut [u8], at: usize, bytes: [u8; machine::THREADS]) -> usize
     requires { at + 16 ≤ length out.old }
     ensures { Writes (for_each 16 0 (held_each bytes)) out.old at result out.new }
 {
-    let mut to = at;
-    let mut t = 0;
-    while t < machine::THREADS {
-        let b = bytes[t];
-        to = put_byte(out, to, b);
-        t += 1;
-    }
-    to
+    digits::put_bytes(out, at, &bytes)
 }
 
 // What both machines have in common: the values, the places, and the guards that hold.
@@ -159,7 +121,7 @@ fn put_table(out: &mut [u8], at: usize, there: u8, notified: u16, told: u16) -> 
     requires { at + 5 ≤ length out.old }
     ensures { Writes (held_table there notified told) out.old at result out.new }
 {
-    let next = put_byte(out, at, there);
+    let next = digits::put_bytes(out, at, &[there]);
     put_notices(out, next, notified, told)
 }
 
@@ -180,10 +142,7 @@ pub fn put_point(
     ensures { PutsLine (held_point values bytes guards plain told there table woken turns)
         (at + 49 ≤ length out.old) out.old at result out.new }
 {
-    if out.len() < POINT {
-        return at;
-    }
-    if out.len() - POINT < at {
+    if !digits::has_room(out, at, POINT) {
         return at;
     }
     let one = put_shared(out, at, values, bytes, guards);

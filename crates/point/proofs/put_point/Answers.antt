@@ -7,15 +7,13 @@ use Rattle.point.specs.Held.{held_set, held_notices, held_table, held_point}
 use Rattle.point.proofs.Lengths.{shared_length}
 use Rattle.point.proofs.put_point.Goals as goal
 
-pub returns-then-out-lt-POINT : goal.returns-then-out-lt-POINT
-returns-then-out-lt-POINT c = not_put (λ room. omega (arith, room))
-
-pub returns-then-out-at : goal.returns-then-out-at
-returns-then-out-at c = not_put (λ room. omega (arith, room))
+pub returns-then-not-has_room : goal.returns-then-not-has_room
+returns-then-not-has_room c = let few = c.has_room.ensures.too_little c.if-not-has_room.true in not_put (λ room. omega (arith, few))
 
 pub put_notices-two-requires : goal.put_notices-two-requires
 put_notices-two-requires c =
     let a = c.args in
+    let enough = c.has_room.ensures.room c.if-not-has_room.false in
     let s = shared_length a.values a.bytes a.guards in
     let l = written_length c.put_shared-one.ensures (omega arith) in
     omega (arith, l, c.put_shared-one.ensures.behind)
@@ -24,6 +22,7 @@ pub put_table-three-requires : goal.put_table-three-requires
 unfolding held_notices held_set
 put_table-three-requires c =
     let a = c.args in
+    let enough = c.has_room.ensures.room c.if-not-has_room.false in
     let s = shared_length a.values a.bytes a.guards in
     let l = written_length c.put_shared-one.ensures (omega arith) in
     let b = c.put_shared-one.ensures.behind in
@@ -34,6 +33,7 @@ pub put_each-requires : goal.put_each-requires
 unfolding held_table held_notices held_set
 put_each-requires c =
     let a = c.args in
+    let enough = c.has_room.ensures.room c.if-not-has_room.false in
     let s = shared_length a.values a.bytes a.guards in
     let l = written_length c.put_shared-one.ensures (omega arith) in
     let b = c.put_shared-one.ensures.behind in
@@ -46,6 +46,7 @@ pub returns : goal.returns
 unfolding held_point held_table held_notices held_set
 returns c =
     let a = c.args in
+    let enough = c.has_room.ensures.room c.if-not-has_room.false in
     let s = shared_length a.values a.bytes a.guards in
     put (omega arith)
     (written_more (written_more c.put_shared-one.ensures (omega arith) c.put_notices-two.ensures)

@@ -7,10 +7,10 @@ use Rattle.point.proofs.put_table.Goals as goal
 pub put_notices-requires : goal.put_notices-requires
 unfolding held_set held_notices held_table
 put_notices-requires c =
-    let l = written_length c.put_byte-next.ensures (omega arith) in
-    omega (arith, l, c.put_byte-next.ensures.behind)
+    let l = written_length c.put_bytes-next.ensures (omega arith) in
+    omega (arith, l, c.put_bytes-next.ensures.behind)
 
 pub returns : goal.returns
 unfolding held_set held_notices held_table
 returns c =
-    written_more c.put_byte-next.ensures (omega arith) c.put_notices.ensures
+    written_more c.put_bytes-next.ensures (omega arith) c.put_notices.ensures
