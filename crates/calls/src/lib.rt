@@ -15,7 +15,8 @@ use answers::Answer;
 use loader::Loaded;
 use machine::StateNumber;
 use run::{Both, Running};
-use table::Placed;
+use stepper::Slices;
+use table::TooShort;
 
 // What placing answers, and where it is placed the table's length, the chosen tries, the first the lowest bit, and how
 // many pairs of region and guard are touched.
@@ -98,15 +99,15 @@ pub fn place_loaded(
     let choice = loaded.choice;
     let entries = entries_of(loaded, kept, holds, after);
     match table::write_table(&entries, layout.regions, layout.guards, table) {
-        Placed::Short => Placing {
+        Err(TooShort) => Placing {
             answer: answers::say(10, 0, 0),
             length: 0,
             chosen: 0,
             pairs: 0,
         },
-        Placed::Length(n) => Placing {
+        Ok(length) => Placing {
             answer: verdict,
-            length: n,
+            length,
             chosen: choice.chosen,
             pairs: loaded.pairs,
         },
@@ -248,20 +249,21 @@ pub fn load_loaded(
     let bounds = loaded.bounds;
     let layout = loaded.layout;
     let starts = bounds.starts;
-    let guard_of = layout.guard_of;
-    let begins = layout.begins;
-    let goes_on = layout.goes_on;
+    let slices = Slices {
+        holds,
+        after,
+        guard_of: &layout.guard_of,
+        begins: &layout.begins,
+        goes_on: &layout.goes_on,
+        entries: &[0u8; machine::ENTRIES],
+        regions: layout.regions,
+    };
     let count = generator::make_frames(
         seed,
         threads,
         wanted,
         variables::number_of(bounds, starts),
-        holds,
-        after,
-        &guard_of,
-        &begins,
-        &goes_on,
-        layout.regions,
+        &slices,
         out,
     );
     Made {

@@ -6,6 +6,7 @@ ghost use Rattle.machine.specs.Monitor.{Monitor};
 ghost use Rattle.generator.specs.Making.{MakeAsked, MakesFrames};
 
 use machine::StateNumber;
+use stepper::Slices;
 
 // How many frames are made of those wanted, from a state with all threads idle.
 pub fn make_frames(
@@ -13,58 +14,38 @@ pub fn make_frames(
     threads: u8,
     wanted: usize,
     state: StateNumber,
-    holds: &[u16; machine::STATES],
-    after: &[StateNumber; machine::AFTER],
-    guard_of: &[u8; machine::REGIONS],
-    begins: &[u8; machine::REGIONS],
-    goes_on: &[u8; machine::REGIONS],
-    regions: usize,
+    slices: &Slices,
     out: &mut [u8],
 ) -> usize
     ensures { (m : Monitor) (kept : List ℕ)
-        → MakeAsked threads wanted state holds.now after.now guard_of.now
-        begins.now goes_on.now regions out.old m kept
+        → MakeAsked threads wanted state slices.now.holds.now slices.now.after.now slices.now.guard_of.now
+        slices.now.begins.now slices.now.goes_on.now slices.now.regions out.old m kept
         → MakesFrames m seed threads wanted state result out.old out.new }
 {
     let no_entries = [0u8; machine::ENTRIES];
-    let methods = allowed::methods_of(begins, regions);
+    let methods = allowed::methods_of(slices.begins, slices.regions);
     let mut run = stepper::start(state);
     let mut number = seed;
     let mut last: u8 = 0;
     let mut at: usize = 0;
-    let mut k: usize = 0;
-    while k < wanted {
+    for k in 0..wanted {
         let next = draws::next(number);
-        let chosen = allowed::choose(
+        let Some(frame) = allowed::choose(
             run,
             last,
             threads,
             draws::upper_bits(next),
             methods,
-            holds,
-            guard_of,
+            slices.holds,
+            slices.guard_of,
             &no_entries,
-        );
-        if !chosen.any {
+        ) else {
             return k;
-        }
-        let frame = chosen.frame;
-        let taken = stepper::step(
-            run,
-            frame,
-            holds,
-            after,
-            guard_of,
-            begins,
-            goes_on,
-            &no_entries,
-            regions,
-        );
+        };
+        run = slices.step(run, frame).run;
         at = lines::put_frame(out, at, frame.thread, frame.region, frame.flag);
-        run = taken.run;
         last = frame.thread;
         number = next;
-        k += 1;
     }
-    k
+    wanted
 }

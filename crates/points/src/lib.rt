@@ -14,6 +14,7 @@ ghost use Rattle.meaning.specs.Model.{model};
 use layout::Layout;
 use machine::StateNumber;
 use run::frames::{Going, Stop};
+use stepper::Slices;
 use variables::Bounds;
 
 // Where each machine stops, and how many points are written.
@@ -78,30 +79,21 @@ fn write_rest(
         → Way (model m) s fs first 0 → Listed m s fs 1 before next out.old
         → WritesPoints m s fs result before out.new }
 {
-    let guard_of = layout.guard_of;
-    let begins = layout.begins;
-    let goes_on = layout.goes_on;
+    let slices = Slices {
+        holds,
+        after,
+        guard_of: &layout.guard_of,
+        begins: &layout.begins,
+        goes_on: &layout.goes_on,
+        entries,
+        regions: layout.regions,
+    };
     let mut going = first;
     let mut to = next;
-    let mut k: usize = 0;
-    let mut at: usize = 0;
-    while at < bytes.len() {
-        let passed = run::frames::pass(
-            going,
-            bytes,
-            at,
-            k,
-            holds,
-            after,
-            &guard_of,
-            &begins,
-            &goes_on,
-            entries,
-            layout.regions,
-        );
-        let before = going.run;
+    let lines = bytes.len().div_ceil(trace::FRAME);
+    for k in 0..lines {
+        let passed = run::frames::pass(going, bytes, k * trace::FRAME, k, &slices);
         let then = passed.going;
-        let lost = then.lost;
         if passed.number != 0 {
             let taken = k + 1;
             return Written {
@@ -109,7 +101,7 @@ fn write_rest(
                     number: passed.number,
                     frame: k,
                 },
-                table: lost,
+                table: then.lost,
                 count: taken,
             };
         }
@@ -120,22 +112,19 @@ fn write_rest(
             layout.guards,
             holds,
             then,
-            before.plain,
-            before.table,
+            going.run.plain,
+            going.run.table,
         );
         going = then;
-        k += 1;
-        at += trace::FRAME;
     }
-    let lost = going.lost;
-    let count = k + 1;
+    let count = lines + 1;
     Written {
         plain: Stop {
             number: 0,
             frame: 0,
         },
-        table: lost,
-        count: count,
+        table: going.lost,
+        count,
     }
 }
 

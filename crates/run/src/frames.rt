@@ -6,7 +6,7 @@ ghost use Rattle.run.specs.Way.{Asked, Way, Passes, run_of, lost_by};
 ghost use Rattle.run.specs.Ended.{EndsAs};
 
 use machine::StateNumber;
-use stepper::{Frame, Run};
+use stepper::{Frame, Run, Slices};
 
 // Where a machine stops: the refusal's number and the frame, both 0 where it takes all.
 #[derive(Clone, Copy)]
@@ -47,30 +47,15 @@ fn first_lost(lost: Stop, number: u8, k: usize) -> Stop
     if number == 0 {
         return lost;
     }
-    Stop {
-        number: number,
-        frame: k,
-    }
+    Stop { number, frame: k }
 }
 
 // The frame at a byte, the k-th, on both machines. The table's goes on until it refuses a frame; once the plain one does, so
 // has the table's.
-pub fn pass(
-    going: Going,
-    bytes: &[u8],
-    at: usize,
-    k: usize,
-    holds: &[u16; machine::STATES],
-    after: &[StateNumber; machine::AFTER],
-    guard_of: &[u8; machine::REGIONS],
-    begins: &[u8; machine::REGIONS],
-    goes_on: &[u8; machine::REGIONS],
-    entries: &[u8; machine::ENTRIES],
-    regions: usize,
-) -> Passed
+pub fn pass(going: Going, bytes: &[u8], at: usize, k: usize, slices: &Slices) -> Passed
     ensures { (m : Monitor) (kept : List ℕ) (s : ℕ) (fs : List machine.Frame)
-        → Asked bytes.now s holds.now after.now guard_of.now
-        begins.now goes_on.now entries.now regions m kept fs
+        → Asked bytes.now s slices.now.holds.now slices.now.after.now slices.now.guard_of.now
+        slices.now.begins.now slices.now.goes_on.now slices.now.entries.now slices.now.regions m kept fs
         → at ≡ 7 * k → at < length bytes.now → Way m s fs going k → Passes m s fs result k }
 {
     let numbers = trace::numbers_at(bytes, at);
@@ -79,36 +64,21 @@ pub fn pass(
         region: numbers.region,
         flag: numbers.flag,
     };
-    let run = going.run;
-    let lost = going.lost;
-    let out = stepper::step(
-        run, frame, holds, after, guard_of, begins, goes_on, entries, regions,
-    );
-    let next = out.run;
+    let out = slices.step(going.run, frame);
     Passed {
         number: out.plain,
         going: Going {
-            run: next,
-            lost: first_lost(lost, out.table, k),
+            run: out.run,
+            lost: first_lost(going.lost, out.table, k),
         },
     }
 }
 
 // A trace whose every line is a frame.
-pub fn run_trace(
-    bytes: &[u8],
-    state: StateNumber,
-    holds: &[u16; machine::STATES],
-    after: &[StateNumber; machine::AFTER],
-    guard_of: &[u8; machine::REGIONS],
-    begins: &[u8; machine::REGIONS],
-    goes_on: &[u8; machine::REGIONS],
-    entries: &[u8; machine::ENTRIES],
-    regions: usize,
-) -> Ended
+pub fn run_trace(bytes: &[u8], state: StateNumber, slices: &Slices) -> Ended
     ensures { (m : Monitor) (kept : List ℕ) (fs : List machine.Frame)
-        → Asked bytes.now state holds.now after.now guard_of.now
-        begins.now goes_on.now entries.now regions m kept fs
+        → Asked bytes.now state slices.now.holds.now slices.now.after.now slices.now.guard_of.now
+        slices.now.begins.now slices.now.goes_on.now slices.now.entries.now slices.now.regions m kept fs
         → (w : Bool) → EndsAs w (run_of m w state) fs result (run_of m w state fs) }
 {
     let mut going = Going {
@@ -118,37 +88,27 @@ pub fn run_trace(
             frame: 0,
         },
     };
-    let mut k: usize = 0;
-    let mut at: usize = 0;
-    while at < bytes.len() {
-        let passed = pass(
-            going, bytes, at, k, holds, after, guard_of, begins, goes_on, entries, regions,
-        );
-        let next = passed.going;
-        let lost = next.lost;
-        let run = going.run;
+    for k in 0..bytes.len().div_ceil(trace::FRAME) {
+        let at = k * trace::FRAME;
+        let passed = pass(going, bytes, at, k, slices);
         if passed.number != 0 {
             return Ended {
                 plain: Stop {
                     number: passed.number,
                     frame: k,
                 },
-                table: lost,
-                run: run,
+                table: passed.going.lost,
+                run: going.run,
             };
         }
-        going = next;
-        k += 1;
-        at += trace::FRAME;
+        going = passed.going;
     }
-    let run = going.run;
-    let lost = going.lost;
     Ended {
         plain: Stop {
             number: 0,
             frame: 0,
         },
-        table: lost,
-        run: run,
+        table: going.lost,
+        run: going.run,
     }
 }

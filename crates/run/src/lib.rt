@@ -26,9 +26,8 @@ use answers::Answer;
 use frames::Stop;
 use layout::Layout;
 use machine::StateNumber;
-use stepper::Run;
+use stepper::{Run, Slices};
 use threads::{Place, Thread};
-use trace::Counted;
 use variables::Bounds;
 
 // The record of a run: how many variables there are and each value with 128 added, the place and the turn of each of
@@ -96,8 +95,8 @@ pub fn admit(bounds: Bounds, bytes: &[u8], start: usize, kept: &[u8; machine::ST
         return no_start();
     }
     match trace::count(bytes) {
-        Counted::BadAt(k) => answers::say(12, k, 0),
-        Counted::Frames(_) => answers::say(0, 0, 0),
+        Err(bad) => answers::say(12, bad.number, 0),
+        Ok(_) => answers::say(0, 0, 0),
     }
 }
 
@@ -171,20 +170,16 @@ pub fn run_from(
     if early.number != 0 {
         return alike(not_run(early.number, early.first, early.second));
     }
-    let guard_of = layout.guard_of;
-    let begins = layout.begins;
-    let goes_on = layout.goes_on;
-    let ended = frames::run_trace(
-        bytes,
-        start as StateNumber,
+    let slices = Slices {
         holds,
         after,
-        &guard_of,
-        &begins,
-        &goes_on,
+        guard_of: &layout.guard_of,
+        begins: &layout.begins,
+        goes_on: &layout.goes_on,
         entries,
-        layout.regions,
-    );
+        regions: layout.regions,
+    };
+    let ended = frames::run_trace(bytes, start as StateNumber, &slices);
     let plain = ended.plain;
     let table = ended.table;
     let last = ended.run;

@@ -64,8 +64,8 @@ pub fn start(state: StateNumber) -> Run
     ensures { (w : Bool) → Shows w result (all_idle state) }
 {
     Run {
-        state: state,
-        threads: threads::all_idle(),
+        state,
+        threads: Threads::all_idle(),
         plain: 0,
         table: 0,
     }
@@ -83,26 +83,10 @@ fn other_due(each: [Thread; machine::THREADS], t: usize) -> bool
     ensures { result ≡ any 16 (λ u. not (eqb u t) && is_due (places_of each u)) }
 {
     let mut found = false;
-    let mut u: usize = 0;
-    while u < machine::THREADS {
-        let thread = each[u];
-        let place = thread.place;
-        found = (u != t) & threads::is_due(place) | found;
-        u += 1;
+    for u in 0..machine::THREADS {
+        found = (u != t) & each[u].place.is_due() | found;
     }
     found
-}
-
-// Whether a thread at a place may be at a region next.
-fn may_be_at(place: Place, region: u8, begins: &[u8; machine::REGIONS], regions: usize) -> bool
-    ensures { result ≡ may_be_at (slices [] [] [] begins.now [] regions) (place_of place) region }
-{
-    match place {
-        Place::Idle => (region as usize) < regions
-            && begins[(region % machine::REGION_END) as usize] == 1,
-        Place::Waiting(w) => w == region,
-        Place::Due(w) => w == region,
-    }
 }
 
 // What answers a waiting thread t whose flag is 00, by a machine's notices: it must have one.
@@ -130,66 +114,6 @@ fn resumes(notified: u16, ahead: u16, t: u8) -> u8
     NOT_ALLOWED
 }
 
-// Where a thread is after a region's body.
-fn behind(region: u8, goes_on: &[u8; machine::REGIONS]) -> Place
-    ensures { place_of result ≡ follows_at goes_on.now region }
-{
-    if goes_on[(region % machine::REGION_END) as usize] == 0 {
-        Place::Idle
-    } else {
-        Place::Due(region % machine::REGION_END + 1)
-    }
-}
-
-// What answers a frame on each machine: 0 where it is taken, 13 where the thread may not be at the region, 14 where the
-// rules do not allow it. Only what a waiting thread's notice asks is asked of each machine.
-fn judge(
-    run: Run,
-    frame: Frame,
-    holds: &[u16; machine::STATES],
-    guard_of: &[u8; machine::REGIONS],
-    begins: &[u8; machine::REGIONS],
-    regions: usize,
-) -> Numbers
-    requires { frame.thread < 16 }
-    ensures { Queued run.threads → Turned run.threads → (w : Bool) → of_machine w result.plain result.table
-        ≡ verdict_of (slices holds.now [] guard_of.now begins.now [] regions)
-        (config_of w run) (frame_of frame) }
-{
-    let t = frame.thread;
-    let region = frame.region;
-    let threads = run.threads;
-    let each = threads.each;
-    if other_due(each, t as usize) {
-        return alike(MISPLACED);
-    }
-    let thread = each[t as usize];
-    let place = thread.place;
-    if !may_be_at(place, region, begins, regions) {
-        return alike(MISPLACED);
-    }
-    let guard = waiters::guard_at(guard_of, region);
-    let flag = frame.flag;
-    let holding = holds_at(holds, guard, run.state);
-    if flag != holding {
-        return alike(NOT_ALLOWED);
-    }
-    if !threads::is_waiting(place) {
-        return alike(ACCEPTED);
-    }
-    if flag {
-        let ahead = waiters::line_ahead(threads, thread.turn, guard_of, guard);
-        return Numbers {
-            plain: resumes(run.plain, ahead, t),
-            table: resumes(run.table, ahead, t),
-        };
-    }
-    Numbers {
-        plain: rechecks(run.plain, t),
-        table: rechecks(run.table, t),
-    }
-}
-
 // One number for both machines.
 fn alike(number: u8) -> Numbers
     ensures { (w : Bool) → of_machine w result.plain result.table ≡ number }
@@ -200,39 +124,6 @@ fn alike(number: u8) -> Numbers
     }
 }
 
-// The record after a region's body.
-fn ran(
-    run: Run,
-    frame: Frame,
-    holds: &[u16; machine::STATES],
-    after: &[StateNumber; machine::AFTER],
-    guard_of: &[u8; machine::REGIONS],
-    goes_on: &[u8; machine::REGIONS],
-    entries: &[u8; machine::ENTRIES],
-) -> Run
-    requires { frame.thread < 16 }
-    ensures { Queued run.threads → Turned run.threads → (w : Bool) → Shows w result
-        (ran_to (slices holds.now after.now guard_of.now [] goes_on.now
-        0)
-        (newly_at holds.now guard_of.now entries.now w run.state) (config_of w run)
-        (frame_of frame)) }
-{
-    let t = frame.thread;
-    let region = frame.region;
-    let threads = run.threads;
-    let after_body = threads::leave(threads, t, behind(region, goes_on));
-    let to = after[(region % machine::REGION_END) as usize * machine::STATES
-        + (run.state % machine::STATE_END) as usize];
-    let newly = waiters::made_true(holds, run.state, to);
-    let more = waiters::told(after_body, guard_of, newly, entries, region);
-    Run {
-        state: to,
-        threads: after_body,
-        plain: sets::union(sets::without(run.plain, t as u32), more.plain),
-        table: sets::union(sets::without(run.table, t as u32), more.table),
-    }
-}
-
 // The record after a frame with 00 that is taken: a recheck, or a thread that begins to wait. No monitor is asked.
 fn paused(run: Run, frame: Frame) -> Run
     requires { frame.thread < 16 }
@@ -240,71 +131,156 @@ fn paused(run: Run, frame: Frame) -> Run
         (next_by m told (config_of w run) (frame_of frame) false (is_waiting (places_of run.threads.each frame.thread))) }
 {
     let t = frame.thread;
-    let state = run.state;
-    let threads = run.threads;
-    let each = threads.each;
-    let thread = each[t as usize];
-    let place = thread.place;
-    if threads::is_waiting(place) {
+    if run.threads.each[t as usize].place.is_waiting() {
         return Run {
-            state: state,
-            threads: threads,
             plain: sets::without(run.plain, t as u32),
             table: sets::without(run.table, t as u32),
+            ..run
         };
     }
-    let waiting = threads::begin_wait(threads, t, frame.region);
     Run {
-        state: state,
-        threads: waiting,
-        plain: run.plain,
-        table: run.table,
+        threads: run.threads.begin_wait(t, frame.region),
+        ..run
     }
 }
 
-// One frame on both machines.
-pub fn step(
-    run: Run,
-    frame: Frame,
-    holds: &[u16; machine::STATES],
-    after: &[StateNumber; machine::AFTER],
-    guard_of: &[u8; machine::REGIONS],
-    begins: &[u8; machine::REGIONS],
-    goes_on: &[u8; machine::REGIONS],
-    entries: &[u8; machine::ENTRIES],
-    regions: usize,
-) -> Outcome
-    ensures steps { (w : Bool) (m : Monitor) (c : Config) (kept : List ℕ) → m.regions ≡ regions
-        → Held m kept holds.now after.now guard_of.now
-        → HeldPlaces m begins.now goes_on.now
-        → (w ≡ true → HeldEntries m entries.now)
-        → frame.thread < 16 → Checked m → Reached m c → ToldAt m w c → Shows w run c
-        → Steps w result (step_by m w c frame) }
-    ensures stays { Stays run result }
-{
-    let known = Frame {
-        thread: frame.thread % machine::THREAD_END,
-        region: frame.region,
-        flag: frame.flag,
-    };
-    let number = judge(run, known, holds, guard_of, begins, regions);
-    if number.plain != ACCEPTED {
-        if number.table != ACCEPTED {
-            return Outcome {
-                plain: number.plain,
-                table: number.table,
-                run: run,
-            };
+// An accepted file's monitor as it is held: the guards of each state, the state after each region's body in each state, each
+// region's guard, which regions a method begins with and which go on with the next, the table's entries, and how many regions
+// there are.
+#[derive(Clone, Copy)]
+pub struct Slices<'a> {
+    pub holds: &'a [u16; machine::STATES],
+    pub after: &'a [StateNumber; machine::AFTER],
+    pub guard_of: &'a [u8; machine::REGIONS],
+    pub begins: &'a [u8; machine::REGIONS],
+    pub goes_on: &'a [u8; machine::REGIONS],
+    pub entries: &'a [u8; machine::ENTRIES],
+    pub regions: usize,
+}
+
+impl Slices<'_> {
+    // Whether a thread at a place may be at a region next.
+    #[tactic(auto, unfolding(threads::specs::Held::place_of, machine::specs::Decide::Step::may_be_at, waiters::specs::Slices::begins_at))]
+    fn may_be_at(&self, place: Place, region: u8) -> bool
+        ensures { result ≡ may_be_at (slices [] [] [] self.now.begins.now [] self.now.regions) (place_of place) region }
+    {
+        match place {
+            Place::Idle => (region as usize) < self.regions
+                && self.begins[(region % machine::REGION_END) as usize] == 1,
+            Place::Waiting(w) | Place::Due(w) => w == region,
         }
     }
-    let next = if known.flag {
-        ran(run, known, holds, after, guard_of, goes_on, entries)
-    } else {
-        paused(run, known)
-    };
-    Outcome {
-        plain: number.plain,
-        table: number.table,
-        run: next,
+
+    // Where a thread is after a region's body.
+    #[tactic(auto, using(crate::proofs::Loops::follows_due), unfolding(threads::specs::Held::place_of, waiters::specs::Slices::follows_at, machine::specs::Held::follows_by))]
+    fn behind(&self, region: u8) -> Place
+        ensures { place_of result ≡ follows_at self.now.goes_on.now region }
+    {
+        if self.goes_on[(region % machine::REGION_END) as usize] == 0 {
+            Place::Idle
+        } else {
+            Place::Due(region % machine::REGION_END + 1)
+        }
+    }
+
+    // What answers a frame on each machine: 0 where it is taken, 13 where the thread may not be at the region, 14 where the
+    // rules do not allow it. Only what a waiting thread's notice asks is asked of each machine.
+    fn judge(&self, run: Run, frame: Frame) -> Numbers
+        requires { frame.thread < 16 }
+        ensures { Queued run.threads → Turned run.threads → (w : Bool) → of_machine w result.plain result.table
+            ≡ verdict_of (slices self.now.holds.now [] self.now.guard_of.now self.now.begins.now [] self.now.regions)
+            (config_of w run) (frame_of frame) }
+    {
+        let Frame {
+            thread: t,
+            region,
+            flag,
+        } = frame;
+        let threads = run.threads;
+        if other_due(threads.each, t as usize) {
+            return alike(MISPLACED);
+        }
+        let Thread { place, turn } = threads.each[t as usize];
+        if !self.may_be_at(place, region) {
+            return alike(MISPLACED);
+        }
+        let guard = waiters::guard_at(self.guard_of, region);
+        if flag != holds_at(self.holds, guard, run.state) {
+            return alike(NOT_ALLOWED);
+        }
+        if !place.is_waiting() {
+            return alike(ACCEPTED);
+        }
+        if flag {
+            let ahead = waiters::line_ahead(threads, turn, self.guard_of, guard);
+            return Numbers {
+                plain: resumes(run.plain, ahead, t),
+                table: resumes(run.table, ahead, t),
+            };
+        }
+        Numbers {
+            plain: rechecks(run.plain, t),
+            table: rechecks(run.table, t),
+        }
+    }
+
+    // The record after a region's body.
+    fn ran(&self, run: Run, frame: Frame) -> Run
+        requires { frame.thread < 16 }
+        ensures { Queued run.threads → Turned run.threads → (w : Bool) → Shows w result
+            (ran_to (slices self.now.holds.now self.now.after.now self.now.guard_of.now [] self.now.goes_on.now
+            0)
+            (newly_at self.now.holds.now self.now.guard_of.now self.now.entries.now w run.state) (config_of w run)
+            (frame_of frame)) }
+    {
+        let t = frame.thread;
+        let region = frame.region;
+        let after_body = run.threads.leave(t, self.behind(region));
+        let to = self.after[(region % machine::REGION_END) as usize * machine::STATES
+            + (run.state % machine::STATE_END) as usize];
+        let newly = waiters::made_true(self.holds, run.state, to);
+        let more = waiters::told(after_body, self.guard_of, newly, self.entries, region);
+        Run {
+            state: to,
+            threads: after_body,
+            plain: sets::union(sets::without(run.plain, t as u32), more.plain),
+            table: sets::union(sets::without(run.table, t as u32), more.table),
+        }
+    }
+
+    // One frame on both machines.
+    pub fn step(&self, run: Run, frame: Frame) -> Outcome
+        ensures steps { (w : Bool) (m : Monitor) (c : Config) (kept : List ℕ) → m.regions ≡ self.now.regions
+            → Held m kept self.now.holds.now self.now.after.now self.now.guard_of.now
+            → HeldPlaces m self.now.begins.now self.now.goes_on.now
+            → (w ≡ true → HeldEntries m self.now.entries.now)
+            → frame.thread < 16 → Checked m → Reached m c → ToldAt m w c → Shows w run c
+            → Steps w result (step_by m w c frame) }
+        ensures stays { Stays run result }
+    {
+        let known = Frame {
+            thread: frame.thread % machine::THREAD_END,
+            ..frame
+        };
+        let number = self.judge(run, known);
+        if number.plain != ACCEPTED {
+            if number.table != ACCEPTED {
+                return Outcome {
+                    plain: number.plain,
+                    table: number.table,
+                    run,
+                };
+            }
+        }
+        let next = if known.flag {
+            self.ran(run, known)
+        } else {
+            paused(run, known)
+        };
+        Outcome {
+            plain: number.plain,
+            table: number.table,
+            run: next,
+        }
     }
 }

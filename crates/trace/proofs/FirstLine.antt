@@ -22,8 +22,8 @@ use Rattle.logic.proofs.Bools.{different}
 use Rattle.trace.specs.Lined.{line_for, first_of, line_at, counted_as, counted_of}
 use Rattle.trace.specs.Pairs.{pair_of}
 use Rattle.trace.specs.Lined as line
-use Rattle.trace.specs.declared.Counted as counted
-use Rattle.trace.specs.declared.Counted.TheVariants.{Frames as Counting, BadAt}
+use Rattle.std.specs.Prelude.{Result, Ok, Err}
+use Rattle.trace.specs.declared.BadLine.{BadLine}
 
 -- Two digits
 
@@ -286,12 +286,12 @@ line_none {trace} {at} p n = rw (line_six trace at p.inside p.ends)
 -- Frames counted
 
 -- with n frames before
-unfoldable pub counted_from : ℕ → Frames → counted.Counted
-counted_from n (frames fs) = Counting (n + length fs)
-counted_from n (none_at k) = BadAt k
+unfoldable pub counted_from : ℕ → Frames → Result ℕ BadLine
+counted_from n (frames fs) = Ok (n + length fs)
+counted_from n (none_at k) = Err (record { number = k })
 
 -- what is counted from a byte on, after n frames
-unfoldable pub left_from : List ℕ → ℕ → ℕ → counted.Counted
+unfoldable pub left_from : List ℕ → ℕ → ℕ → Result ℕ BadLine
 left_from trace at n = counted_from n (frames_from n (lines_from [] (drop at trace)))
 
 pub left_all : (trace : List ℕ) → counted_of trace ≡ left_from trace 0 0
@@ -299,12 +299,12 @@ unfolding counted_of counted_as frames_of left_from counted_from
 left_all trace = go (frames_from 0 (lines_from [] trace))
   where
     go : (r : Frames) → counted_as r ≡ counted_from 0 r
-    go (frames fs) = ap Counting (omega arith)
+    go (frames fs) = ap Ok (omega arith)
     go (none_at k) = refl
 
 counted_more : (n : ℕ) (f : machine.Frame) (r : Frames) → counted_from n (prepend f r) ≡ counted_from (n + 1) r
 unfolding counted_from prepend
-counted_more n f (frames fs) = ap Counting (omega arith)
+counted_more n f (frames fs) = ap Ok (omega arith)
 counted_more n f (none_at k) = refl
 
 pub record LeftNext (trace : List ℕ) (at n : ℕ) : Type 0 where
@@ -331,7 +331,7 @@ bad_none n (l ∷ ls) h = go (frame_of l) refl
     go none p = rw (frames_from, p)
     go (some f) p = let q = rw p at h in different (cc)
 
-pub left_bad : (trace : List ℕ) (at n : ℕ) → line.Bad ≡ line_at trace at → left_from trace at n ≡ BadAt n
+pub left_bad : (trace : List ℕ) (at n : ℕ) → line.Bad ≡ line_at trace at → left_from trace at n ≡ Err (record { number = n })
 unfolding line_at left_from counted_from
 left_bad trace at n h = rw (bad_none n _ h)
 
@@ -344,6 +344,6 @@ end_none n (l ∷ ls) h = go (frame_of l) refl
     go none p = let q = rw p at h in different (cc)
     go (some f) p = let q = rw p at h in different (cc)
 
-pub left_end : (trace : List ℕ) (at n : ℕ) → line.End ≡ line_at trace at → left_from trace at n ≡ Counting n
+pub left_end : (trace : List ℕ) (at n : ℕ) → line.End ≡ line_at trace at → left_from trace at n ≡ Ok n
 unfolding line_at left_from counted_from
-left_end trace at n h = rw (end_none n _ h) (ap Counting (omega arith))
+left_end trace at n h = rw (end_none n _ h) (ap Ok (omega arith))

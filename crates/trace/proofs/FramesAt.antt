@@ -21,7 +21,8 @@ use Rattle.logic.proofs.Bools.{different}
 use Rattle.trace.specs.Decoded.{value_of, numbers_at}
 use Rattle.trace.specs.Lined.{line_for, first_of, line_at, counted_as, counted_of}
 use Rattle.trace.specs.Lined as line
-use Rattle.trace.specs.declared.Counted.TheVariants.{Frames as Counting, BadAt}
+use Rattle.std.specs.Prelude.{Ok, Err}
+use Rattle.trace.specs.declared.BadLine.{BadLine}
 
 -- what the code finds where a frame's line begins
 pub record FrameAt (trace : List ℕ) (at : ℕ) (f : machine.Frame) : Type 0 where
@@ -163,7 +164,7 @@ pub record Counts (trace : List ℕ) (n : ℕ) : Type 0 where
   pub read : frames_of trace ≡ frames all
   pub number : length all ≡ n
 
-pub counted_frames : (trace : List ℕ) (n : ℕ) → counted_of trace ≡ Counting n → Counts trace n
+pub counted_frames : (trace : List ℕ) (n : ℕ) → counted_of trace ≡ Ok n → Counts trace n
 unfolding counted_of counted_as
 counted_frames trace n e = go (frames_of trace) refl
   where
@@ -171,10 +172,14 @@ counted_frames trace n e = go (frames_of trace) refl
     go (frames fs) p = let q = rw p at e in record { all = fs; read = p; number = cc }
     go (none_at k) p = let q = rw p at e in different (cc)
 
-pub counted_bad : (trace : List ℕ) (k : ℕ) → counted_of trace ≡ BadAt k → frames_of trace ≡ none_at k
+pub counted_bad : (trace : List ℕ) (k : ℕ) → counted_of trace ≡ Err (record { number = k }) → frames_of trace ≡ none_at k
 unfolding counted_of counted_as
 counted_bad trace k e = go (frames_of trace) refl
   where
     go : (r : Frames) → frames_of trace ≡ r → frames_of trace ≡ none_at k
     go (frames fs) p = let q = rw p at e in different (cc)
-    go (none_at j) p = let q = rw p at e in cc
+    go (none_at j) p =
+        let q = rw p at e in
+        let b : ◌≡◌ {A = BadLine} (record { number = j }) (record { number = k }) = cc in
+        let n : j ≡ k = ap (λ (line : BadLine). line.number) b in
+        cc

@@ -1,11 +1,10 @@
 -- What the code finds at a byte of a trace, and in a whole trace, by the definitions of frames.
-use Rattle.std.specs.Prelude.{ℕ, ◌<◌, ◌≡◌, Bool, true, false, List, [], ◌∷◌, length, drop}
+use Rattle.std.specs.Prelude.{ℕ, ◌<◌, ◌≡◌, Bool, true, false, List, [], ◌∷◌, length, drop, Result, Ok, Err}
 use Rattle.std.proofs.Math.Option.{Option, none, some}
 use Rattle.machine.specs.Monitor as machine
 use Rattle.meaning.specs.Decide.Frames.{lines_from, frame_of, Frames, frames, none_at, frames_of}
 use Rattle.meaning.specs.Decide.Frames as meaning
-use Rattle.trace.specs.declared.Counted as counted
-use Rattle.trace.specs.declared.Counted.TheVariants.{Frames as Counting, BadAt}
+use Rattle.trace.specs.declared.BadLine.{BadLine}
 
 -- a frame with its thread, region and flag; a line that is no frame; or the trace's end
 pub data Line : Type 0 where
@@ -36,9 +35,10 @@ pub record Tells (trace : List ℕ) (at : ℕ) (r : Bool) : Type 0 where
   pub frame : r ≡ true → FrameThere trace at
   pub none_there : r ≡ false → at < length trace → Bad ≡ line_at trace at
 
-unfoldable pub counted_as : Frames → counted.Counted
-counted_as (frames fs) = Counting (length fs)
-counted_as (none_at k) = BadAt k
+-- how many frames there are, or the number of the first line that is none
+unfoldable pub counted_as : Frames → Result ℕ BadLine
+counted_as (frames fs) = Ok (length fs)
+counted_as (none_at k) = Err (record { number = k })
 
-unfoldable pub counted_of : List ℕ → counted.Counted
+unfoldable pub counted_of : List ℕ → Result ℕ BadLine
 counted_of trace = counted_as (frames_of trace)

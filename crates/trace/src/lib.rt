@@ -15,11 +15,10 @@ pub struct Numbers {
     pub flag: bool,
 }
 
-// How many frames there are, or the number of the first line that is none.
-#[derive(Clone, Copy)]
-pub enum Counted {
-    Frames(usize),
-    BadAt(usize),
+// A line that is no frame, by its number.
+#[derive(Clone, Copy, Debug, PartialEq, Eq)]
+pub struct BadLine {
+    pub number: usize,
 }
 
 // Bytes in a frame's line, with its 0A.
@@ -77,18 +76,15 @@ fn is_frame(trace: &[u8], at: usize) -> bool
     digits & marks
 }
 
-// The frames of a whole trace, counted.
-pub fn count(trace: &[u8]) -> Counted
+// The frames of a whole trace, counted; or its first line that is none.
+pub fn count(trace: &[u8]) -> Result<usize, BadLine>
     ensures { result ≡ counted_of trace.now }
 {
-    let mut at: usize = 0;
-    let mut n: usize = 0;
-    while at < trace.len() {
-        if !is_frame(trace, at) {
-            return Counted::BadAt(n);
+    let lines = trace.len().div_ceil(FRAME);
+    for number in 0..lines {
+        if !is_frame(trace, number * FRAME) {
+            return Err(BadLine { number });
         }
-        at += FRAME;
-        n += 1;
     }
-    Counted::Frames(n)
+    Ok(lines)
 }

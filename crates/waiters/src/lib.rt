@@ -14,13 +14,14 @@ use machine::StateNumber;
 use threads::{Place, Threads};
 
 // A set of threads for each machine.
-#[derive(Clone, Copy)]
+#[derive(Clone, Copy, PartialEq, Eq)]
 pub struct Notices {
     pub plain: u16,
     pub table: u16,
 }
 
 // The guard of a region.
+#[tactic(auto, unfolding(crate::specs::Slices::guard_at))]
 pub fn guard_at(guard_of: &[u8; machine::REGIONS], region: u8) -> u8
     ensures { result ≡ guard_at guard_of.now region }
 {
@@ -28,14 +29,11 @@ pub fn guard_at(guard_of: &[u8; machine::REGIONS], region: u8) -> u8
 }
 
 // Whether a thread at a place waits on a guard.
+#[tactic(auto, unfolding(threads::specs::Held::place_of, machine::specs::Monitor::on_guard))]
 fn waits_on(place: Place, guard_of: &[u8; machine::REGIONS], guard: u8) -> bool
     ensures { result ≡ on_guard (guards_only guard_of.now) guard (place_of place) }
 {
-    match place {
-        Place::Idle => false,
-        Place::Waiting(w) => guard_at(guard_of, w) == guard,
-        Place::Due(_) => false,
-    }
+    matches!(place, Place::Waiting(w) if guard_at(guard_of, w) == guard)
 }
 
 // Those of the first so many in the queue who wait on a guard, as a set.
@@ -44,36 +42,29 @@ pub fn line_ahead(threads: Threads, turn: u8, guard_of: &[u8; machine::REGIONS],
         ≡ has (those (waits_on (guards_only guard_of.now) (threads_of threads) guard)
         (queue_of threads.order turn)) u }
 {
-    let each = threads.each;
     let mut set: u16 = 0;
     let mut order = threads.order;
-    let mut k: u8 = 0;
-    while k < turn {
+    for _ in 0..turn {
         let u = queue::first(order);
-        let thread = each[u as usize];
-        let place = thread.place;
-        if waits_on(place, guard_of, guard) {
+        if waits_on(threads.each[u as usize].place, guard_of, guard) {
             set = sets::with(set, u as u32);
         }
-        order = order / 16;
-        k += 1;
+        order /= 16;
     }
     set
 }
 
 // Whether a thread at a place waits on one of a set of guards.
+#[tactic(auto, unfolding(threads::specs::Held::place_of, crate::specs::Told::on_one))]
 fn waits_on_one(place: Place, guard_of: &[u8; machine::REGIONS], guards: u16) -> bool
     ensures { result ≡ on_one guard_of.now (member guards) (place_of place) }
 {
-    match place {
-        Place::Idle => false,
-        Place::Waiting(w) => sets::has(guards, guard_at(guard_of, w) as u32),
-        Place::Due(_) => false,
-    }
+    matches!(place, Place::Waiting(w) if sets::has(guards, guard_at(guard_of, w) as u32))
 }
 
 // Whether an entry of a region tells a waiter at a place whose guard the body has made true: a broadcast tells all, a signal
 // the first, on whose guard none of those ahead waits.
+#[tactic(auto, unfolding(threads::specs::Held::place_of, crate::specs::Told::told_behind, crate::specs::Told::broadcast_at))]
 fn is_told(
     place: Place,
     guard_of: &[u8; machine::REGIONS],
@@ -83,36 +74,28 @@ fn is_told(
 ) -> bool
     ensures { result ≡ told_behind guard_of.now entries.now region met (place_of place) }
 {
-    match place {
-        Place::Idle => false,
-        Place::Waiting(w) => {
-            let guard = guard_at(guard_of, w);
-            let code = entries[(region % machine::REGION_END) as usize * machine::REGIONS
-                + (guard % machine::REGION_END) as usize];
-            either(code / 4 % 2 == 1, !sets::has(met, guard as u32))
-        }
-        Place::Due(_) => false,
-    }
-}
-
-fn either(a: bool, b: bool) -> bool
-    ensures { result ≡ a || b }
-{
-    if a { true } else { b }
+    let Place::Waiting(w) = place else {
+        return false;
+    };
+    let guard = guard_at(guard_of, w);
+    let code = entries[(region % machine::REGION_END) as usize * machine::REGIONS
+        + (guard % machine::REGION_END) as usize];
+    code / 4 % 2 == 1 || !sets::has(met, guard as u32)
 }
 
 // The guards met so far, with that of a thread at a place.
+#[tactic(auto, using(crate::proofs::Loops::guard_one), unfolding(threads::specs::Held::place_of, machine::specs::Monitor::on_guard))]
 fn met_with(met: u16, place: Place, guard_of: &[u8; machine::REGIONS]) -> u16
     ensures { (g : ℕ) → member result g ≡ on_guard (guards_only guard_of.now) g (place_of place) || member met g }
 {
     match place {
-        Place::Idle => met,
         Place::Waiting(w) => sets::with(met, guard_at(guard_of, w) as u32),
-        Place::Due(_) => met,
+        _ => met,
     }
 }
 
 // The guards that a body has made true, by the states before and after it.
+#[tactic(auto, unfolding(crate::specs::Slices::holds_at, crate::specs::Told::becomes_at))]
 pub fn made_true(holds: &[u16; machine::STATES], from: StateNumber, to: StateNumber) -> u16
     ensures { (g : ℕ) → member result g ≡ becomes_at holds.now from to g }
 {
@@ -139,20 +122,13 @@ pub fn told(
     let mut plain: u16 = 0;
     let mut table: u16 = 0;
     if newly == 0 {
-        return Notices {
-            plain: plain,
-            table: table,
-        };
+        return Notices { plain, table };
     }
-    let each = threads.each;
-    let waiting = threads.waiting;
     let mut met: u16 = 0;
     let mut rest = threads.order;
-    let mut k: u8 = 0;
-    while k < waiting {
+    for _ in 0..threads.waiting {
         let u = queue::first(rest);
-        let thread = each[u as usize];
-        let place = thread.place;
+        let place = threads.each[u as usize].place;
         if waits_on_one(place, guard_of, newly) {
             plain = sets::with(plain, u as u32);
             if is_told(place, guard_of, entries, region, met) {
@@ -160,11 +136,7 @@ pub fn told(
             }
             met = met_with(met, place, guard_of);
         }
-        rest = rest / 16;
-        k += 1;
+        rest /= 16;
     }
-    Notices {
-        plain: plain,
-        table: table,
-    }
+    Notices { plain, table }
 }

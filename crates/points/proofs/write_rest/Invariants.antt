@@ -9,14 +9,10 @@ use Rattle.run.specs.Way.{Way}
 use Rattle.points.specs.Written.{PointsAsked, Listed}
 use Rattle.points.proofs.write_rest.Given as goal
 
-abbrev pub invariant-loop-at : goal.invariant-loop-at
-invariant-loop-at l =
-    (l.at ≡ 7 * l.k) × (l.at ≤ length l.bytes + 7) × (length l.out ≡ length l.initial.out)
+abbrev pub invariant-loop-k : goal.invariant-loop-k
+invariant-loop-k l =
+    (length l.out ≡ length l.initial.out)
     × ((m : Monitor) (kept : List ℕ) (fs : List Frame) (s : ℕ) (before : List ℕ)
-    → PointsAsked l.bytes s l.bounds l.layout l.holds l.after l.entries before m kept fs → length before ≡ length l.initial.out
+    → PointsAsked l.bytes s l.bounds l.fn.layout l.holds l.after l.entries before m kept fs → length before ≡ length l.initial.out
     → Way (model m) s fs l.initial.going 0 → Listed m s fs 1 before l.next l.initial.out
     → Way (model m) s fs l.going l.k × Listed m s fs (l.k + 1) before l.to l.out)
-
-abbrev pub decreases-loop-at : goal.decreases-loop-at
-decreases-loop-at l =
-    length l.bytes - l.at

@@ -53,23 +53,23 @@ started bounds slice start least one m holds after guards b h =
     let low : start < count (vars m) = omega (arith, b.states) in
     kept_one (kept m start) _ (kept_by m _ _ _ _ h start low) one
 
-pub returns-in-BadAt : goal.returns-in-BadAt
-returns-in-BadAt c =
+pub returns-in-Err : goal.returns-in-Err
+returns-in-Err c =
     record {
       admits = λ m holds after guards b h.
           let s = c.say.ensures in
           no_frame _ (started _ _ _ c.if-bounds-start.false c.if-kept-start-ne1.false m holds after guards b h)
-          (counted_bad _ _ (sym c.count.ensures ∙ c.in-BadAt.is))
+          (counted_bad _ _ (sym c.count.ensures ∙ c.in-Err.is))
           (record { number = s.0; first = s.1; second = s.2 });
       start_lt_most_states = λ z. absurd (omega arith);
     }
 
-pub returns-in-Frames : goal.returns-in-Frames
-returns-in-Frames c =
+pub returns-in-Ok : goal.returns-in-Ok
+returns-in-Ok c =
     record {
       admits = λ m holds after guards b h.
-          let s = c.say-in-Frames.ensures in
-          let f = counted_frames _ _ (sym c.count.ensures ∙ c.in-Frames.is) in
+          let s = c.say-in-Ok.ensures in
+          let f = counted_frames _ _ (sym c.count.ensures ∙ c.in-Ok.is) in
           all_frames f.all (started _ _ _ c.if-bounds-start.false c.if-kept-start-ne1.false m holds after guards b h) f.read
           (record { number = s.0; first = s.1; second = s.2 });
       start_lt_most_states = λ z.

@@ -12,22 +12,20 @@ use Rattle.stepper.proofs.other_due.Goals as goal
 
 pub loop-u-init : goal.loop-u-init
 unfolding any
-loop-u-init c = (omega arith, refl)
+loop-u-init c = refl
 
 pub loop-u-preserved : goal.loop-u-preserved
 unfolding places_of idle_thread any
 loop-u-preserved c =
     let loop = c.loop-u in
     let a = c.args in
-    let others : ℕ → Bool = λ v. not (eqb v a.t) && is_due (places_of a.each v) in (
-      omega arith,
-      ap₂ (λ (x y : Bool). (not (eqb loop.u a.t) && x) || y) c.is_due.ensures loop.invariant.1
-          ∙ ap (λ (k : ℕ). any k others) (sym (add-one loop.u)),
-    )
+    let others : ℕ → Bool = λ v. not (eqb v a.t) && is_due (places_of a.each v) in
+    ap₂ (λ (x y : Bool). (not (eqb loop.u a.t) && x) || y) c.is_due.ensures loop.invariant
+    ∙ ap (λ (k : ℕ). any k others) (sym (add-one loop.u))
 
 pub returns : goal.returns
 returns c =
     let l = c.loop-u in
     let a = c.args in
     let end : l.u ≡ 16 = omega arith in
-    l.invariant.1 ∙ ap (λ (k : ℕ). any k (λ v. not (eqb v a.t) && is_due (places_of a.each v))) end
+    l.invariant ∙ ap (λ (k : ℕ). any k (λ v. not (eqb v a.t) && is_due (places_of a.each v))) end

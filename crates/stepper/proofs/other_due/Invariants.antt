@@ -8,7 +8,4 @@ use Rattle.threads.specs.Held.{places_of}
 use Rattle.stepper.proofs.other_due.Given as goal
 
 abbrev pub invariant-loop-u : goal.invariant-loop-u
-invariant-loop-u l = (l.u ≤ 16) × (l.found ≡ any l.u (λ v. not (eqb v l.t) && is_due (places_of l.each v)))
-
-abbrev pub decreases-loop-u : goal.decreases-loop-u
-decreases-loop-u l = 16 - l.u
+invariant-loop-u l = l.found ≡ any l.u (λ v. not (eqb v l.t) && is_due (places_of l.each v))

@@ -46,7 +46,7 @@ returns-then-is_waiting c queued turned w m told =
       state = refl;
       threads = same_refl;
       turns = turned;
-      notices = λ u h. used_up c w u;
+      notices = λ u h. used_up (goal.at.returns-then-is_waiting c).After-without-then-is_waiting w u;
     })
 
 pub returns : goal.returns
@@ -56,12 +56,12 @@ returns c queued turned w m told =
     let run = s.args.run in
     let after : Run = record {
       state = run.state;
-      threads = c.begin_wait-waiting.result;
+      threads = c.begin_wait.result;
       plain = run.plain;
       table = run.table;
     } in
     let waits = sym c.is_waiting.ensures ∙ c.if-is_waiting.false in
-    let began = c.begin_wait-waiting.ensures s.requires queued turned waits in
+    let began = c.begin_wait.ensures s.requires queued turned waits in
     subst (λ (b : Bool). Shows w after (next run s.args.frame w m told b)) (sym waits)
     (record {
       state = refl;

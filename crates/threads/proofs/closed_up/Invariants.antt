@@ -1,4 +1,4 @@
-use Prim.Native.Nat.{ℕ, ◌-◌, ◌≤◌, ◌<◌}
+use Prim.Native.Nat.{ℕ, ◌≤◌, ◌<◌}
 use mathlib.Core.Path.{◌≡◌}
 use mathlib.Core.Logic.{◌⊎◌}
 use lib.ListN.{length}
@@ -11,12 +11,8 @@ use Rattle.threads.proofs.closed_up.Given as goal
 abbrev pub invariant-loop-k : goal.invariant-loop-k
 invariant-loop-k l =
     ((u : ℕ) → u < 16 → places_of l.next u ≡ places_of l.initial.next u)
-    × (l.from ≤ l.k)
     × ((l.k ≡ l.from) ⊎ (l.k ≤ l.waiting))
     × (l.from < 16 → l.rest ≡ behind_of l.order l.k)
     × (l.from < 16 → Once (queue_of l.order l.waiting) → (u : ℕ) → u < 16
     → turns_of l.next u ≡ between l.from l.k (place_in (queue_of l.order l.waiting) u) (turns_of l.initial.next u))
     × (length l.next ≡ 16)
-
-abbrev pub decreases-loop-k : goal.decreases-loop-k
-decreases-loop-k l = l.waiting - l.k

@@ -18,26 +18,25 @@ use Rattle.waiters.proofs.Loops.{Gathered, gather_none, gather_turn}
 use Rattle.waiters.proofs.line_ahead.Goals as goal
 use Rattle.waiters.proofs.line_ahead.Goals.{then-waits_on, else-waits_on}
 
-pub loop-k-init : goal.loop-k-init
+pub loop-init : goal.loop-init
 unfolding behind_of queue_of
-loop-k-init c = (omega arith, refl, gather_none)
+loop-init c = (refl, gather_none)
 
-pub loop-k-preserved : goal.loop-k-preserved
+pub loop-preserved : goal.loop-preserved
 unfolding places_of idle_thread
-loop-k-preserved c =
-    let loop = c.loop-k in
+loop-preserved c =
+    let loop = c.loop in
     let a = c.args in
     let o = a.threads.order in
     let u = c.first-u.result in
     let on : ℕ → Bool = λ v. on_guard (guards_only a.guard_of.now) a.guard (places_of a.threads.each v) in
-    let who : u ≡ behind_of o loop.k % 16 =
-    c.first-u.ensures ∙ ap (λ (n : ℕ). n % 16) loop.invariant.1 in
-    let seen : joined (queue_of o loop.k) u ≡ queue_of o (loop.k + 1) =
-    ap (joined (queue_of o loop.k)) who ∙ sym (queue_next o loop.k) ∙ ap (queue_of o) (sym (add-one loop.k)) in (
-      omega arith,
-      ap (λ (n : ℕ). n / 16) loop.invariant.1 ∙ sym (behind_next o loop.k) ∙ ap (behind_of o) (sym (add-one loop.k)),
+    let who : u ≡ behind_of o loop.counter % 16 =
+    c.first-u.ensures ∙ ap (λ (n : ℕ). n % 16) loop.invariant.0 in
+    let seen : joined (queue_of o loop.counter) u ≡ queue_of o (loop.counter + 1) =
+    ap (joined (queue_of o loop.counter)) who ∙ sym (queue_next o loop.counter) ∙ ap (queue_of o) (sym (add-one loop.counter)) in (
+      ap (λ (n : ℕ). n / 16) loop.invariant.0 ∙ sym (behind_next o loop.counter) ∙ ap (behind_of o) (sym (add-one loop.counter)),
       subst (λ (l : List ℕ). Gathered c.if-waits_on.set l on) seen
-          (gather_turn loop.invariant.2 (omega arith) c.waits_on.ensures
+          (gather_turn loop.invariant.1 (omega arith) c.waits_on.ensures
           (elim c.if-waits_on.branch [
             | then-waits_on w ↦ inl (w.if-waits_on.true, λ v. ap (λ (n : ℕ). member n v) w.set-is ∙ w.with-set.ensures v)
             | else-waits_on w ↦ inr (w.if-waits_on.false, w.set-is)
@@ -47,11 +46,11 @@ loop-k-preserved c =
 pub returns : goal.returns
 unfolding waits_on
 returns c u h =
-    let l = c.loop-k in
+    let l = c.loop in
     let a = c.args in
-    let end : l.k ≡ a.turn = let z : a.turn ≤ l.k = c.loop-k-test.false in omega arith in
+    let end : l.counter ≡ a.turn = let z : a.turn ≤ l.counter = c.loop-test.false in omega arith in
     let on = waits_on (guards_only a.guard_of.now) (threads_of a.threads) a.guard in
-    l.invariant.2.each u h ∙ ap (λ (k : ℕ). has (queue_of a.threads.order k) u && on u) end
+    l.invariant.1.each u h ∙ ap (λ (k : ℕ). has (queue_of a.threads.order k) u && on u) end
     ∙ sym (has_those on (queue_of a.threads.order a.turn) u)
 
 pub overflow_cast-u : goal.overflow_cast-u

@@ -1,4 +1,3 @@
-use Prim.Native.Nat.{◌-◌, ◌≤◌}
 use mathlib.Core.Path.{◌≡◌}
 use Rattle.machine.specs.Monitor.{on_guard}
 use Rattle.queue.specs.Packed.{queue_of, behind_of}
@@ -7,11 +6,7 @@ use Rattle.waiters.specs.Slices.{guards_only}
 use Rattle.waiters.proofs.Loops.{Gathered}
 use Rattle.waiters.proofs.line_ahead.Given as goal
 
-abbrev pub invariant-loop-k : goal.invariant-loop-k
-invariant-loop-k l =
-    (l.k ≤ l.turn)
-    × (l.order ≡ behind_of l.initial.order l.k)
-    × Gathered l.set (queue_of l.initial.order l.k) (λ v. on_guard (guards_only l.guard_of) l.guard (places_of l.each v))
-
-abbrev pub decreases-loop-k : goal.decreases-loop-k
-decreases-loop-k l = l.turn - l.k
+abbrev pub invariant-loop : goal.invariant-loop
+invariant-loop l =
+    (l.order ≡ behind_of l.initial.order l.counter)
+    × Gathered l.set (queue_of l.initial.order l.counter) (λ v. on_guard (guards_only l.guard_of) l.guard (places_of l.threads.each v))

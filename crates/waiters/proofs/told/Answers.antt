@@ -24,15 +24,15 @@ use Rattle.waiters.proofs.Front.{some, told_met, seen_more, other_guard, on_one_
 use Rattle.waiters.proofs.told.Goals as goal
 use Rattle.waiters.proofs.told.Goals.{then-waits_on_one, else-waits_on_one, then-is_told, else-is_told}
 
-pub loop-k-init : goal.loop-k-init
+pub loop-init : goal.loop-init
 unfolding behind_of queue_of those some
-loop-k-init c = (omega arith, refl, gather_none, λ o. gather_none, λ g h. member_none g)
+loop-init c = (refl, gather_none, λ o. gather_none, λ g h. member_none g)
 
-pub loop-k-preserved : goal.loop-k-preserved
+pub loop-preserved : goal.loop-preserved
 unfolding places_of idle_thread waits_on
-loop-k-preserved c =
+loop-preserved c =
     let d = c in
-    let loop = d.loop-k in
+    let loop = d.loop in
     let a = d.args in
     let gs = a.guard_of.now in
     let es = a.entries.now in
@@ -41,24 +41,23 @@ loop-k-preserved c =
     let p : Threads = threads_of a.threads in
     let u = d.first-u.result in
     let new : ℕ → Bool = λ v. new_first gs es asked p a.region v (p.place v) in
-    let who : u ≡ behind_of o loop.k % 16 =
-    d.first-u.ensures ∙ ap (λ (n : ℕ). n % 16) loop.invariant.1 in
-    let seen : joined (queue_of o loop.k) u ≡ queue_of o (loop.k + 1) =
-    ap (joined (queue_of o loop.k)) who ∙ sym (queue_next o loop.k) ∙ ap (queue_of o) (sym (add-one loop.k)) in
+    let who : u ≡ behind_of o loop.counter % 16 =
+    d.first-u.ensures ∙ ap (λ (n : ℕ). n % 16) loop.invariant.0 in
+    let seen : joined (queue_of o loop.counter) u ≡ queue_of o (loop.counter + 1) =
+    ap (joined (queue_of o loop.counter)) who ∙ sym (queue_next o loop.counter) ∙ ap (queue_of o) (sym (add-one loop.counter)) in
     let met_new : Once (queue_of o a.threads.waiting)
     → on_one gs asked (p.place u) && told_behind gs es a.region loop.met (p.place u) ≡ new u =
-    λ once. told_met gs es asked a.region loop.met p o a.threads.waiting loop.k u (omega arith) who refl once
-    loop.invariant.4 in (
-      omega arith,
-      ap (λ (n : ℕ). n / 16) loop.invariant.1 ∙ sym (behind_next o loop.k) ∙ ap (behind_of o) (sym (add-one loop.k)),
+    λ once. told_met gs es asked a.region loop.met p o a.threads.waiting loop.counter u (omega arith) who refl once
+    loop.invariant.3 in (
+      ap (λ (n : ℕ). n / 16) loop.invariant.0 ∙ sym (behind_next o loop.counter) ∙ ap (behind_of o) (sym (add-one loop.counter)),
       subst (λ (l : List ℕ). Gathered c.if-waits_on_one.plain l (λ v. on_one gs asked (p.place v))) seen
-          (gather_turn loop.invariant.2 (omega arith) d.waits_on_one.ensures
+          (gather_turn loop.invariant.1 (omega arith) d.waits_on_one.ensures
           (elim c.if-waits_on_one.branch [
             | then-waits_on_one w ↦ inl (w.if-waits_on_one.true, λ v. ap (λ (n : ℕ). member n v) w.plain-is ∙ w.with-plain.ensures v)
             | else-waits_on_one w ↦ inr (w.if-waits_on_one.false, w.plain-is)
           ])),
       λ once. subst (λ (l : List ℕ). Gathered c.if-waits_on_one.table l new) seen
-          (gather_turn (loop.invariant.3 once) (omega arith) refl
+          (gather_turn (loop.invariant.2 once) (omega arith) refl
           (elim c.if-waits_on_one.branch [
             | then-waits_on_one w ↦ let on : on_one gs asked (p.place u) ≡ true = sym d.waits_on_one.ensures ∙ w.if-waits_on_one.true in
                 elim w.if-is_told.branch [
@@ -79,12 +78,12 @@ loop-k-preserved c =
           ])),
       λ g h. elim c.if-waits_on_one.branch [
         | then-waits_on_one w ↦ ap (λ (n : ℕ). member n g) w.met-is ∙ w.met_with-met.ensures g
-            ∙ ap (λ (y : Bool). waits_on (guards_only gs) p g u || y) (loop.invariant.4 g h)
-        | else-waits_on_one w ↦ ap (λ (n : ℕ). member n g) w.met-is ∙ loop.invariant.4 g h
-            ∙ ap (λ (y : Bool). y || some (those (waits_on (guards_only gs) p g) (queue_of o loop.k)))
+            ∙ ap (λ (y : Bool). waits_on (guards_only gs) p g u || y) (loop.invariant.3 g h)
+        | else-waits_on_one w ↦ ap (λ (n : ℕ). member n g) w.met-is ∙ loop.invariant.3 g h
+            ∙ ap (λ (y : Bool). y || some (those (waits_on (guards_only gs) p g) (queue_of o loop.counter)))
             (sym (other_guard gs asked g (p.place u) h (sym d.waits_on_one.ensures ∙ w.if-waits_on_one.false)))
       ]
-          ∙ sym (seen_more (waits_on (guards_only gs) p g) (queue_of o loop.k) u)
+          ∙ sym (seen_more (waits_on (guards_only gs) p g) (queue_of o loop.counter) u)
           ∙ ap (λ (l : List ℕ). some (those (waits_on (guards_only gs) p g) l)) seen,
     )
 
@@ -108,20 +107,20 @@ all_seen false b h = sym (is_false (λ q. clash (h q) refl))
 pub returns : goal.returns
 unfolding threads
 returns c queued =
-    let l = c.loop-k in
+    let l = c.loop in
     let a = c.args in
     let gs = a.guard_of.now in
     let es = a.entries.now in
     let asked : ℕ → Bool = member a.newly in
     let p : Threads = threads_of a.threads in
-    let end : l.k ≡ a.threads.waiting = let z : a.threads.waiting ≤ l.k = c.loop-k-test.false in omega arith in
+    let end : l.counter ≡ a.threads.waiting = let z : a.threads.waiting ≤ l.counter = c.loop-test.false in omega arith in
     let whole : (f : Bool) (u : ℕ) → u < 16 → (f ≡ true → is_waiting (p.place u) ≡ true)
-    → has (queue_of a.threads.order l.k) u && f ≡ f =
+    → has (queue_of a.threads.order l.counter) u && f ≡ f =
     λ f u h w. ap (λ (k : ℕ). has (queue_of a.threads.order k) u && f) end
     ∙ all_seen (has p.queue u) f (λ q. queued.waits u h ∙ w q) in
     λ u h. (
-      l.invariant.2.each u h ∙ whole (on_one gs asked (p.place u)) u h (on_one_waits gs asked (p.place u)),
-      (l.invariant.3 queued.once).each u h
+      l.invariant.1.each u h ∙ whole (on_one gs asked (p.place u)) u h (on_one_waits gs asked (p.place u)),
+      (l.invariant.2 queued.once).each u h
           ∙ whole (new_first gs es asked p a.region u (p.place u)) u h
           (new_first_waits gs es asked p a.region u (p.place u)),
     )

@@ -1,4 +1,4 @@
-use Prim.Native.Nat.{ℕ, ◌-◌, ◌≤◌}
+use Prim.Native.Nat.{ℕ}
 use mathlib.Core.Path.{◌≡◌}
 use mathlib.Core.Bool.{true}
 use mathlib.Core.List.{List}
@@ -19,15 +19,11 @@ use Rattle.waiters.proofs.told.Given as goal
 abbrev known : List Thread → ℕ → ℕ → Threads
 known each order waiting = record { place = places_of each; queue = queue_of order waiting }
 
-abbrev pub invariant-loop-k : goal.invariant-loop-k
-invariant-loop-k l =
-    (l.k ≤ l.waiting)
-    × (l.rest ≡ behind_of l.initial.rest l.k)
-    × Gathered l.plain (queue_of l.initial.rest l.k) (λ v. on_one l.guard_of (member l.newly) (places_of l.each v))
-    × (Once (queue_of l.initial.rest l.waiting) → Gathered l.table (queue_of l.initial.rest l.k)
-    (λ v. new_first l.guard_of l.entries (member l.newly) (known l.each l.initial.rest l.waiting) l.region v (places_of l.each v)))
+abbrev pub invariant-loop : goal.invariant-loop
+invariant-loop l =
+    (l.rest ≡ behind_of l.initial.rest l.counter)
+    × Gathered l.plain (queue_of l.initial.rest l.counter) (λ v. on_one l.guard_of (member l.newly) (places_of l.threads.each v))
+    × (Once (queue_of l.initial.rest l.threads.waiting) → Gathered l.table (queue_of l.initial.rest l.counter)
+    (λ v. new_first l.guard_of l.entries (member l.newly) (known l.threads.each l.initial.rest l.threads.waiting) l.region v (places_of l.threads.each v)))
     × ((g : ℕ) → member l.newly g ≡ true
-    → member l.met g ≡ some (those (waits_on (guards_only l.guard_of) (known l.each l.initial.rest l.waiting) g) (queue_of l.initial.rest l.k)))
-
-abbrev pub decreases-loop-k : goal.decreases-loop-k
-decreases-loop-k l = l.waiting - l.k
+    → member l.met g ≡ some (those (waits_on (guards_only l.guard_of) (known l.threads.each l.initial.rest l.threads.waiting) g) (queue_of l.initial.rest l.counter)))

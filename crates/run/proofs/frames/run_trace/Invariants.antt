@@ -6,11 +6,7 @@ use Rattle.machine.specs.Monitor.{Monitor, Frame}
 use Rattle.run.specs.Way.{Asked, Way}
 use Rattle.run.proofs.frames.run_trace.Given as goal
 
-abbrev pub invariant-loop-at : goal.invariant-loop-at
-invariant-loop-at l =
-    (l.at ≡ 7 * l.k)
-    × ((m : Monitor) (kept : List ℕ) (fs : List Frame)
-    → Asked l.bytes l.state l.holds l.after l.guard_of l.begins l.goes_on l.entries l.regions m kept fs → Way m l.state fs l.going l.k)
-
-abbrev pub decreases-loop-at : goal.decreases-loop-at
-decreases-loop-at l = length l.bytes - l.at
+abbrev pub invariant-loop-k : goal.invariant-loop-k
+invariant-loop-k l =
+    (m : Monitor) (kept : List ℕ) (fs : List Frame)
+    → Asked l.bytes l.state l.slices.holds.now l.slices.after.now l.slices.guard_of.now l.slices.begins.now l.slices.goes_on.now l.slices.entries.now l.slices.regions m kept fs → Way m l.state fs l.going l.k

@@ -1,4 +1,4 @@
--- `threads::all_idle` meets its contract: sixteen idle threads, and nobody in the queue.
+-- `Threads::all_idle` meets its contract: sixteen idle threads, and nobody in the queue.
 use Prim.Native.Nat.{ℕ, zero, suc}
 use mathlib.Core.Path.{◌≡◌, refl, ap, sym, ◌∙◌}
 use lib.ListN.{get_or, replicate}
@@ -7,7 +7,7 @@ use Rattle.machine.specs.Queue.{place_in}
 use Rattle.queue.specs.Packed.{queue_of}
 use Rattle.threads.specs.declared.Thread.{Thread}
 use Rattle.threads.specs.Held.{place_of, places_of, turns_of, idle_thread}
-use Rattle.threads.proofs.all_idle.Goals as goal
+use Rattle.threads.proofs.Threads.all_idle.Goals as goal
 
 idle_at : (n t : ℕ) → get_or (replicate n idle_thread) t idle_thread ≡ idle_thread
 idle_at zero t = refl

@@ -1,4 +1,4 @@
--- `stepper::step` meets its contract, for either machine: the number and the next point of the slices' monitor are those of
+-- `Slices::step` meets its contract, for either machine: the number and the next point of the slices' monitor are those of
 -- the monitor that they hold, and the two parts make the machine's step.
 use Prim.Native.Nat.{ℕ, ◌%◌, ◌<◌}
 use mathlib.Core.Path.{◌≡◌, refl, sym, ap, ◌∙◌, subst}
@@ -16,8 +16,8 @@ use Rattle.stepper.specs.Slices.{newly_at, config_of}
 use Rattle.stepper.specs.Parts.{verdict_of, next_by, next_of}
 use Rattle.stepper.proofs.Machines.{each_machine}
 use Rattle.stepper.proofs.ByHeld.{steps_held, shows_queued}
-use Rattle.stepper.proofs.step.Goals as goal
-use Rattle.stepper.proofs.step.Goals.{Start, After-judge-number, Joined-number-ne-ACCEPTED, then-number-ne-ACCEPTED+else-number-ne-ACCEPTED-2, else-number-ne-ACCEPTED}
+use Rattle.stepper.proofs.Slices.step.Goals as goal
+use Rattle.stepper.proofs.Slices.step.Goals.{Start, After-judge-number, Joined-number-ne-ACCEPTED, then-number-ne-ACCEPTED+else-number-ne-ACCEPTED-2, else-number-ne-ACCEPTED}
 
 -- a thread below 16 is its remainder
 abbrev known : code.Frame → code.Frame
@@ -30,13 +30,13 @@ same_frame f h = ap (λ (t : ℕ). frame_of (record { thread = t; region = f.reg
 number : (c : After-judge-number) (w : Bool) → let a = c.args in
     Queued a.run.threads → Turned a.run.threads → a.frame.thread < 16
     → of_machine w c.judge-number.result.plain c.judge-number.result.table
-    ≡ verdict_of (slices a.holds.now [] a.guard_of.now a.begins.now [] a.regions) (config_of w a.run)
+    ≡ verdict_of (slices a.self.now.holds.now [] a.self.now.guard_of.now a.self.now.begins.now [] a.self.now.regions) (config_of w a.run)
     (frame_of a.frame)
 number c w queued turned h =
     let a = c.args in
     c.judge-number.ensures queued turned w
     ∙ ap
-    (verdict_of (slices a.holds.now [] a.guard_of.now a.begins.now [] a.regions) (config_of w a.run))
+    (verdict_of (slices a.self.now.holds.now [] a.self.now.guard_of.now a.self.now.begins.now [] a.self.now.regions) (config_of w a.run))
     (same_frame a.frame h)
 
 -- the next point is by the flag: a body ran, or the thread pauses
@@ -52,10 +52,10 @@ module _ (m : Monitor) (told : Told) (c : Config) (f : Frame) where
 
 -- the slices' monitor, whom a machine notifies, and the next point as the frame stands or with its thread's remainder
 abbrev moves : Start → Monitor
-moves s = slices s.args.holds.now s.args.after.now s.args.guard_of.now [] s.args.goes_on.now 0
+moves s = slices s.args.self.now.holds.now s.args.self.now.after.now s.args.self.now.guard_of.now [] s.args.self.now.goes_on.now 0
 
 abbrev telling : Start → Bool → Told
-telling s w = newly_at s.args.holds.now s.args.guard_of.now s.args.entries.now w s.args.run.state
+telling s w = newly_at s.args.self.now.holds.now s.args.self.now.guard_of.now s.args.self.now.entries.now w s.args.run.state
 
 abbrev next_at : Start → Bool → code.Frame → Config
 next_at s w f = next_of (moves s) (telling s w) (config_of w s.args.run) (frame_of f)
@@ -82,8 +82,8 @@ returns-then-number-ne-ACCEPTED-2 c =
           let x = c in
           let a = x.args in
           let n = x.judge-number.result in
-          steps_held m kept a.holds.now a.after.now a.guard_of.now held a.begins.now a.goes_on.now places
-          w d (frame_of a.frame) a.run thread reached shows ok told a.regions e a.entries.now entries _
+          steps_held m kept a.self.now.holds.now a.self.now.after.now a.self.now.guard_of.now held a.self.now.begins.now a.self.now.goes_on.now places
+          w d (frame_of a.frame) a.run thread reached shows ok told a.self.now.regions e a.self.now.entries.now entries _
           (number (goal.at.returns-then-number-ne-ACCEPTED-2 c).After-judge-number w (shows_queued m w a.run d reached.lined shows) shows.turns thread)
           (λ z. absurd (each_machine (λ _ k. k ≡ 0 → ⊥) {plain = n.plain} {table = n.table} c.if-number-ne-ACCEPTED.true c.if-number-ne-ACCEPTED-2.true
           w z));
@@ -100,8 +100,8 @@ returns-then-known c =
           let a = s.args in
           let next = next_ran (moves s) (telling s w) (config_of w a.run) (frame_of (known a.frame)) c.if-known.true
           in
-          steps_held m kept a.holds.now a.after.now a.guard_of.now held a.begins.now a.goes_on.now places
-          w d (frame_of a.frame) a.run thread reached shows ok told a.regions e a.entries.now entries _
+          steps_held m kept a.self.now.holds.now a.self.now.after.now a.self.now.guard_of.now held a.self.now.begins.now a.self.now.goes_on.now places
+          w d (frame_of a.frame) a.run thread reached shows ok told a.self.now.regions e a.self.now.entries.now entries _
           (number (goal.at.returns-then-known c).After-judge-number w (shows_queued m w a.run d reached.lined shows) shows.turns thread) (λ z. shown s w c.ran-next.result next (c.ran-next.ensures (shows_queued m w a.run d reached.lined shows) shows.turns w) thread);
       stays = λ p t. absurd (goes_on (goal.at.returns-then-known c).Joined-number-ne-ACCEPTED p t);
     }
@@ -116,8 +116,8 @@ returns-else-known c =
           let a = s.args in
           let next = next_paused (moves s) (telling s w) (config_of w a.run) (frame_of (known a.frame)) c.if-known.false
           in
-          steps_held m kept a.holds.now a.after.now a.guard_of.now held a.begins.now a.goes_on.now places
-          w d (frame_of a.frame) a.run thread reached shows ok told a.regions e a.entries.now entries _
+          steps_held m kept a.self.now.holds.now a.self.now.after.now a.self.now.guard_of.now held a.self.now.begins.now a.self.now.goes_on.now places
+          w d (frame_of a.frame) a.run thread reached shows ok told a.self.now.regions e a.self.now.entries.now entries _
           (number (goal.at.returns-else-known c).After-judge-number w (shows_queued m w a.run d reached.lined shows) shows.turns thread) (λ z. shown s w c.paused-next.result next (c.paused-next.ensures (shows_queued m w a.run d reached.lined shows) shows.turns w (moves s) (telling s w)) thread);
       stays = λ p t. absurd (goes_on (goal.at.returns-else-known c).Joined-number-ne-ACCEPTED p t);
     }
