@@ -83,11 +83,7 @@ fn not_placed(answer: Answer) -> Placing
 }
 
 // The table of what was loaded from byte 0 of a lent buffer; of a refused file not a byte of the buffer changes.
-pub fn place_loaded(
-    loaded: Loaded,
-    rows: &StateRows,
-    table: &mut [u8],
-) -> Placing
+pub fn place_loaded(loaded: Loaded, rows: &StateRows, table: &mut [u8]) -> Placing
     ensures { (file : List ℕ) → Loads file loaded rows.now.kept rows.now.holds rows.now.after
         → Places (place file table.old) result table.new }
 {
@@ -122,12 +118,7 @@ pub fn start_of(loaded: Loaded) -> usize
 }
 
 // Both machines over what was loaded of a file: its refusal, or the runs of the trace from a start state.
-pub fn both_loaded(
-    loaded: Loaded,
-    bytes: &[u8],
-    start: usize,
-    rows: &StateRows,
-) -> Both
+pub fn both_loaded(loaded: Loaded, bytes: &[u8], start: usize, rows: &StateRows) -> Both
     ensures { (file : List ℕ) → Loads file loaded rows.now.kept rows.now.holds rows.now.after
         → Agrees file bytes.now start result.plain result.table }
 {
@@ -217,10 +208,7 @@ pub fn points_loaded(
 fn not_made(answer: Answer) -> Made
     ensures { (result.answer ≡ answer) × (result.count ≡ 0) }
 {
-    Made {
-        answer,
-        count: 0,
-    }
+    Made { answer, count: 0 }
 }
 
 // A load over what was loaded of a file: its refusal, 10, or the frames that are made, of so many threads, and their lines.
