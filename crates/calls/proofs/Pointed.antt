@@ -13,7 +13,7 @@ use Rattle.meaning.specs.Answer.{Answer, answer, accepted}
 use Rattle.meaning.specs.Decide.Check.{check}
 use Rattle.meaning.specs.Decide.Frames.{frames_of, frames}
 use Rattle.meaning.specs.Model.{kept, model}
-use Rattle.meaning.specs.Points.{Pointing, no_points, point_room, points_of, points_from, frame_points, list_points, point_count}
+use Rattle.meaning.specs.Points.{no_points, point_room, points_of, points_from, frame_points, list_points, point_count}
 use Rattle.meaning.proofs.ModelLaws.{startable_iff}
 use Rattle.meaning.proofs.Frames.{frames_read}
 use Rattle.demands.proofs.Points.{every_point}

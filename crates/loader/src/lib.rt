@@ -160,6 +160,7 @@ pub fn load(file: &[u8], kept: &mut [u8], holds: &mut [u16], after: &mut [u16]) 
 }
 
 // What loading fills: of each state whether it is kept and which guards hold, and where each region leads from it.
+#[derive(Drop)]
 pub struct StateRows {
     pub kept: [u8; machine::STATES],
     pub holds: [u16; machine::STATES],

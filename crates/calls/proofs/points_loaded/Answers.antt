@@ -20,9 +20,8 @@ pub returns-then-out-bytes : goal.returns-then-out-bytes
 returns-then-out-bytes c file loads =
     let d = c in
     let n = c.no_points-then-out-bytes.ensures in
-    let s = c.say.ensures in
     let (m, e) = monitor_of file _ loads.verdict d.if-verdict-ne0.false in
-    too_short file _ _ _ _ m e d.if-out-bytes.true _ (record { number = s.0; first = s.1; second = s.2 }) n.0 n.1
+    too_short file _ _ _ _ m e d.if-out-bytes.true _ c.from.ensures n.0 n.1
     n.2
 
 pub returns-then-early-ne0 : goal.returns-then-early-ne0
@@ -67,7 +66,7 @@ returns c file loads =
       guard_count = l.guard_count;
       room = omega arith;
     }))
-    c.say-2.ensures c.say-3.ensures refl)
+    c.say.ensures c.say-2.ensures refl)
 
 pub overflow_cast-start : goal.overflow_cast-start
 overflow_cast-start = λ c. let low = c.admit-early.ensures.start_lt_most_states c.if-early-ne0.false in
