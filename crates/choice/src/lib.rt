@@ -25,6 +25,38 @@ pub struct Choice {
     pub states: [StateNumber; syntax::TRIES],
 }
 
+impl Choice {
+    // Try i is dropped, in a pass, by a region from a state.
+    fn mark(self, i: usize, pass: u8, region: u8, state: StateNumber) -> Choice
+        ensures { (u : ℕ) → u < most_tries
+            → slot_of result u ≡ mark_if (eqb u i) pass region state (slot_of self u) }
+    {
+        let mut next = self;
+        if syntax::TRIES <= i {
+            return next;
+        }
+        next.chosen = sets::without(self.chosen, i as u32);
+        next.passes[i] = pass;
+        next.regions[i] = region;
+        next.states[i] = state;
+        next
+    }
+
+    // Those of a set are dropped.
+    fn drop_all(self, lost: u16, pass: u8, region: u8, state: StateNumber) -> Choice
+        ensures { (u : ℕ) → u < most_tries
+            → slot_of result u ≡ mark_if (member lost u) pass region state (slot_of self u) }
+    {
+        let mut next = self;
+        for i in 0..syntax::TRIES {
+            if sets::has(lost, i as u32) {
+                next = next.mark(i, pass, region, state);
+            }
+        }
+        next
+    }
+}
+
 // A set of tries, of which none is dropped.
 pub fn undropped(set: u16) -> Choice
     ensures { (result.chosen ≡ set) × ((u : ℕ) → u < most_tries
@@ -43,36 +75,6 @@ fn misses(set: u16, other: u16) -> bool
     ensures { result ≡ lacks set other }
 {
     sets::minus(other, set) != 0
-}
-
-// Try i is dropped, in a pass, by a region from a state.
-fn mark(choice: Choice, i: usize, pass: u8, region: u8, state: StateNumber) -> Choice
-    ensures { (u : ℕ) → u < most_tries
-        → slot_of result u ≡ mark_if (eqb u i) pass region state (slot_of choice u) }
-{
-    let mut next = choice;
-    if syntax::TRIES <= i {
-        return next;
-    }
-    next.chosen = sets::without(choice.chosen, i as u32);
-    next.passes[i] = pass;
-    next.regions[i] = region;
-    next.states[i] = state;
-    next
-}
-
-// Those of a set are dropped.
-fn drop_all(choice: Choice, lost: u16, pass: u8, region: u8, state: StateNumber) -> Choice
-    ensures { (u : ℕ) → u < most_tries
-        → slot_of result u ≡ mark_if (member lost u) pass region state (slot_of choice u) }
-{
-    let mut next = choice;
-    for i in 0..syntax::TRIES {
-        if sets::has(lost, i as u32) {
-            next = mark(next, i, pass, region, state);
-        }
-    }
-    next
 }
 
 // What holds at each state: keep, as 1 or 0, and of the guards and of the tries those that hold, as sets.
@@ -123,7 +125,7 @@ impl Truths<'_> {
             if self.binds(guard, set, s, to) {
                 let lost = sets::minus(choice.chosen, states::at(self.tried, to, 0));
                 if lost != 0 {
-                    choice = drop_all(choice, lost, pass, region, s);
+                    choice = choice.drop_all(lost, pass, region, s);
                 }
             }
         }

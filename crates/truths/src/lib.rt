@@ -72,6 +72,8 @@ fn truths_from(
 }
 
 // Sixteen sets into a slice.
+// Stays (no plainer): one function for this and `put_bits` would write an array of a type parameter, which `put_bits` would
+// have to make first.
 fn put_sets(sets: &[u16], from: StateNumber, row: &mut [u16])
     requires { (length sets.now ≡ 16) × (from + 16 ≤ length row.old) }
     ensures { PutSets sets.now from row.old row.new }
@@ -151,6 +153,8 @@ pub fn fill_sets(kinds: &[u8], values: &[u16], bounds: Bounds, texts: Texts, row
 }
 
 // The truth of the condition that begins at a token, 1 or 0, at every state.
+// Stays (no plainer): this and `fill_sets` share the turns over the states alone; what they evaluate, carry over and write
+// differs, so one function for both would take a trait with these for its methods.
 pub fn fill_row(kinds: &[u8], values: &[u16], bounds: Bounds, at: usize, named: u16, row: &mut [u8])
     ensures { (vs : List Var) (c : Cond)
         → Condition vs c kinds.now values.now bounds at named

@@ -1,4 +1,4 @@
--- `choice::drop_all` meets its contract. The loop's invariant: those of the set below i are dropped, and no other.
+-- `choice::Choice::drop_all` meets its contract. The loop's invariant: those of the set below i are dropped, and no other.
 use Prim.Native.Nat.{ℕ, ◌<◌}
 use native.Mathlib.Omega.{arith}
 use mathlib.Core.Path.{◌≡◌, refl, sym, ◌∙◌}
@@ -7,8 +7,8 @@ use Rattle.logic.proofs.Bools.{split_eq}
 use Rattle.sets.specs.Set.{member}
 use Rattle.choice.specs.Slots.{slot_of, mark_if}
 use Rattle.choice.proofs.Binding.{mark_on, mark_off}
-use Rattle.choice.proofs.drop_all.Goals as goal
-use Rattle.choice.proofs.drop_all.Goals.{then-has, else-has, Joined-has}
+use Rattle.choice.proofs.Choice.drop_all.Goals as goal
+use Rattle.choice.proofs.Choice.drop_all.Goals.{then-has, else-has, Joined-has}
 
 pub loop-i-init : goal.loop-i-init
 loop-i-init c = (omega arith, λ u h. absurd (omega arith), λ u h low. refl)
@@ -26,7 +26,7 @@ others_stay c u low n =
 here_done : (c : Joined-has) →
     let i = c.loop-i in
     let a = c.args in
-    slot_of c.if-has.next i.i ≡ mark_if (member a.lost i.i) a.pass a.region a.state (slot_of a.choice i.i)
+    slot_of c.if-has.next i.i ≡ mark_if (member a.lost i.i) a.pass a.region a.state (slot_of a.self i.i)
 here_done c =
     let i = c.loop-i in
     let has = c.has in

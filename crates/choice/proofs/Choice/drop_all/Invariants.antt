@@ -2,7 +2,7 @@ use Prim.Native.Nat.{ℕ, ◌≤◌, ◌<◌}
 use mathlib.Core.Path.{◌≡◌}
 use Rattle.sets.specs.Set.{member}
 use Rattle.choice.specs.Slots.{slot_of, mark_if}
-use Rattle.choice.proofs.drop_all.Given as goal
+use Rattle.choice.proofs.Choice.drop_all.Given as goal
 
 abbrev pub invariant-loop-i : goal.invariant-loop-i
 invariant-loop-i l =
