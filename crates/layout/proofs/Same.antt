@@ -9,6 +9,7 @@ use lib.ListN.{length, drop, take, get_or, length-drop, length-map}
 use lib.Seq.{drop-cons, length-take-le}
 use lib.Dec.{eqb}
 use Rattle.std.specs.Str.{bytes_eq}
+use Rattle.std.specs.List.{list_all, range_with_len}
 use Rattle.syntax.specs.Bytes.{same_bytes}
 use Rattle.syntax.specs.Token.{Token, lexemes, Lexeme, name, mark, rbrace}
 use Rattle.syntax.specs.Held.Kind.{kind_of, value_of, name_kind, Words}
@@ -50,12 +51,6 @@ module _ {A : Type 0} (agree : List A → List A → Bool) (one : A → A → Bo
     left_turn : left agree l a b n i ≡ one (get_or l (a + i) d) (get_or l (b + i) d) && left agree l a b n (i + 1)
     left_turn = rw (run_turn l d a n i h (omega arith), run_turn l d b n i h (omega arith)) (step _ _ _ _)
 
-    left_same : one (get_or l (a + i) d) (get_or l (b + i) d) ≡ true → left agree l a b n (i + 1) ≡ left agree l a b n i
-    left_same e = sym (left_turn ∙ ap (λ (t : Bool). t && left agree l a b n (i + 1)) e)
-
-    left_differs : one (get_or l (a + i) d) (get_or l (b + i) d) ≡ false → left agree l a b n i ≡ false
-    left_differs e = left_turn ∙ ap (λ (t : Bool). t && left agree l a b n (i + 1)) e
-
 -- bytes, as `==` compares them
 pub bytes_same : (xs ys : List ℕ) → bytes_eq xs ys ≡ same_bytes xs ys
 unfolding same_bytes
@@ -64,26 +59,26 @@ bytes_same [] (y ∷ ys) = refl
 bytes_same (x ∷ xs) [] = refl
 bytes_same (x ∷ xs) (y ∷ ys) = ap (λ (t : Bool). eqb x y && t) (bytes_same xs ys)
 
--- lexemes
-module _ (ls : List Lexeme) (a b n : ℕ) where
-  pub tokens_start : left same_lexemes ls a b n 0 ≡ same_lexemes (take n (drop a ls)) (take n (drop b ls))
+-- lexemes: two runs are the same where those at each place are
+module _ (ls : List Lexeme) (a b n : ℕ) (p : a + n ≤ length ls) (q : b + n ≤ length ls) where
+  all_left :
+      (i m : ℕ) → i + m ≡ n
+      → list_all (λ k. same_lexeme (get_or ls (a + k) (mark rbrace)) (get_or ls (b + k) (mark rbrace))) (range_with_len i m)
+      ≡ left same_lexemes ls a b n i
   unfolding same_lexemes
-  tokens_start = left_start same_lexemes same_lexeme refl (λ x y xs ys. refl) ls (mark rbrace) a b n
+  all_left i zero e =
+      sym (left_over same_lexemes same_lexeme refl (λ x y xs ys. refl) ls (mark rbrace) a b n i (omega arith))
+  all_left i (suc m) e =
+      rw (all_left (i + 1) m (omega arith))
+      (sym (left_turn same_lexemes same_lexeme refl (λ x y xs ys. refl) ls (mark rbrace) a b n i (omega arith) p q))
 
-  pub tokens_over : (i : ℕ) → n ≤ i → left same_lexemes ls a b n i ≡ true
+  pub tokens_all :
+      list_all (λ k. same_lexeme (get_or ls (a + k) (mark rbrace)) (get_or ls (b + k) (mark rbrace))) (range_with_len 0 n)
+      ≡ same_lexemes (take n (drop a ls)) (take n (drop b ls))
   unfolding same_lexemes
-  tokens_over = left_over same_lexemes same_lexeme refl (λ x y xs ys. refl) ls (mark rbrace) a b n
-
-  module _ (i : ℕ) (h : i < n) (p : a + n ≤ length ls) (q : b + n ≤ length ls) where
-    pub tokens_turn : same_lexeme (get_or ls (a + i) (mark rbrace)) (get_or ls (b + i) (mark rbrace)) ≡ true
-        → left same_lexemes ls a b n (i + 1) ≡ left same_lexemes ls a b n i
-    unfolding same_lexemes
-    tokens_turn = left_same same_lexemes same_lexeme refl (λ x y xs ys. refl) ls (mark rbrace) a b n i h p q
-
-    pub tokens_differ : same_lexeme (get_or ls (a + i) (mark rbrace)) (get_or ls (b + i) (mark rbrace)) ≡ false
-        → left same_lexemes ls a b n i ≡ false
-    unfolding same_lexemes
-    tokens_differ = left_differs same_lexemes same_lexeme refl (λ x y xs ys. refl) ls (mark rbrace) a b n i h p q
+  tokens_all =
+      all_left 0 n (omega arith)
+      ∙ left_start same_lexemes same_lexeme refl (λ x y xs ys. refl) ls (mark rbrace) a b n
 
 -- Lexemes by kind and value
 

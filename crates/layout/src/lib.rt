@@ -198,12 +198,7 @@ impl Tokens<'_> {
         requires { (a + n ≤ length self.kinds.now) × (b + n ≤ length self.kinds.now) }
         ensures { SameTokens self.entry.file.now self.entry.kinds.now self.entry.values.now self.entry.places.now a b n result }
     {
-        for i in 0..n {
-            if !self.same_token(a + i, b + i) {
-                return false;
-            }
-        }
-        true
+        (0..n).all(|i| self.same_token(a + i, b + i))
     }
 
     // Whether the guards that begin at two tokens are one.

@@ -1,38 +1,21 @@
--- `layout::Tokens::same_tokens` meets its contract. The loop's invariant: what is left compares as the whole does.
+-- `layout::Tokens::same_tokens` meets its contract: the chain compares the tokens at each place.
+use Prim.Native.Nat.{◌+◌}
 use native.Mathlib.Omega.{arith}
-use mathlib.Core.Path.{◌∙◌, sym}
+use mathlib.Core.Path.{refl, ◌∙◌}
+use borrow.Author.Rules.{rules}
+use Rattle.std.proofs.lemmas.Iterator.{YieldsList-from_range}
+use Rattle.std.proofs.lemmas.Iterator.Search.{all_from_yields_List}
 use Rattle.syntax.specs.Token.{lexemes}
-use Rattle.layout.proofs.Same.{tokens_start, tokens_turn, tokens_differ, tokens_over, kinds_length}
+use Rattle.meaning.specs.Model.{same_lexeme}
+use Rattle.layout.specs.Promises.{lexeme_at}
+use Rattle.layout.proofs.Same.{tokens_all, kinds_length}
 use Rattle.layout.proofs.Tokens.same_tokens.Goals as goal
-
-pub loop-i-init : goal.loop-i-init
-loop-i-init c =
-    let a = c.args in
-    λ ts w. tokens_start (lexemes ts) a.a a.b a.n
-
-pub same_token-requires : goal.same_token-requires
-same_token-requires c = (omega arith, omega arith)
-
-pub returns-then-not-same_token : goal.returns-then-not-same_token
-returns-then-not-same_token c =
-    let q = c in
-    let s = q in
-    let a = s.args in
-    λ ts w. let l = kinds_length w in
-    sym (tokens_differ (lexemes ts) a.a a.b a.n q.loop-i.i (omega arith) (omega arith) (omega arith)
-    (sym (c.same_token.ensures ts w) ∙ c.if-not-same_token.true))
-    ∙ q.loop-i.invariant ts w
-
-pub loop-i-preserved : goal.loop-i-preserved
-loop-i-preserved c =
-    let q = c in
-    let a = q.args in
-    λ ts w. let l = kinds_length w in
-    tokens_turn (lexemes ts) a.a a.b a.n q.loop-i.i (omega arith) (omega arith) (omega arith)
-    (sym (c.same_token.ensures ts w) ∙ c.if-not-same_token.false)
-    ∙ q.loop-i.invariant ts w
 
 pub returns : goal.returns
 returns c =
     let a = c.args in
-    λ ts w. sym (tokens_over (lexemes ts) a.a a.b a.n c.loop-i.i c.loop-i-test.false) ∙ c.loop-i.invariant ts w
+    λ ts w. let l = kinds_length w in
+    all_from_yields_List (λ k. same_lexeme (lexeme_at ts (a.a + k)) (lexeme_at ts (a.b + k))) _ _ c.all.result
+    c.all.ensures.ran
+    (YieldsList-from_range 0 a.n a.n refl (omega arith)) (λ x b q k. search rules)
+    ∙ tokens_all (lexemes ts) a.a a.b a.n (omega arith) (omega arith)
