@@ -142,9 +142,7 @@ pub fn find_misnamed(file: &[u8], kinds: &[u8], values: &[u16], places: &[u16]) 
     let mut methods = no_names();
     // Before the first token a kind that declares nothing.
     let mut before = syntax::NUMBER;
-    let mut i = 0;
-    while i < kinds.len() {
-        let kind = kinds[i];
+    for (i, &kind) in kinds.iter().enumerate() {
         let start = places[i];
         let len = values[i];
         if wrong(file, vars, methods, kind, before, start, len) {
@@ -158,7 +156,6 @@ pub fn find_misnamed(file: &[u8], kinds: &[u8], values: &[u16], places: &[u16]) 
             len,
         );
         before = kind;
-        i += 1;
     }
     None
 }
@@ -178,9 +175,7 @@ fn variables(kinds: &[u8], values: &[u16], places: &[u16]) -> Names
     }
     // Before the first token a kind that declares nothing.
     let mut before = syntax::NUMBER;
-    let mut i = 0;
-    while i < kinds.len() {
-        let kind = kinds[i];
+    for (i, &kind) in kinds.iter().enumerate() {
         vars = declared(
             vars,
             declares(kind, before, syntax::KEY_VAR),
@@ -188,7 +183,6 @@ fn variables(kinds: &[u8], values: &[u16], places: &[u16]) -> Names
             values[i],
         );
         before = kind;
-        i += 1;
     }
     vars
 }
@@ -222,9 +216,7 @@ pub fn resolve(file: &[u8], kinds: &[u8], values: &[u16], places: &[u16], operan
         return;
     }
     let vars = variables(kinds, values, places);
-    let mut i = 0;
-    while i < kinds.len() {
-        operands[i] = slot_or_value(file, vars, kinds[i], places[i], values[i]);
-        i += 1;
+    for (i, &kind) in kinds.iter().enumerate() {
+        operands[i] = slot_or_value(file, vars, kind, places[i], values[i]);
     }
 }

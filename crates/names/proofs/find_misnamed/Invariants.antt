@@ -11,9 +11,5 @@ use Rattle.names.proofs.find_misnamed.Given as goal
 
 abbrev pub invariant-loop-i : goal.invariant-loop-i
 invariant-loop-i l =
-    (l.i ≤ length l.kinds)
-    × ((ts : List Token) → Words l.file ts l.kinds l.values l.places → past_limit 0 0 0 0 ts ≡ none
+    ((ts : List Token) → Words l.file ts l.kinds l.values l.places → past_limit 0 0 0 0 ts ≡ none
     → Naming l.file ts l.vars l.methods l.before l.i)
-
-abbrev pub decreases-loop-i : goal.decreases-loop-i
-decreases-loop-i l = length l.kinds - l.i

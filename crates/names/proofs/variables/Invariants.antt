@@ -11,9 +11,5 @@ use Rattle.names.proofs.variables.Given as goal
 
 abbrev pub invariant-loop-i : goal.invariant-loop-i
 invariant-loop-i l =
-    (l.i ≤ length l.kinds)
-    × ((file : List ℕ) (ts : List Token) → Words file ts l.kinds l.values l.places → past_limit 0 0 0 0 ts ≡ none
+    ((file : List ℕ) (ts : List Token) → Words file ts l.kinds l.values l.places → past_limit 0 0 0 0 ts ≡ none
     → Listing file ts l.vars l.before l.i)
-
-abbrev pub decreases-loop-i : goal.decreases-loop-i
-decreases-loop-i l = length l.kinds - l.i
