@@ -15,5 +15,5 @@ returns-then-at-ge-METHODS c file titles t = ((λ e. t), λ x e room s. absurd (
 pub returns : goal.returns
 returns c file titles t = (
   (λ e. clash c.if-not-adds.false e),
-  λ x e room s. one_more x _ _ t room (search rules) (search rules) s,
+  λ x e room s. one_more x _ t room (search rules) s,
 )

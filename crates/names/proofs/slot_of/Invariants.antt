@@ -1,16 +1,11 @@
-use Prim.Native.Nat.{ℕ, ◌+◌, ◌-◌, ◌≤◌}
+use Prim.Native.Nat.{ℕ, ◌+◌}
 use mathlib.Core.Path.{◌≡◌}
 use mathlib.Core.List.{List}
 use lib.ListN.{drop}
-use Rattle.syntax.specs.Limits.{most_methods}
 use Rattle.names.specs.Slots.{slot_in, NameAt, Titles}
 use Rattle.names.proofs.slot_of.Given as goal
 
 abbrev pub invariant-loop-i : goal.invariant-loop-i
 invariant-loop-i l =
-    (l.i ≤ most_methods)
-    × ((titles : List (List ℕ)) (x : List ℕ) → Titles l.file titles l.names → NameAt l.file x l.start l.len → slot_in titles x
+    ((titles : List (List ℕ)) (x : List ℕ) → Titles l.file titles l.names → NameAt l.file x l.name.start l.name.len → slot_in titles x
     ≡ l.i + slot_in (drop l.i titles) x)
-
-abbrev pub decreases-loop-i : goal.decreases-loop-i
-decreases-loop-i l = most_methods - l.i

@@ -1,8 +1,7 @@
-use Prim.Native.Nat.{ℕ, ◌≤◌, ◌-◌}
+use Prim.Native.Nat.{ℕ}
 use mathlib.Core.Path.{◌≡◌}
 use mathlib.Core.List.{List}
 use mathlib.Core.Option.{none}
-use lib.ListN.{length}
 use Rattle.syntax.specs.Token.{Token}
 use Rattle.meaning.specs.Decide.Check.{past_limit}
 use Rattle.syntax.specs.Held.Kind.{Words}
