@@ -46,36 +46,55 @@ pub struct Names {
     pub count: usize,
 }
 
-fn no_names() -> Names
-    ensures { (file : List ℕ) → Titles file [] result }
-{
-    Names {
-        list: [Name { start: 0, len: 0 }; syntax::METHODS],
-        count: 0,
-    }
-}
-
-// The slot of a name among the declared ones, or their count.
-fn slot_of(file: &[u8], names: Names, name: Name) -> usize
-    ensures within { result ≤ most_methods }
-    ensures slot { (titles : List (List ℕ)) (x : List ℕ) → Titles file.now titles names
-        → NameAt file.now x name.start name.len → result ≡ slot_in titles x }
-{
-    let few = names.count.min(syntax::METHODS);
-    for i in 0..few {
-        if names.list[i].is_same(file, name) {
-            return i;
+impl Names {
+    fn none() -> Self
+        ensures { (file : List ℕ) → Titles file [] result }
+    {
+        Names {
+            list: [Name { start: 0, len: 0 }; syntax::METHODS],
+            count: 0,
         }
     }
-    few
-}
 
-// Is a name among the declared ones?
-fn among(file: &[u8], names: Names, name: Name) -> bool
-    ensures { (titles : List (List ℕ)) (x : List ℕ) → Titles file.now titles names
-        → NameAt file.now x name.start name.len → result ≡ member x titles }
-{
-    slot_of(file, names, name) < names.count
+    // The slot of a name among the declared ones, or their count.
+    fn slot_of(self, file: &[u8], name: Name) -> usize
+        ensures within { result ≤ most_methods }
+        ensures slot { (titles : List (List ℕ)) (x : List ℕ) → Titles file.now titles self
+            → NameAt file.now x name.start name.len → result ≡ slot_in titles x }
+    {
+        let few = self.count.min(syntax::METHODS);
+        for i in 0..few {
+            if self.list[i].is_same(file, name) {
+                return i;
+            }
+        }
+        few
+    }
+
+    // Is a name among the declared ones?
+    fn has(self, file: &[u8], name: Name) -> bool
+        ensures { (titles : List (List ℕ)) (x : List ℕ) → Titles file.now titles self
+            → NameAt file.now x name.start name.len → result ≡ member x titles }
+    {
+        self.slot_of(file, name) < self.count
+    }
+
+    // One name more, where it is to be added and there is room.
+    fn declared(self, adds: bool, name: Name) -> Self
+        ensures { Grows self adds name.start name.len result }
+    {
+        let at = self.count;
+        if !adds {
+            return self;
+        }
+        if syntax::METHODS <= at {
+            return self;
+        }
+        let mut more = self;
+        more.list[at] = name;
+        more.count = at + 1;
+        more
+    }
 }
 
 // Is this a name behind the keyword?
@@ -83,23 +102,6 @@ fn declares(kind: u8, before: u8, keyword: u8) -> bool
     ensures { result ≡ (eqb kind name_kind && eqb before keyword) }
 {
     kind == syntax::NAME && before == keyword
-}
-
-// One name more, where it is to be added and there is room.
-fn declared(names: Names, adds: bool, name: Name) -> Names
-    ensures { Grows names adds name.start name.len result }
-{
-    let at = names.count;
-    if !adds {
-        return names;
-    }
-    if syntax::METHODS <= at {
-        return names;
-    }
-    let mut more = names;
-    more.list[at] = name;
-    more.count = at + 1;
-    more
 }
 
 // Is this token a name declared twice among its kind, or a variable used that is not declared?
@@ -110,12 +112,12 @@ fn wrong(file: &[u8], vars: Names, methods: Names, kind: u8, before: u8, name: N
         return false;
     }
     if before == syntax::KEY_METHOD {
-        return among(file, methods, name);
+        return methods.has(file, name);
     }
     if before == syntax::KEY_MONITOR {
         return false;
     }
-    let known = among(file, vars, name);
+    let known = vars.has(file, name);
     if before == syntax::KEY_VAR {
         return known;
     }
@@ -135,8 +137,8 @@ pub fn find_misnamed(file: &[u8], kinds: &[u8], values: &[u16], places: &[u16]) 
     if places.len() != kinds.len() {
         return None;
     }
-    let mut vars = no_names();
-    let mut methods = no_names();
+    let mut vars = Names::none();
+    let mut methods = Names::none();
     // Before the first token a kind that declares nothing.
     let mut before = syntax::NUMBER;
     for (i, &kind) in kinds.iter().enumerate() {
@@ -147,8 +149,8 @@ pub fn find_misnamed(file: &[u8], kinds: &[u8], values: &[u16], places: &[u16]) 
         if wrong(file, vars, methods, kind, before, name) {
             return Some(name.start);
         }
-        vars = declared(vars, declares(kind, before, syntax::KEY_VAR), name);
-        methods = declared(methods, declares(kind, before, syntax::KEY_METHOD), name);
+        vars = vars.declared(declares(kind, before, syntax::KEY_VAR), name);
+        methods = methods.declared(declares(kind, before, syntax::KEY_METHOD), name);
         before = kind;
     }
     None
@@ -160,7 +162,7 @@ fn variables(kinds: &[u8], values: &[u16], places: &[u16]) -> Names
         → Words file ts kinds.now values.now places.now
         → past_limit 0 0 0 0 ts ≡ none → Titles file (titles_of ts) result }
 {
-    let mut vars = no_names();
+    let mut vars = Names::none();
     if values.len() != kinds.len() {
         return vars;
     }
@@ -174,7 +176,7 @@ fn variables(kinds: &[u8], values: &[u16], places: &[u16]) -> Names
             start: places[i],
             len: values[i],
         };
-        vars = declared(vars, declares(kind, before, syntax::KEY_VAR), name);
+        vars = vars.declared(declares(kind, before, syntax::KEY_VAR), name);
         before = kind;
     }
     vars
@@ -187,7 +189,7 @@ fn slot_or_value(file: &[u8], vars: Names, kind: u8, start: u16, value: u16) -> 
         → ((x : List ℕ) → l ≡ name x → NameAt file.now x start value) → result ≡ slot_or_value titles l }
 {
     if kind == syntax::NAME {
-        return slot_of(file, vars, Name { start, len: value }) as u16;
+        return vars.slot_of(file, Name { start, len: value }) as u16;
     }
     value
 }

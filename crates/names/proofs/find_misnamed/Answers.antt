@@ -14,7 +14,7 @@ pub returns-then-places-kinds : goal.returns-then-places-kinds
 returns-then-places-kinds c ts h n = absurd (c.if-places-kinds.true (places_long h))
 
 pub loop-i-init : goal.loop-i-init
-loop-i-init c = λ ts h n. naming_first _ ts _ _ (c.no_names-vars.ensures _) (c.no_names-methods.ensures _)
+loop-i-init c = λ ts h n. naming_first _ ts _ _ (c.none-vars.ensures _) (c.none-methods.ensures _)
 
 pub returns-then-wrong : goal.returns-then-wrong
 returns-then-wrong c ts h n = naming_offends h (c.loop-i.invariant ts h n)

@@ -14,7 +14,7 @@ pub returns-then-places-kinds : goal.returns-then-places-kinds
 returns-then-places-kinds c file ts h n = absurd (c.if-places-kinds.true (places_long h))
 
 pub loop-i-init : goal.loop-i-init
-loop-i-init c = λ file ts h n. listing_first file ts _ (c.no_names-vars.ensures file)
+loop-i-init c = λ file ts h n. listing_first file ts _ (c.none-vars.ensures file)
 
 pub loop-i-preserved : goal.loop-i-preserved
 unfolding kind_of keyword_number

@@ -1,4 +1,4 @@
--- `names::slot_of` answers `slot_in`: at each turn the slot among all names is the number passed and the slot among
+-- `names::Names::slot_of` answers `slot_in`: at each turn the slot among all names is the number passed and the slot among
 -- those that are left.
 use Prim.Native.Nat.{◌<◌}
 use native.Mathlib.Omega.{arith}
@@ -6,7 +6,7 @@ use mathlib.Core.Path.{sym, ◌∙◌}
 use mathlib.Core.List.{[]}
 use lib.ListN.{length, get_or}
 use Rattle.names.proofs.Naming.{slot_hit, slot_miss, slot_end}
-use Rattle.names.proofs.slot_of.Goals as goal
+use Rattle.names.proofs.Names.slot_of.Goals as goal
 
 pub returns-then-is_same-clause-slot : goal.returns-then-is_same-clause-slot
 returns-then-is_same-clause-slot c titles x t s =
