@@ -19,8 +19,9 @@ use Rattle.logic.proofs.Bools.{split, is_false, clash}
 use Rattle.syntax.proofs.Lexemes.{decides_same}
 use Rattle.logic.proofs.Bools.{different}
 use Rattle.meaning.specs.Decide.Check.{member}
+use Rattle.names.specs.declared.Name.{Name}
 use Rattle.names.specs.declared.Names.{Names}
-use Rattle.names.specs.Slots.{slot_in, slot_or_value, NameAt, Titles, wrong_by, wrongly}
+use Rattle.names.specs.Slots.{slot_in, slot_or_value, NameAt, no_name, Titles, wrong_by, wrongly}
 use Rattle.syntax.proofs.ByKind.{kind_key}
 use Rattle.passes.proofs.ByIndex.{rest_at, token_at, token_member, value_at, place_at, room}
 
@@ -34,11 +35,11 @@ same_test false x y f g = sym (is_false (λ h. clash (g ((decides_same x y).0 h)
 pub same_sym : (x y : List ℕ) → same_bytes x y ≡ same_bytes y x
 same_sym x y = same_test (same_bytes x y) y x (λ h. sym ((decides_same x y).0 h)) (λ e. (decides_same x y).1 (sym e))
 
--- the bytes between a name's start and its end
-pub stood : {file x : List ℕ} {start len : ℕ} → NameAt file x start len → take (start + len - start) (drop start file)
-    ≡ x
-stood {file} {x} {start} {len} s = ap (λ (n : ℕ). take n (drop start file)) (let e : start + len - start ≡ len =
-    omega arith in e) ∙ s.bytes
+-- the bytes between a name's start and its end, as indices
+pub stood : {file x : List ℕ} {start len s n : ℕ} → s ≡ start → n ≡ len → NameAt file x start len
+    → take (s + n - s) (drop s file) ≡ x
+stood {file} {x} {start} {len} p q h = rw (p, q) (ap (λ (n : ℕ). take n (drop start file)) (let e : start + len - start ≡ len =
+    omega arith in e) ∙ h.bytes)
 
 -- Slots
 
@@ -69,17 +70,11 @@ slot_member (y ∷ ys) x = split (same_bytes y x)
 
 -- One name more
 
-pub one_more : {file : List ℕ} {titles : List (List ℕ)} {names : Names} (x : List ℕ) (start len : ℕ)
+pub one_more : {file : List ℕ} {titles : List (List ℕ)} {names : Names} (x : List ℕ) (new : Name)
     → Titles file titles names → length titles < most_methods
-    → length names.starts ≡ most_methods → length names.lens ≡ most_methods → NameAt file x start len
-    → Titles file (titles ++ (x ∷ []))
-    (record {
-      starts = set names.starts names.count start;
-      lens = set names.lens names.count len;
-      count =
-          names.count + 1;
-    })
-one_more {file} {titles} {names} x start len t room a b s =
+    → length names.list ≡ most_methods → NameAt file x new.start new.len
+    → Titles file (titles ++ (x ∷ [])) (record { list = set names.list names.count new; count = names.count + 1 })
+one_more {file} {titles} {names} x new t room a s =
     record {
       counted = rw length-append (omega (arith, t.counted));
       room = rw length-append (omega arith);
@@ -90,25 +85,23 @@ one_more {file} {titles} {names} x start len t room a b s =
     fits : (k : ℕ) → k < length (titles ++ (x ∷ [])) → k ≤ length titles
     fits k l = omega (arith, simp length-append at l)
 
-    earlier : (k : ℕ) → k < length titles → NameAt file (get_or (titles ++ (x ∷ [])) k [])
-        (get_or (set names.starts names.count start) k 0) (get_or (set names.lens names.count len) k 0)
+    At : List ℕ → Name → Type 0
+    At y n = NameAt file y n.start n.len
+
+    earlier : (k : ℕ) → k < length titles
+        → At (get_or (titles ++ (x ∷ [])) k []) (get_or (set names.list names.count new) k no_name)
     earlier k l =
         let d : k ≡ names.count → ⊥ = λ e. omega (arith, t.counted) in
-        rw (
-          get_or-append titles (x ∷ []) [] k l,
-          get_or-set_other names.starts names.count k start 0 d,
-          get_or-set_other names.lens names.count k len 0 d,
-        ) (t.held k l)
+        rw (get_or-append titles (x ∷ []) [] k l, get_or-set_other names.list names.count k new no_name d) (t.held k l)
 
-    last : (k : ℕ) → k ≤ length titles → length titles ≤ k → NameAt file (get_or (titles ++ (x ∷ [])) k [])
-        (get_or (set names.starts names.count start) k 0) (get_or (set names.lens names.count len) k 0)
+    last : (k : ℕ) → k ≤ length titles → length titles ≤ k
+        → At (get_or (titles ++ (x ∷ [])) k []) (get_or (set names.list names.count new) k no_name)
     last k l m =
         let e : names.count ≡ k = omega (arith, t.counted) in
         rw (
           get_or_at titles x [] [] k (omega arith),
           e,
-          get_or-set_same names.starts k start 0 (omega arith),
-          get_or-set_same names.lens k len 0 (omega arith),
+          get_or-set_same names.list k new no_name (omega arith),
         ) s
 
 -- A name token's bytes stand at its place

@@ -6,6 +6,7 @@ use Rattle.syntax.specs.Token.{Lexeme, name, key, number, mark, k_monitor, k_var
 use Rattle.syntax.specs.Decide.Lexeme.{is_key}
 use Rattle.syntax.specs.Held.Kind.{kind_of}
 use Rattle.meaning.specs.Decide.Check.{member}
+use Rattle.names.specs.declared.Name.{Name}
 use Rattle.names.specs.declared.Names.{Names}
 
 -- the names that stand behind `var`, in order; the lexeme before comes first
@@ -43,12 +44,15 @@ pub record NameAt (file x : List ℕ) (start len : ℕ) : Type 0 where
   pub inside : start + len ≤ length file
   pub bytes : take len (drop start file) ≡ x
 
+abbrev pub no_name : Name
+no_name = record { start = 0; len = 0 }
+
 -- names, no more than methods may be, each by where it stands in the file
 pub record Titles (file : List ℕ) (titles : List (List ℕ)) (names : Names) : Type 0 where
   pub counted : names.count ≡ length titles
   pub room : length titles ≤ most_methods
   pub held : (k : ℕ) → k < length titles
-      → NameAt file (get_or titles k []) (get_or names.starts k 0) (get_or names.lens k 0)
+      → NameAt file (get_or titles k []) (get_or names.list k no_name).start (get_or names.list k no_name).len
 
 -- the names as they were, or with a name that stands at a start behind them
 abbrev pub Grows : Names → Bool → ℕ → ℕ → Names → Type 0

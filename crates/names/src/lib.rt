@@ -12,64 +12,89 @@ ghost use Rattle.meaning.specs.Decide.Check.{past_limit, member, misnamed};
 ghost use Rattle.passes.specs.Pass.{found_of};
 ghost use Rattle.names.specs.Slots.{titles_of, slot_in, slot_or_value, Resolved, NameAt, Titles, Grows, Judges};
 
-// Declared names, as many as there may be methods: where each begins in the file, and its length.
+// Where a name begins in the file, and its length.
+#[derive(Clone, Copy)]
+pub struct Name {
+    pub start: u16,
+    pub len: u16,
+}
+
+impl Name {
+    // Whether two names of the file are the same bytes.
+    fn is_same(self, file: &[u8], other: Name) -> bool
+        ensures { (x y : List ℕ) → NameAt file.now x self.start self.len
+            → NameAt file.now y other.start other.len → result ≡ same_bytes x y }
+    {
+        let start = usize::from(self.start);
+        let end = start + usize::from(self.len);
+        let other_start = usize::from(other.start);
+        let other_end = other_start + usize::from(other.len);
+        if file.len() < end {
+            return false;
+        }
+        if file.len() < other_end {
+            return false;
+        }
+        check::same(&file[start..end], &file[other_start..other_end])
+    }
+}
+
+// Declared names, as many as there may be methods, and how many they are.
 #[derive(Clone, Copy)]
 pub struct Names {
-    pub starts: [u16; syntax::METHODS],
-    pub lens: [u16; syntax::METHODS],
+    pub list: [Name; syntax::METHODS],
     pub count: usize,
 }
 
-fn no_names() -> Names
-    ensures { (file : List ℕ) → Titles file [] result }
-{
-    Names {
-        starts: [0u16; syntax::METHODS],
-        lens: [0u16; syntax::METHODS],
-        count: 0,
-    }
-}
-
-// Whether two parts of the file are the same bytes.
-fn same_part(file: &[u8], a: u16, a_len: u16, b: u16, b_len: u16) -> bool
-    ensures { (x y : List ℕ) → NameAt file.now x a a_len → NameAt file.now y b b_len
-        → result ≡ same_bytes x y }
-{
-    let s = a as usize;
-    let e = s + a_len as usize;
-    let t = b as usize;
-    let f = t + b_len as usize;
-    if file.len() < e {
-        return false;
-    }
-    if file.len() < f {
-        return false;
-    }
-    check::same(&file[s..e], &file[t..f])
-}
-
-// The slot of a name among the declared ones, or their count.
-fn slot_of(file: &[u8], names: Names, start: u16, len: u16) -> usize
-    ensures within { result ≤ most_methods }
-    ensures slot { (titles : List (List ℕ)) (x : List ℕ) → Titles file.now titles names
-        → NameAt file.now x start len → result ≡ slot_in titles x }
-{
-    let mut i = 0;
-    while i < names.count && i < syntax::METHODS {
-        if same_part(file, names.starts[i], names.lens[i], start, len) {
-            return i;
+impl Names {
+    fn none() -> Self
+        ensures { (file : List ℕ) → Titles file [] result }
+    {
+        Names {
+            list: [Name { start: 0, len: 0 }; syntax::METHODS],
+            count: 0,
         }
-        i += 1;
     }
-    i
-}
 
-// Is a name among the declared ones?
-fn among(file: &[u8], names: Names, start: u16, len: u16) -> bool
-    ensures { (titles : List (List ℕ)) (x : List ℕ) → Titles file.now titles names
-        → NameAt file.now x start len → result ≡ member x titles }
-{
-    slot_of(file, names, start, len) < names.count
+    // The slot of a name among the declared ones, or their count.
+    fn slot_of(self, file: &[u8], name: Name) -> usize
+        ensures within { result ≤ most_methods }
+        ensures slot { (titles : List (List ℕ)) (x : List ℕ) → Titles file.now titles self
+            → NameAt file.now x name.start name.len → result ≡ slot_in titles x }
+    {
+        let few = self.count.min(syntax::METHODS);
+        for i in 0..few {
+            if self.list[i].is_same(file, name) {
+                return i;
+            }
+        }
+        few
+    }
+
+    // Is a name among the declared ones?
+    fn has(self, file: &[u8], name: Name) -> bool
+        ensures { (titles : List (List ℕ)) (x : List ℕ) → Titles file.now titles self
+            → NameAt file.now x name.start name.len → result ≡ member x titles }
+    {
+        self.slot_of(file, name) < self.count
+    }
+
+    // One name more, where it is to be added and there is room.
+    fn declared(self, adds: bool, name: Name) -> Self
+        ensures { Grows self adds name.start name.len result }
+    {
+        let at = self.count;
+        if !adds {
+            return self;
+        }
+        if syntax::METHODS <= at {
+            return self;
+        }
+        let mut more = self;
+        more.list[at] = name;
+        more.count = at + 1;
+        more
+    }
 }
 
 // Is this a name behind the keyword?
@@ -79,46 +104,20 @@ fn declares(kind: u8, before: u8, keyword: u8) -> bool
     kind == syntax::NAME && before == keyword
 }
 
-// One name more, where it is to be added and there is room.
-fn declared(names: Names, adds: bool, start: u16, len: u16) -> Names
-    ensures { Grows names adds start len result }
-{
-    let at = names.count;
-    if !adds {
-        return names;
-    }
-    if syntax::METHODS <= at {
-        return names;
-    }
-    let mut more = names;
-    more.starts[at] = start;
-    more.lens[at] = len;
-    more.count = at + 1;
-    more
-}
-
 // Is this token a name declared twice among its kind, or a variable used that is not declared?
-fn wrong(
-    file: &[u8],
-    vars: Names,
-    methods: Names,
-    kind: u8,
-    before: u8,
-    start: u16,
-    len: u16,
-) -> bool
-    ensures { Judges file.now vars methods kind before start len result }
+fn wrong(file: &[u8], vars: Names, methods: Names, kind: u8, before: u8, name: Name) -> bool
+    ensures { Judges file.now vars methods kind before name.start name.len result }
 {
     if kind != syntax::NAME {
         return false;
     }
     if before == syntax::KEY_METHOD {
-        return among(file, methods, start, len);
+        return methods.has(file, name);
     }
     if before == syntax::KEY_MONITOR {
         return false;
     }
-    let known = among(file, vars, start, len);
+    let known = vars.has(file, name);
     if before == syntax::KEY_VAR {
         return known;
     }
@@ -138,27 +137,21 @@ pub fn find_misnamed(file: &[u8], kinds: &[u8], values: &[u16], places: &[u16]) 
     if places.len() != kinds.len() {
         return None;
     }
-    let mut vars = no_names();
-    let mut methods = no_names();
+    let mut vars = Names::none();
+    let mut methods = Names::none();
     // Before the first token a kind that declares nothing.
     let mut before = syntax::NUMBER;
-    let mut i = 0;
-    while i < kinds.len() {
-        let kind = kinds[i];
-        let start = places[i];
-        let len = values[i];
-        if wrong(file, vars, methods, kind, before, start, len) {
-            return Some(start);
+    for (i, &kind) in kinds.iter().enumerate() {
+        let name = Name {
+            start: places[i],
+            len: values[i],
+        };
+        if wrong(file, vars, methods, kind, before, name) {
+            return Some(name.start);
         }
-        vars = declared(vars, declares(kind, before, syntax::KEY_VAR), start, len);
-        methods = declared(
-            methods,
-            declares(kind, before, syntax::KEY_METHOD),
-            start,
-            len,
-        );
+        vars = vars.declared(declares(kind, before, syntax::KEY_VAR), name);
+        methods = methods.declared(declares(kind, before, syntax::KEY_METHOD), name);
         before = kind;
-        i += 1;
     }
     None
 }
@@ -169,7 +162,7 @@ fn variables(kinds: &[u8], values: &[u16], places: &[u16]) -> Names
         → Words file ts kinds.now values.now places.now
         → past_limit 0 0 0 0 ts ≡ none → Titles file (titles_of ts) result }
 {
-    let mut vars = no_names();
+    let mut vars = Names::none();
     if values.len() != kinds.len() {
         return vars;
     }
@@ -178,17 +171,13 @@ fn variables(kinds: &[u8], values: &[u16], places: &[u16]) -> Names
     }
     // Before the first token a kind that declares nothing.
     let mut before = syntax::NUMBER;
-    let mut i = 0;
-    while i < kinds.len() {
-        let kind = kinds[i];
-        vars = declared(
-            vars,
-            declares(kind, before, syntax::KEY_VAR),
-            places[i],
-            values[i],
-        );
+    for (i, &kind) in kinds.iter().enumerate() {
+        let name = Name {
+            start: places[i],
+            len: values[i],
+        };
+        vars = vars.declared(declares(kind, before, syntax::KEY_VAR), name);
         before = kind;
-        i += 1;
     }
     vars
 }
@@ -200,7 +189,7 @@ fn slot_or_value(file: &[u8], vars: Names, kind: u8, start: u16, value: u16) -> 
         → ((x : List ℕ) → l ≡ name x → NameAt file.now x start value) → result ≡ slot_or_value titles l }
 {
     if kind == syntax::NAME {
-        return slot_of(file, vars, start, value) as u16;
+        return vars.slot_of(file, Name { start, len: value }) as u16;
     }
     value
 }
@@ -222,9 +211,7 @@ pub fn resolve(file: &[u8], kinds: &[u8], values: &[u16], places: &[u16], operan
         return;
     }
     let vars = variables(kinds, values, places);
-    let mut i = 0;
-    while i < kinds.len() {
-        operands[i] = slot_or_value(file, vars, kinds[i], places[i], values[i]);
-        i += 1;
+    for (i, &kind) in kinds.iter().enumerate() {
+        operands[i] = slot_or_value(file, vars, kind, places[i], values[i]);
     }
 }

@@ -14,27 +14,22 @@ pub returns-then-places-kinds : goal.returns-then-places-kinds
 returns-then-places-kinds c ts h n = absurd (c.if-places-kinds.true (places_long h))
 
 pub loop-i-init : goal.loop-i-init
-loop-i-init c = (omega arith, λ ts h n. naming_first _ ts _ _ (c.no_names-vars.ensures _) (c.no_names-methods.ensures _))
+loop-i-init c = λ ts h n. naming_first _ ts _ _ (c.none-vars.ensures _) (c.none-methods.ensures _)
 
 pub returns-then-wrong : goal.returns-then-wrong
-returns-then-wrong c ts h n = naming_offends h (c.loop-i.invariant.1 ts h n)
+returns-then-wrong c ts h n = naming_offends h (c.loop-i.invariant ts h n)
     (omega arith) _ c.wrong.ensures c.if-wrong.true
-
-pub overflow_add-i : goal.overflow_add-i
-overflow_add-i c = omega (arith, c)
 
 pub loop-i-preserved : goal.loop-i-preserved
 unfolding kind_of keyword_number
-loop-i-preserved c = (
-  omega arith,
-  λ ts h n.
-      naming_next h
-      (c.loop-i.invariant.1 ts h n) n
-      (omega arith) _
-      c.wrong.ensures c.if-wrong.false _ _
-      c.declares.ensures c.declared-vars.ensures
-      c.declares-in-loop-i.ensures c.declared-methods.ensures,
-)
+loop-i-preserved c =
+    λ ts h n.
+    naming_next h
+    (c.loop-i.invariant ts h n) n
+    (omega arith) _
+    c.wrong.ensures c.if-wrong.false _ _
+    c.declares.ensures c.declared-vars.ensures
+    c.declares-in-loop-i.ensures c.declared-methods.ensures
 
 pub returns : goal.returns
-returns c ts h n = naming_ends h (c.loop-i.invariant.1 ts h n) (omega arith)
+returns c ts h n = naming_ends h (c.loop-i.invariant ts h n) (omega arith)

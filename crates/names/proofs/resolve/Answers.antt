@@ -17,16 +17,15 @@ returns-then-operands-kinds c ts h n long = absurd (c.if-operands-kinds.true (lo
 
 pub loop-i-preserved : goal.loop-i-preserved
 loop-i-preserved c = (
-  omega arith,
   simp length-set (omega arith),
   λ ts h n long.
-      resolved_next h _ _ long _ (omega arith) (c.loop-i.invariant.2 ts h n long)
+      resolved_next h _ _ long _ (omega arith) (c.loop-i.invariant.1 ts h n long)
       (c.variables-vars.ensures _ ts h n) c.slot_or_value.ensures,
 )
 
 pub returns : goal.returns
 returns c ts h n long =
-    resolved_last h _ _ long c.loop-i.i (omega arith) (c.loop-i.invariant.2 ts h n long)
+    resolved_last h _ _ long c.loop-i.i (omega arith) (c.loop-i.invariant.1 ts h n long)
 
 pub loop-i-init : goal.loop-i-init
-loop-i-init = λ c. (omega arith, refl, λ ts h n long. refl)
+loop-i-init = λ c. (refl, λ ts h n long. refl)

@@ -1,4 +1,3 @@
-use Prim.Native.Nat.{◌≤◌, ◌-◌}
 use mathlib.Core.Path.{◌≡◌}
 use mathlib.Core.List.{List, ◌++◌, map}
 use mathlib.Core.Option.{none}
@@ -11,9 +10,6 @@ use Rattle.names.proofs.resolve.Given as goal
 
 abbrev pub invariant-loop-i : goal.invariant-loop-i
 invariant-loop-i l =
-    (l.i ≤ length l.kinds) × (length l.operands ≡ length l.initial.operands)
+    (length l.operands ≡ length l.initial.operands)
     × ((ts : List Token) → Words l.file ts l.kinds l.values l.places → past_limit 0 0 0 0 ts ≡ none → length l.initial.operands ≡ length ts
     → l.operands ≡ map (λ t. slot_or_value (titles_of ts) t.lexeme) (take l.i ts) ++ drop l.i l.initial.operands)
-
-abbrev pub decreases-loop-i : goal.decreases-loop-i
-decreases-loop-i l = length l.kinds - l.i

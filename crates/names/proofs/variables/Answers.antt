@@ -14,16 +14,14 @@ pub returns-then-places-kinds : goal.returns-then-places-kinds
 returns-then-places-kinds c file ts h n = absurd (c.if-places-kinds.true (places_long h))
 
 pub loop-i-init : goal.loop-i-init
-loop-i-init c = (omega arith, λ file ts h n. listing_first file ts _ (c.no_names-vars.ensures file))
+loop-i-init c = λ file ts h n. listing_first file ts _ (c.none-vars.ensures file)
 
 pub loop-i-preserved : goal.loop-i-preserved
 unfolding kind_of keyword_number
-loop-i-preserved c = (
-  omega arith,
-  λ file ts h n.
-      listing_next h n _ (c.loop-i.invariant.1 file ts h n) (omega arith)
-      c.declares.ensures c.declared-vars.ensures,
-)
+loop-i-preserved c =
+    λ file ts h n.
+    listing_next h n _ (c.loop-i.invariant file ts h n) (omega arith)
+    c.declares.ensures c.declared-vars.ensures
 
 pub returns : goal.returns
-returns c file ts h n = listing_last h (c.loop-i.invariant.1 file ts h n) (omega arith)
+returns c file ts h n = listing_last h (c.loop-i.invariant file ts h n) (omega arith)

@@ -18,7 +18,7 @@ unfolding wrong_by kind_of keyword_number
 returns-then-before-eq-KEY_METHOD c vs ms l last t u k b s =
     let n = is_name_lem l (sym k ∙ c.if-kind-ne-NAME.false) in
     rw (n.1, wrong_name last vs ms n.0, ← b, c.if-before-eq-KEY_METHOD.true)
-    (c.among.ensures ms n.0 u (s n.0 n.1))
+    (c.has.ensures ms n.0 u (s n.0 n.1))
 
 pub returns-then-before-eq-KEY_MONITOR : goal.returns-then-before-eq-KEY_MONITOR
 unfolding wrong_by kind_of keyword_number
@@ -31,7 +31,7 @@ unfolding wrong_by kind_of keyword_number
 returns-then-before-eq-KEY_VAR c vs ms l last t u k b s =
     let n = is_name_lem l (sym k ∙ c.if-kind-ne-NAME.false) in
     rw (n.1, wrong_name last vs ms n.0, ← b, c.if-before-eq-KEY_VAR.true)
-    (c.among-known.ensures vs n.0 t (s n.0 n.1))
+    (c.has-known.ensures vs n.0 t (s n.0 n.1))
 
 pub returns : goal.returns
 unfolding wrong_by kind_of keyword_number
@@ -45,4 +45,4 @@ returns c vs ms l last t u k b s =
       ne_eqb _ (kind_of (key k_method)) c.if-before-eq-KEY_METHOD.false,
       ne_eqb _ (kind_of (key k_monitor)) c.if-before-eq-KEY_MONITOR.false,
     )
-    (ap not (c.among-known.ensures vs n.0 t (s n.0 n.1)))
+    (ap not (c.has-known.ensures vs n.0 t (s n.0 n.1)))

@@ -1,9 +1,9 @@
--- `names::declared` adds a name at the end, or none.
+-- `names::Names::declared` adds a name at the end, or none.
 use native.Mathlib.Omega.{arith}
 use Rattle.logic.proofs.Bools.{clash}
 use borrow.Author.Rules.{rules}
 use Rattle.names.proofs.Naming.{one_more}
-use Rattle.names.proofs.declared.Goals as goal
+use Rattle.names.proofs.Names.declared.Goals as goal
 
 pub returns-then-not-adds : goal.returns-then-not-adds
 returns-then-not-adds c file titles t = ((λ e. t), λ x e room s. clash e c.if-not-adds.true)
@@ -15,5 +15,5 @@ returns-then-at-ge-METHODS c file titles t = ((λ e. t), λ x e room s. absurd (
 pub returns : goal.returns
 returns c file titles t = (
   (λ e. clash c.if-not-adds.false e),
-  λ x e room s. one_more x _ _ t room (search rules) (search rules) s,
+  λ x e room s. one_more x _ t room (search rules) s,
 )
