@@ -16,7 +16,8 @@ use Rattle.syntax.specs.Tree.{Sign, added, taken, Comparison, eq, ne, lt, le, gt
 use Rattle.syntax.specs.Decide.Reading.{Got, got, stuck, Reader, onwards, ◌>>=◌, give, begins, rest, choose, expect}
 use Rattle.syntax.specs.Decide.Reading.{read_name, read_number, is_sign, read_sign, read_comparison}
 use Rattle.grammar.specs.Reads.{Follows, Tells, Expects}
-use Rattle.grammar.specs.declared.Pos.{Pos}
+use Rattle.grammar.specs.declared.Stuck.{Stuck}
+use Rattle.std.specs.Prelude.{Result}
 use Rattle.grammar.proofs.Readers.{shape, shaped}
 
 -- Numbers that are equal, as a test of one from the other to the other
@@ -123,7 +124,7 @@ comparison_shape =
     either (is_mark same) _ eq _ (either (is_mark differs) _ ne _ (either (is_mark below) _ lt _
     (either (is_mark at_most_mark) _ le _ (either (is_mark above) _ gt _ (single (is_mark at_least_mark) ge)))))
 
-module _ {ks : List ℕ} {from to : Pos} where
+module _ {ks : List ℕ} {from : ℕ} {to : Result ℕ Stuck} where
   pub took_mark : (m : Mark) → Expects ks from (kind_of (mark m)) (kind_of (mark m)) to
       → Follows (Unit {0}) ks from (expect (is_mark m)) to
   took_mark m h = h.by (is_mark m) (by_mark m)
@@ -133,14 +134,14 @@ module _ {ks : List ℕ} {from to : Pos} where
   took_key k h = h.by (is_key k) (by_key k)
 
   pub took_name : Expects ks from name_kind name_kind to → Follows (List ℕ) ks from read_name to
-  took_name h = shaped [] name_shape (h.by is_name by_name)
+  took_name h = shaped name_shape (h.by is_name by_name)
 
   pub took_number : Expects ks from number_kind number_kind to → Follows ℕ ks from read_number to
-  took_number h = shaped 0 number_shape (h.by is_number by_number)
+  took_number h = shaped number_shape (h.by is_number by_number)
 
   pub took_sign : Expects ks from (kind_of (mark plus)) (kind_of (mark minus)) to → Follows Sign ks from read_sign to
-  took_sign h = shaped added sign_shape (h.by is_sign by_sign)
+  took_sign h = shaped sign_shape (h.by is_sign by_sign)
 
   pub took_comparison : Expects ks from (kind_of (mark same)) (kind_of (mark at_least_mark)) to
       → Follows Comparison ks from read_comparison to
-  took_comparison h = shaped eq comparison_shape (h.by is_comparison by_comparison)
+  took_comparison h = shaped comparison_shape (h.by is_comparison by_comparison)

@@ -1,5 +1,5 @@
 -- `grammar::read_atom` meets its contract.
-use Rattle.grammar.proofs.Readers.{then, done, yes, no}
+use Rattle.grammar.proofs.Readers.{ends, yes, no}
 use Rattle.grammar.proofs.KindTests.{by_name, took_name}
 use Rattle.syntax.specs.Decide.Reading.{read_atom}
 use Rattle.grammar.proofs.read_atom.Goals as goal
@@ -7,10 +7,9 @@ use Rattle.grammar.proofs.read_atom.Goals as goal
 pub returns-then-sees : goal.returns-then-sees
 unfolding read_atom
 returns-then-sees c =
-    yes _ by_name c.sees.ensures c.if-sees.true
-    (then (took_name c.expect.ensures) λ _. done _)
+    yes _ by_name (rw c.if-sees.true at c.sees.ensures) (ends _ (took_name c.expect.ensures))
 
-pub returns : goal.returns
+pub returns-else-sees : goal.returns-else-sees
 unfolding read_atom
-returns c =
-    no _ by_name c.sees.ensures c.if-sees.false (then c.read_int.ensures λ _. done _)
+returns-else-sees c =
+    no _ by_name (rw c.if-sees.false at c.sees.ensures) (ends _ c.read_int.ensures)
