@@ -10,7 +10,7 @@ use mathlib.Core.List.{List, [], ◌∷◌, ◌++◌, map}
 use lib.ListN.{length, get_or, length-append, length-map, get_or-append, get_or-map}
 use lib.Seq.{get_or-append-add}
 use Rattle.logic.specs.Tests.{bit}
-use Rattle.logic.proofs.Bools.{is_false, clash, split_eq}
+use Rattle.logic.proofs.Bools.{is_false, clash, split_eq, different}
 use Rattle.logic.proofs.Lists.{get_d_below}
 use Rattle.sets.specs.Set.{member}
 use Rattle.machine.specs.Monitor.{Place, idle, waiting, due, Threads, Monitor, Config, Frame, threads}
@@ -31,7 +31,7 @@ use Rattle.stepper.specs.declared.Frame as code
 use Rattle.stepper.proofs.ByHeld.{guard_held, holds_held}
 use Rattle.stepper.proofs.Agree.{next_same}
 use Rattle.allowed.specs.declared.Methods.{Methods}
-use Rattle.allowed.specs.declared.Chosen.{Chosen}
+use Rattle.std.specs.Prelude.{Some, None}
 use Rattle.allowed.specs.declared.Spot.{Spot}
 use Rattle.allowed.proofs.Sums.{join_suc}
 use Rattle.allowed.specs.Offered.{sum_each, offered_by, offered_at, region_by, PickedAt, HeldMethods, PlainAt, Chooses}
@@ -166,32 +166,33 @@ module _ (m : Monitor) (c : Config) (kept hs as' gs : List ℕ) (held : Held m k
 
   -- while the thread of the last frame is due
   pub taken_due : is_due (places_of run.threads.each last) ≡ true → (first : List ℕ) (g : ℕ)
-      → g ≡ region_by (places_of run.threads.each last) 0 first → (draw : ℕ) (r : Chosen) → r.any ≡ true
-      → r.frame.thread ≡ last → r.frame.region ≡ g
-      → r.frame.flag ≡ holds_at hs (guard_at gs g) run.state → Chooses (allowed_frames m n c) draw r
+      → g ≡ region_by (places_of run.threads.each last) 0 first → (draw : ℕ) (f : code.Frame)
+      → f.thread ≡ last → f.region ≡ g
+      → f.flag ≡ holds_at hs (guard_at gs g) run.state → Chooses (allowed_frames m n c) draw (Some f)
   unfolding PlaceWithin threads is_due region_by
-  taken_due d first g e draw r a t q b =
+  taken_due d first g e draw f t q b =
       go (c.threads.place last) refl (ap is_due (sym same) ∙ d)
       (e ∙ ap (λ (p : Place). region_by p 0 first) same)
     where
       same : places_of run.threads.each last ≡ c.threads.place last
       same = let h = x.below in place_same last (omega arith)
 
-      alone : (w : ℕ) → c.threads.place last ≡ due w → g ≡ w → Chooses (allowed_frames m n c) draw r
+      alone : (w : ℕ) → c.threads.place last ≡ due w → g ≡ w → Chooses (allowed_frames m n c) draw (Some f)
       alone w z k =
           let below = (x.reached.within last).1 w z in
-          subst (λ (fs : List Frame). Chooses fs draw r) (sym (due_alone m c n last w few x.below z below x.due_last))
+          subst (λ (fs : List Frame). Chooses fs draw (Some f)) (sym (due_alone m c n last w few x.below z below x.due_last))
           (record {
-            none = λ y. clash a y;
-            some = λ y. omega arith;
-            taken = λ y f.
+            none = λ y. different (cc);
+            some = λ _ _. omega arith;
+            taken = λ h y d.
                 let i : draw % 1 ≡ 0 = omega arith in
-                frame_same r.frame last w t (q ∙ k) (b ∙ ap (λ (j : ℕ). holds_at hs (guard_at gs j) run.state) k) below
-                ∙ sym (ap (λ (k : ℕ). get_or (frame_at m c last w ∷ []) k f) i);
+                let same : f ≡ h = cc in
+                ap frame_of (sym same) ∙ frame_same f last w t (q ∙ k) (b ∙ ap (λ (j : ℕ). holds_at hs (guard_at gs j) run.state) k) below
+                ∙ sym (ap (λ (k : ℕ). get_or (frame_at m c last w ∷ []) k d) i);
           })
 
       go : (p : Place) → c.threads.place last ≡ p → is_due p ≡ true → g ≡ region_by p 0 first
-          → Chooses (allowed_frames m n c) draw r
+          → Chooses (allowed_frames m n c) draw (Some f)
       go idle z d k = clash d refl
       go (waiting w) z d k = clash d refl
       go (due w) z d k = alone w z k
@@ -273,18 +274,18 @@ module _ (m : Monitor) (c : Config) (kept hs as' gs : List ℕ) (held : Held m k
         ap length joined ∙ join_length list n
         ∙ sum_same n (lengths list) counts (λ t h. list_length t (omega arith))
 
-    pub taken_none : sum_each n counts ≡ 0 → (draw : ℕ) (r : Chosen) → r.any ≡ false → Chooses (allowed_frames m n c) draw r
-    taken_none z draw r a =
-        record { none = λ _. nothing (allowed_frames m n c) (total ∙ z); some = λ e. clash e a; taken = λ e. clash e a }
+    pub taken_none : sum_each n counts ≡ 0 → (draw : ℕ) → Chooses (allowed_frames m n c) draw None
+    taken_none z draw =
+        record { none = λ _. nothing (allowed_frames m n c) (total ∙ z); some = λ f e. different (cc); taken = λ f e. different (cc) }
 
-    pub taken_picked : (draw : ℕ) (spot : Spot) (r : Chosen) → (sum_each n counts ≡ 0 → ⊥)
+    pub taken_picked : (draw : ℕ) (spot : Spot) (f : code.Frame) → (sum_each n counts ≡ 0 → ⊥)
         → PickedAt run.threads.each n ms.count ms.first fronts (draw % sum_each n counts) spot
-        → r.any ≡ true → r.frame.thread ≡ spot.thread → r.frame.region ≡ spot.region
-        → r.frame.flag ≡ holds_at hs (guard_at gs spot.region) run.state → Chooses (allowed_frames m n c) draw r
-    taken_picked draw spot r some p a t g b = record {
-      none = λ z. clash a z;
-      some = λ _. let e = total in omega arith;
-      taken = λ _ d. at d;
+        → f.thread ≡ spot.thread → f.region ≡ spot.region
+        → f.flag ≡ holds_at hs (guard_at gs spot.region) run.state → Chooses (allowed_frames m n c) draw (Some f)
+    taken_picked draw spot f some p t g b = record {
+      none = λ z. different (cc);
+      some = λ _ _. let e = total in omega arith;
+      taken = λ h z d. let same : f ≡ h = cc in ap frame_of (sym same) ∙ at d;
     }
       where
         u : ℕ
@@ -302,12 +303,12 @@ module _ (m : Monitor) (c : Config) (kept hs as' gs : List ℕ) (held : Held m k
         inside : i < length (list u)
         inside = let e = list_length u small in let h = p.from in let l = p.to in omega arith
 
-        at : (d : Frame) → frame_of r.frame ≡ get_or (allowed_frames m n c) (draw % length (allowed_frames m n c)) d
+        at : (d : Frame) → frame_of f ≡ get_or (allowed_frames m n c) (draw % length (allowed_frames m n c)) d
         at d =
             let found = list_at u i small inside spot.region p.region d in
             let place : sum_each u (lengths list) + i ≡ draw % length (allowed_frames m n c) =
             ap (λ (k : ℕ). k + i) passed ∙ omega (arith, p.from) ∙ ap (λ (k : ℕ). draw % k) (sym total) in
-            frame_same r.frame u spot.region t g b found.0
+            frame_same f u spot.region t g b found.0
             ∙ sym found.1
             ∙ sym (join_at list n u i d p.below inside)
             ∙ ap (λ (fs : List Frame). get_or fs (sum_each u (lengths list) + i) d) (sym joined)

@@ -1,6 +1,6 @@
 -- What the code says of the allowed frames, by the record alone: how many each thread has, how many there are, and which one
 -- stands at an index; and of a record that shows a point of the plain machine's run, which frame a draw takes there.
-use Rattle.std.specs.Prelude.{ℕ, zero, suc, ◌+◌, ◌-◌, ◌%◌, ◌≤◌, ◌<◌, ◌≡◌, Bool, true, false, List, [], length, get_or}
+use Rattle.std.specs.Prelude.{ℕ, zero, suc, ◌+◌, ◌-◌, ◌%◌, ◌≤◌, ◌<◌, ◌≡◌, Bool, true, false, List, [], length, get_or, Option, Some, None}
 use Rattle.logic.specs.Tests.{bit}
 use Rattle.sets.specs.Set.{member}
 use Rattle.machine.specs.Monitor.{Place, idle, waiting, due, Monitor, Config, threads}
@@ -13,8 +13,8 @@ use Rattle.threads.specs.Held.{places_of}
 use Rattle.threads.specs.declared.Thread.{Thread}
 use Rattle.stepper.specs.Shown.{Shows, frame_of}
 use Rattle.stepper.specs.declared.Run.{Run}
+use Rattle.stepper.specs.declared.Frame as code
 use Rattle.allowed.specs.declared.Methods.{Methods}
-use Rattle.allowed.specs.declared.Chosen.{Chosen}
 use Rattle.allowed.specs.declared.Spot.{Spot}
 
 -- what a function gives for 0, 1, .. n - 1, added up
@@ -47,6 +47,12 @@ pub record PickedAt (each : List Thread) (n methods : ℕ) (first : List ℕ) (f
   pub region :
       r.region ≡ region_by (places_of each r.thread) (index - sum_each r.thread (offered_at each methods fronts)) first
 
+-- a frame is found there
+pub record Picks (each : List Thread) (n methods : ℕ) (first : List ℕ) (fronts index : ℕ) (r : Option Spot) : Type 0 where
+  pub spot : Spot
+  pub found : r ≡ Some spot
+  pub picked : PickedAt each n methods first fronts index spot
+
 -- the first regions of a monitor's methods are held
 pub record HeldMethods (m : Monitor) (ms : Methods) : Type 0 where
   pub count : ms.count ≡ length (begun m)
@@ -62,7 +68,7 @@ pub record PlainAt (m : Monitor) (n : ℕ) (run : Run) (last : ℕ) (c : Config)
   pub due_last : (u : ℕ) → u < threads → is_due (c.threads.place u) ≡ true → u ≡ last
 
 -- the frame of a list that a draw takes; none of an empty one
-pub record Chooses (fs : List machine.Frame) (draw : ℕ) (r : Chosen) : Type 0 where
-  pub none : r.any ≡ false → fs ≡ []
-  pub some : r.any ≡ true → 0 < length fs
-  pub taken : r.any ≡ true → (d : machine.Frame) → frame_of r.frame ≡ get_or fs (draw % length fs) d
+pub record Chooses (fs : List machine.Frame) (draw : ℕ) (r : Option code.Frame) : Type 0 where
+  pub none : r ≡ None → fs ≡ []
+  pub some : (f : code.Frame) → r ≡ Some f → 0 < length fs
+  pub taken : (f : code.Frame) → r ≡ Some f → (d : machine.Frame) → frame_of f ≡ get_or fs (draw % length fs) d

@@ -11,7 +11,7 @@ ghost use Rattle.machine.specs.Decide.Load.{allowed_frames};
 ghost use Rattle.threads.specs.Held.{place_of, places_of, threads_of, Queued};
 ghost use Rattle.waiters.specs.Slices.{guard_at, holds_at, guards_only};
 ghost use Rattle.waiters.specs.Told.{new_first};
-ghost use Rattle.allowed.specs.Offered.{sum_each, offered_by, offered_at, region_by, PickedAt, HeldMethods, PlainAt, Chooses};
+ghost use Rattle.allowed.specs.Offered.{sum_each, offered_by, offered_at, region_by, Picks, HeldMethods, PlainAt, Chooses};
 
 use machine::StateNumber;
 use stepper::{Frame, Run};
@@ -22,13 +22,6 @@ use threads::{Place, Thread};
 pub struct Methods {
     pub count: u8,
     pub first: [u8; machine::REGIONS],
-}
-
-// Whether any frame is allowed, and the one that a draw takes.
-#[derive(Clone, Copy)]
-pub struct Chosen {
-    pub any: bool,
-    pub frame: Frame,
 }
 
 // A thread, and a region for it.
@@ -45,18 +38,14 @@ pub fn methods_of(begins: &[u8; machine::REGIONS], regions: usize) -> Methods
 {
     let mut first = [0u8; machine::REGIONS];
     let mut count: u8 = 0;
-    let mut r: u8 = 0;
-    while r < machine::REGION_END {
-        if ((r as usize) < regions) & (begins[r as usize] == 1) {
-            first[count as usize] = r;
+    for r in 0..machine::REGION_END {
+        let at = usize::from(r);
+        if (at < regions) & (begins[at] == 1) {
+            first[usize::from(count)] = r;
             count += 1;
         }
-        r += 1;
     }
-    Methods {
-        count: count,
-        first: first,
-    }
+    Methods { count, first }
 }
 
 // The frame of a thread at a region, with the one flag that can be allowed.
@@ -69,10 +58,10 @@ fn frame_at(
     ensures { (result.thread ≡ spot.thread) × (result.region ≡ spot.region)
         × (result.flag ≡ holds_at holds.now (guard_at guard_of.now spot.region) state) }
 {
-    let region = spot.region;
+    let Spot { thread, region } = spot;
     Frame {
-        thread: spot.thread,
-        region: region,
+        thread,
+        region,
         flag: stepper::holds_at(holds, waiters::guard_at(guard_of, region), state),
     }
 }
@@ -84,7 +73,7 @@ fn offered(place: Place, front: bool, methods: u8) -> u8
 {
     match place {
         Place::Idle => methods,
-        Place::Waiting(_) => if front { 1 } else { 0 },
+        Place::Waiting(_) => u8::from(front),
         Place::Due(_) => 0,
     }
 }
@@ -95,12 +84,9 @@ fn count(each: [Thread; machine::THREADS], n: u8, methods: u8, fronts: u16) -> u
     ensures { result ≡ sum_each n (offered_at each methods fronts) }
 {
     let mut sum: usize = 0;
-    let mut t: u8 = 0;
-    while t < n {
-        let thread = each[t as usize];
-        let place = thread.place;
-        sum += offered(place, sets::has(fronts, t as u32), methods) as usize;
-        t += 1;
+    for t in 0..n {
+        let place = each[usize::from(t)].place;
+        sum += usize::from(offered(place, sets::has(fronts, u32::from(t)), methods));
     }
     sum
 }
@@ -116,7 +102,7 @@ fn region_at(place: Place, index: usize, first: [u8; machine::REGIONS]) -> u8
     }
 }
 
-// The frame at an index: the first threads' frames are passed over.
+// The frame at an index, of the first n threads': those of the threads before are passed over.
 fn pick(
     each: [Thread; machine::THREADS],
     n: u8,
@@ -124,30 +110,24 @@ fn pick(
     first: [u8; machine::REGIONS],
     fronts: u16,
     index: usize,
-) -> Spot
+) -> Option<Spot>
     requires { n ≤ 16 }
     ensures { index < sum_each n (offered_at each methods fronts)
-        → PickedAt each n methods first fronts index result }
+        → Picks each n methods first fronts index result }
 {
     let mut left = index;
-    let mut t: u8 = 0;
-    while t < n {
-        let thread = each[t as usize];
-        let place = thread.place;
-        let here = offered(place, sets::has(fronts, t as u32), methods) as usize;
+    for t in 0..n {
+        let place = each[usize::from(t)].place;
+        let here = usize::from(offered(place, sets::has(fronts, u32::from(t)), methods));
         if left < here {
-            return Spot {
+            return Some(Spot {
                 thread: t,
                 region: region_at(place, left, first),
-            };
+            });
         }
         left -= here;
-        t += 1;
     }
-    Spot {
-        thread: 0,
-        region: 0,
-    }
+    None
 }
 
 // The waiters that may resume: the first on each guard that holds.
@@ -162,20 +142,9 @@ fn fronts_of(
         → member result u ≡ holds_at holds.now (guard_at guard_of.now w) run.state
         && next (guards_only guard_of.now) (threads_of run.threads) (guard_at guard_of.now w) u }
 {
-    let holding = holds[(run.state % machine::STATE_END) as usize];
+    let holding = holds[usize::from(run.state % machine::STATE_END)];
     let told = waiters::told(run.threads, guard_of, holding, no_entries, 0);
     told.table
-}
-
-// A count of threads, at most all of them.
-fn at_most_all(n: u8) -> u8
-    ensures upper_bound { result ≤ 16 }
-    ensures value { n ≤ 16 → result ≡ n }
-{
-    if n < machine::THREAD_END {
-        return n;
-    }
-    machine::THREAD_END
 }
 
 // The frame that a draw takes, of those allowed to the first n threads. Only the thread of the last frame can be due, and
@@ -189,39 +158,27 @@ pub fn choose(
     holds: &[u16; machine::STATES],
     guard_of: &[u8; machine::REGIONS],
     no_entries: &[u8; machine::ENTRIES],
-) -> Chosen
+) -> Option<Frame>
     ensures { (m : Monitor) (c : Config) (kept after : List ℕ)
         → Held m kept holds.now after guard_of.now → HeldMethods m methods
         → ((i : ℕ) → get_or no_entries.now i 0 ≡ 0) → n ≤ 16 → PlainAt m n run last c
         → Chooses (allowed_frames m n c) draw result }
 {
-    let threads = run.threads;
-    let each = threads.each;
-    let thread = each[(last % machine::THREAD_END) as usize];
-    let place = thread.place;
+    let each = run.threads.each;
+    let place = each[usize::from(last % machine::THREAD_END)].place;
     let first = methods.first;
     if place.is_due() {
         let spot = Spot {
             thread: last,
             region: region_at(place, 0, first),
         };
-        return Chosen {
-            any: true,
-            frame: frame_at(run.state, spot, holds, guard_of),
-        };
+        return Some(frame_at(run.state, spot, holds, guard_of));
     }
     let fronts = fronts_of(run, holds, guard_of, no_entries);
-    let known = at_most_all(n);
+    let known = n.min(machine::THREAD_END);
     let all = count(each, known, methods.count, fronts);
     if all == 0 {
-        return Chosen {
-            any: false,
-            frame: Frame {
-                thread: 0,
-                region: 0,
-                flag: false,
-            },
-        };
+        return None;
     }
     let spot = pick(
         each,
@@ -230,9 +187,6 @@ pub fn choose(
         first,
         fronts,
         draw as usize % all,
-    );
-    Chosen {
-        any: true,
-        frame: frame_at(run.state, spot, holds, guard_of),
-    }
+    )?;
+    Some(frame_at(run.state, spot, holds, guard_of))
 }

@@ -18,8 +18,8 @@ use Rattle.logic.proofs.Bools.{different}
 use Rattle.answers.specs.Says.{Says, Is, answer_of}
 use Rattle.answers.specs.declared.Answer as code
 use Rattle.table.specs.Written.{placed_of, buffer_of, WritesTable, PutsTable}
-use Rattle.table.specs.declared.Placed.{Placed}
-use Rattle.table.specs.declared.Placed.TheVariants.{Length, Short}
+use Rattle.std.specs.Prelude.{Result, Ok, Err}
+use Rattle.table.specs.declared.TooShort.{TooShort}
 use Rattle.table.proofs.Monitors.{table_is}
 use Rattle.loader.specs.Loading.{Loads}
 use Rattle.loader.specs.declared.Loaded.{Loaded}
@@ -40,7 +40,7 @@ module _ {file : List ℕ} {l : Loaded} {kept holds after : List ℕ} (loads : L
       rw (e, place) (record { answer = rw e at loads.verdict; length = refl; chosen = refl; pairs = refl; bytes = refl })
 
   -- an accepted file: its entries are filled, and its table is written
-  module _ (z : l.answer.number ≡ 0) (entries : List ℕ) {buffer behind : List ℕ} {r : Placed}
+  module _ (z : l.answer.number ≡ 0) (entries : List ℕ) {buffer behind : List ℕ} {r : Result ℕ TooShort}
       (fill : EntriesOf file entries)
       (write : PutsTable entries l.layout.regions l.layout.guards buffer r behind) where
     abbrev m : Monitor
@@ -62,7 +62,7 @@ module _ {file : List ℕ} {l : Loaded} {kept holds after : List ℕ} (loads : L
         let few_gs = k.held.few_guards in
         rw (table_is (model m) _ _ _ rs gs (fill m e)) (write.written (omega arith) (omega arith))
 
-    pub placed : (n : ℕ) → r ≡ Length n → Places (place file buffer) (record {
+    pub placed : (n : ℕ) → r ≡ Ok n → Places (place file buffer) (record {
       answer = l.answer;
       length = n;
       chosen = l.choice.chosen;
@@ -74,9 +74,9 @@ module _ {file : List ℕ} {l : Loaded} {kept holds after : List ℕ} (loads : L
         go : (b : Bool) → ltb (length buffer) (length table) ≡ b
             → Places (written table (chosen_bits m) (pairs_of m) buffer)
             (record { answer = l.answer; length = n; chosen = l.choice.chosen; pairs = l.pairs }) behind
-        go true t = let s : r ≡ Short = rw (t, placed_of) at w.answer in different (cc)
+        go true t = let s : r ≡ Err (record {}) = rw (t, placed_of) at w.answer in different (cc)
         go false t =
-            let s : r ≡ Length (length table) = rw (t, placed_of) at w.answer in
+            let s : r ≡ Ok (length table) = rw (t, placed_of) at w.answer in
             rw (t, written)
             (record {
               answer = says_accepted m e;
@@ -86,7 +86,7 @@ module _ {file : List ℕ} {l : Loaded} {kept holds after : List ℕ} (loads : L
               bytes = rw (t, buffer_of) at w.buffer;
             })
 
-    pub too_short : (a : code.Answer) → (a.number ≡ 10) × (a.first ≡ 0) × (a.second ≡ 0) → r ≡ Short
+    pub too_short : (a : code.Answer) → (a.number ≡ 10) × (a.first ≡ 0) × (a.second ≡ 0) → r ≡ Err (record {})
         → Places (place file buffer) (record { answer = a; length = 0; chosen = 0; pairs = 0 }) behind
     unfolding place written placed_of buffer_of
     too_short a (x, y, z) at_short = rw (e, place) (go (ltb (length buffer) (length table)) refl)
@@ -102,4 +102,4 @@ module _ {file : List ℕ} {l : Loaded} {kept holds after : List ℕ} (loads : L
               bytes =
                   rw (t, buffer_of) at w.buffer;
             })
-        go false t = let s : r ≡ Length (length table) = rw (t, placed_of) at w.answer in different (cc)
+        go false t = let s : r ≡ Ok (length table) = rw (t, placed_of) at w.answer in different (cc)

@@ -16,7 +16,7 @@ use loader::Loaded;
 use machine::StateNumber;
 use run::{Both, Running};
 use stepper::Slices;
-use table::Placed;
+use table::TooShort;
 
 // What placing answers, and where it is placed the table's length, the chosen tries, the first the lowest bit, and how
 // many pairs of region and guard are touched.
@@ -99,15 +99,15 @@ pub fn place_loaded(
     let choice = loaded.choice;
     let entries = entries_of(loaded, kept, holds, after);
     match table::write_table(&entries, layout.regions, layout.guards, table) {
-        Placed::Short => Placing {
+        Err(TooShort) => Placing {
             answer: answers::say(10, 0, 0),
             length: 0,
             chosen: 0,
             pairs: 0,
         },
-        Placed::Length(n) => Placing {
+        Ok(length) => Placing {
             answer: verdict,
-            length: n,
+            length,
             chosen: choice.chosen,
             pairs: loaded.pairs,
         },

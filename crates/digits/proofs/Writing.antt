@@ -7,6 +7,7 @@ use native.Mathlib.Nat.{add-zero, add_assoc}
 use native.Mathlib.Numerals.{add-one}
 use native.Mathlib.Omega.{arith}
 use lib.ListN.{length, take, drop, set, length-append, length-drop, take-append-drop}
+use borrow.Rule.Slice.PartMut.{put_mid}
 use lib.Seq.{take_at, drop-append-add, drop-drop, length-take-le, sets-eq}
 use Rattle.meaning.specs.Hex.{hex_digit, hex2}
 use Rattle.meaning.specs.Decide.Table.{for_each}
@@ -42,6 +43,11 @@ module _ (d : List ℕ) (at : ℕ) (s : List ℕ) (fits : at + length s ≤ leng
         append_assoc,
         add_assoc,
       )
+
+-- a part that is written whole
+pub part_over : (d : List ℕ) (at n : ℕ) (s : List ℕ) → n ≡ length s → put_mid at n d s ≡ over d at s
+unfolding over
+part_over d at n s e = rw (e, drop-drop) refl
 
 -- stores from a place on are a writing of what they store
 pub one_store : (d : List ℕ) (at a : ℕ) → at + 1 ≤ length d → Writes (a ∷ []) d at (at + 1) (set d at a)

@@ -31,7 +31,7 @@ use Rattle.stepper.specs.declared.Run.{Run}
 use Rattle.stepper.specs.declared.Frame as code
 use Rattle.stepper.specs.declared.Outcome.{Outcome}
 use Rattle.stepper.specs.Shown.{Shows, Steps, step_by, told_on, frame_of}
-use Rattle.allowed.specs.declared.Chosen.{Chosen}
+use Rattle.std.specs.Prelude.{Option, Some}
 use Rattle.allowed.specs.Offered.{PlainAt, Chooses}
 use Rattle.generator.specs.Making.{MakesFrames}
 
@@ -61,17 +61,17 @@ pub record Next (m : Monitor) (n : ℕ) (c : Config) (x : ℕ) (f : Frame) : Typ
   pub rule : Rule m (PlainNotices m) c f point
   pub load : (j : ℕ) → load_from m n (suc j) c x ≡ f ∷ load_from m n j point (drawn x)
 
-pub next_of : (m : Monitor) (n : ℕ) (c : Config) (x draw : ℕ) (r : Chosen) → Reached m c → draw ≡ upper (drawn x)
-    → Chooses (allowed_frames m n c) draw r → r.any ≡ true → Next m n c x (frame_of r.frame)
+pub next_of : (m : Monitor) (n : ℕ) (c : Config) (x draw : ℕ) (r : Option code.Frame) (chosen : code.Frame) → Reached m c
+    → draw ≡ upper (drawn x) → Chooses (allowed_frames m n c) draw r → r ≡ Some chosen → Next m n c x (frame_of chosen)
 unfolding Takes
-next_of m n c x draw r reached e ch any =
+next_of m n c x draw r chosen reached e ch found =
     let fs = allowed_frames m n c in
-    let f = frame_of r.frame in
-    let inside : draw % length fs < length fs = mod-lt draw (ch.some any) in
+    let f = frame_of chosen in
+    let inside : draw % length fs < length fs = mod-lt draw (ch.some chosen found) in
     let at = at_index fs (draw % length fs) inside in
-    let same : f ≡ at.0 = ch.taken any at.0 ∙ get_d_elem fs (draw % length fs) at.0 at.0 at.1 in
+    let same : f ≡ at.0 = ch.taken chosen found at.0 ∙ get_d_elem fs (draw % length fs) at.0 at.0 at.1 in
     let t =
-    ((allowed_list m n c reached.within).exactly f).0 (rw (ch.taken any f) (among_at fs (draw % length fs) f inside)) in
+    ((allowed_list m n c reached.within).exactly f).0 (rw (ch.taken chosen found f) (among_at fs (draw % length fs) f inside)) in
     record {
       below = t.0;
       point = t.1.0;

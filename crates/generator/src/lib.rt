@@ -28,10 +28,9 @@ pub fn make_frames(
     let mut number = seed;
     let mut last: u8 = 0;
     let mut at: usize = 0;
-    let mut k: usize = 0;
-    while k < wanted {
+    for k in 0..wanted {
         let next = draws::next(number);
-        let chosen = allowed::choose(
+        let Some(frame) = allowed::choose(
             run,
             last,
             threads,
@@ -40,17 +39,13 @@ pub fn make_frames(
             slices.holds,
             slices.guard_of,
             &no_entries,
-        );
-        if !chosen.any {
+        ) else {
             return k;
-        }
-        let frame = chosen.frame;
-        let taken = slices.step(run, frame);
+        };
+        run = slices.step(run, frame).run;
         at = lines::put_frame(out, at, frame.thread, frame.region, frame.flag);
-        run = taken.run;
         last = frame.thread;
         number = next;
-        k += 1;
     }
-    k
+    wanted
 }

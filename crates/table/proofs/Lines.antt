@@ -1,15 +1,18 @@
 -- A table's lines: the nine bytes of one, the stores that write it, and how many lines there are.
 use Prim.Native.Nat.{ℕ, zero, suc, ◌+◌, ◌*◌, ◌/◌, ◌%◌, ◌<◌, ◌≤◌}
-use mathlib.Core.Path.{◌≡◌, refl, ap, ◌∙◌}
-use mathlib.Core.Bool.{Bool, true, false}
-use mathlib.Core.List.{List, [], ◌∷◌, append_assoc}
+use mathlib.Core.Path.{◌≡◌, refl, sym, ap, ◌∙◌}
+use mathlib.Core.Bool.{Bool, true, false, not}
+use mathlib.Core.List.{List, [], ◌∷◌}
 use native.Mathlib.Nat.{zero-add, mod-eq_of_lt, div-eq_of_lt}
-use native.Mathlib.Numerals.{add-one, add-two, add-three, add-four, add_five, add_six, add_seven, add_eight}
+use native.Mathlib.Numerals.{add-one}
 use native.Mathlib.Omega.{arith}
-use lib.ListN.{length, get_or, take, set, length-append}
-use lib.Seq.{sets-eq}
+use lib.ListN.{length, get_or, take, drop, length-append, length-drop}
+use lib.Seq.{get_or-drop}
 use lib.Dec.{eqb}
-use borrow.Author.Tests.{lt-ltb, le-ltb}
+use borrow.Author.Tests.{lt-ltb, le-ltb, eqb-true, eq-eqb}
+use Rattle.std.specs.List.{count_by}
+use Rattle.std.proofs.lemmas.List.Sums.{count_by_more_no, count_by_more_yes}
+use Rattle.logic.proofs.Bools.{split, clash}
 use Rattle.machine.specs.Algorithm1.{entry}
 use Rattle.meaning.specs.Hex.{hex_digit, hex2, hex_bool}
 use Rattle.meaning.specs.Decide.Table.{entry_line, for_each}
@@ -17,8 +20,8 @@ use Rattle.table.specs.Slices.{entry_by, line_at, table_at}
 use Rattle.digits.specs.Written.{over}
 use Rattle.digits.proofs.ForEach.{for_each_more}
 use Rattle.table.specs.Written.{placed_of, buffer_of, WritesTable, PutsTable}
-use Rattle.table.specs.declared.Placed.{Placed}
-use Rattle.table.specs.declared.Placed.TheVariants.{Length, Short}
+use Rattle.std.specs.Prelude.{Result, Ok, Err}
+use Rattle.table.specs.declared.TooShort.{TooShort}
 
 -- a line has nine bytes
 length_line : (r g : ℕ) (a b : Bool) → length (entry_line r g (entry a b)) ≡ 9
@@ -50,7 +53,7 @@ hex_bool_bit (suc zero) h = refl
 hex_bool_bit (suc (suc n)) h = absurd (omega arith)
 
 -- the nine bytes of a line, whose digits are d and e
-line_bytes :
+pub line_bytes :
     (r g code d e : ℕ) → r < 16 → g < 16 → 0 < code → d ≡ hex_digit (r % 16) → e ≡ hex_digit (g % 16)
     → 48 ∷ d ∷ 48 ∷ e ∷ 48 ∷ (48 + code / 2 % 2) ∷ 48 ∷ (48 + code / 4 % 2) ∷ 10 ∷ [] ≡ entry_line r g (entry_by code)
 unfolding entry_line entry_by
@@ -66,30 +69,6 @@ line_bytes r g (suc n) d e hr hg h hd he =
       mod-eq_of_lt hr,
       mod-eq_of_lt hg,
     )
-
--- nine stores from a place on
-nine_stores :
-    (d : List ℕ) (at a0 a1 a2 a3 a4 a5 a6 a7 a8 : ℕ) → at + 9 ≤ length d
-    → set
-    (set (set (set (set (set (set (set (set d at a0) (at + 1) a1) (at + 2) a2) (at + 3) a3) (at + 4) a4)
-    (at + 5) a5)
-    (at + 6) a6) (at + 7) a7) (at + 8) a8
-    ≡ over d at (a0 ∷ a1 ∷ a2 ∷ a3 ∷ a4 ∷ a5 ∷ a6 ∷ a7 ∷ a8 ∷ [])
-unfolding over
-nine_stores d at a0 a1 a2 a3 a4 a5 a6 a7 a8 h =
-    rw (add-one, add-two, add-three, add-four, add_five, add_six, add_seven, add_eight)
-    (sets-eq (a0 ∷ a1 ∷ a2 ∷ a3 ∷ a4 ∷ a5 ∷ a6 ∷ a7 ∷ a8 ∷ []) d at h ∙ append_assoc (take at d) _ _)
-
--- the stores that write a line
-pub line_stores :
-    (t : List ℕ) (at r g code d e : ℕ) → at + 9 ≤ length t → r < 16 → g < 16 → 0 < code → d ≡ hex_digit (r % 16)
-    → e ≡ hex_digit (g % 16)
-    → set (set (set (set (set (set (set (set (set t at 48) (at + 1) d) (at + 2) 48) (at + 3) e) (at + 4) 48)
-    (at + 5) (48 + code / 2 % 2)) (at + 6) 48) (at + 7) (48 + code / 4 % 2)) (at + 8) 10
-    ≡ over t at (entry_line r g (entry_by code))
-line_stores t at r g code d e h hr hg hc hd he =
-    nine_stores t at 48 d 48 e 48 (48 + code / 2 % 2) 48 (48 + code / 4 % 2) 10 h
-    ∙ ap (λ (l : List ℕ). over t at l) (line_bytes r g code d e hr hg hc hd he)
 
 -- the line of an entry that is held as 0, and of another
 module _ (es : List ℕ) (r g : ℕ) where
@@ -107,8 +86,32 @@ pub count_more :
     → (n + l) * 9 ≡ length (for_each (k + 1) 0 f)
 count_more n l k f e here = rw (for_each_more, length-append) (omega arith)
 
+-- the entries that stand, counted
+pub count_lines : (es : List ℕ) (r n : ℕ) → r * 16 + n ≤ length es
+    → count_by (λ code. not (eqb code 0)) (take n (drop (r * 16) es)) * 9 ≡ length (for_each n 0 (line_at es r))
+unfolding for_each
+count_lines es r zero h = refl
+count_lines es r (suc n) h =
+    let codes = drop (r * 16) es in
+    let there : n < length codes = omega (arith, length-drop (r * 16) es) in
+    let same : get_or codes n 0 ≡ get_or es (r * 16 + n) 0 = get_or-drop (r * 16) es n 0 in
+    let before = count_lines es r n (omega arith) in
+    let one_more : count_by (λ code. not (eqb code 0)) (take (n + 1) codes) * 9 ≡ length (for_each (n + 1) 0 (line_at es r)) =
+    split (eqb (get_or codes n 0) 0)
+    (λ e.
+    let l = ap length (line_none es r n (sym same ∙ eqb-true _ _ e)) in
+    let more = count_by_more_no (λ code. not (eqb code 0)) codes n 0 there (ap not e) in
+    let turn = count_more (count_by (λ code. not (eqb code 0)) (take n codes)) 0 n (line_at es r) before (omega arith) in
+    omega arith)
+    (λ e.
+    let l = line_some es r n (λ z. clash (eq-eqb _ _ (same ∙ z)) e) in
+    let more = count_by_more_yes (λ code. not (eqb code 0)) codes n 0 there (ap not e) in
+    let turn = count_more (count_by (λ code. not (eqb code 0)) (take n codes)) 1 n (line_at es r) before (omega arith) in
+    omega arith) in
+    rw add-one at one_more
+
 -- what is written where the buffer is too short, and where it is not
-pub writes_short : (t b : List ℕ) → length b < length t → WritesTable t b Short b
+pub writes_short : (t b : List ℕ) → length b < length t → WritesTable t b (Err (record {})) b
 unfolding placed_of buffer_of
 writes_short t b h =
     record {
@@ -118,7 +121,7 @@ writes_short t b h =
     }
 
 pub writes_long : (t b : List ℕ) (n : ℕ) (a : List ℕ) → length t ≤ length b → n ≡ length t → a ≡ over b 0 t
-    → WritesTable t b (Length n) a
+    → WritesTable t b (Ok n) a
 unfolding placed_of buffer_of over
 writes_long t b n a h en ea =
     record {
@@ -127,10 +130,10 @@ writes_long t b n a h en ea =
     }
 
 -- entries that are written, or not for too many regions or guards
-pub put : {entries before after : List ℕ} {regions guards : ℕ} {r : Placed} → regions ≤ 16 → guards ≤ 16
+pub put : {entries before after : List ℕ} {regions guards : ℕ} {r : Result ℕ TooShort} → regions ≤ 16 → guards ≤ 16
     → WritesTable (table_at entries regions guards) before r after → PutsTable entries regions guards before r after
 put hr hg w = record { written = λ _ _. w; refused = λ large. absurd (large hr hg) }
 
 pub not_put : {entries before : List ℕ} {regions guards : ℕ} → (regions ≤ 16 → guards ≤ 16 → ⊥)
-    → PutsTable entries regions guards before Short before
+    → PutsTable entries regions guards before (Err (record {})) before
 not_put large = record { written = λ hr hg. absurd (large hr hg); refused = λ _. (refl, refl) }

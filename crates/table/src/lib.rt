@@ -8,27 +8,21 @@ ghost use Rattle.digits.specs.Written.{over, Writes};
 ghost use Rattle.table.specs.Written.{PutsTable};
 ghost use Rattle.table.specs.Slices.{entry_by, line_at, lines_at, table_at};
 
-// The table's length, or that the buffer is shorter than the table (10).
-#[derive(Clone, Copy)]
-pub enum Placed {
-    Length(usize),
-    Short,
-}
+// That a buffer is shorter than the table (10).
+#[derive(Clone, Copy, Debug, PartialEq, Eq)]
+pub struct TooShort;
+
+// Bytes in a line, with its 0A.
+const LINE: usize = 9;
 
 // How many of a region's entries stand: a line of nine bytes each.
 fn count_region(entries: &[u8; machine::ENTRIES], guards: usize, r: usize) -> usize
     requires { (guards ≤ most_regions) × (r < most_regions) }
     ensures { (result * 9 ≡ length (lines_at entries.now guards r)) × (result ≤ guards) }
 {
-    let mut n = 0;
-    let mut g = 0;
-    while g < guards {
-        if entries[r * machine::REGIONS + g] != 0 {
-            n += 1;
-        }
-        g += 1;
-    }
-    n
+    let from = r * machine::REGIONS;
+    let codes = &entries[from..from + guards];
+    codes.iter().filter(|code| **code != 0).count()
 }
 
 // How many entries stand.
@@ -37,10 +31,8 @@ fn count(entries: &[u8; machine::ENTRIES], regions: usize, guards: usize) -> usi
     ensures { (result * 9 ≡ length (table_at entries.now regions guards)) × (result ≤ most_entries) }
 {
     let mut n = 0;
-    let mut r = 0;
-    while r < regions {
+    for r in 0..regions {
         n += count_region(entries, guards, r);
-        r += 1;
     }
     n
 }
@@ -50,15 +42,18 @@ fn write_line(table: &mut [u8], at: usize, r: usize, g: usize, code: u8)
     requires { (at + 9 ≤ length table.old) × (r < most_regions) × (g < most_regions) × (0 < code) }
     ensures { table.new ≡ over table.old at (entry_line r g (entry_by code)) }
 {
-    table[at] = 48;
-    table[at + 1] = digits::hex_digit(r as u8);
-    table[at + 2] = 48;
-    table[at + 3] = digits::hex_digit(g as u8);
-    table[at + 4] = 48;
-    table[at + 5] = 48 + code / 2 % 2;
-    table[at + 6] = 48;
-    table[at + 7] = 48 + code / 4 % 2;
-    table[at + 8] = 10;
+    let line = [
+        b'0',
+        digits::hex_digit(r as u8),
+        b'0',
+        digits::hex_digit(g as u8),
+        b'0',
+        b'0' + code / 2 % 2,
+        b'0',
+        b'0' + code / 4 % 2,
+        b'\n',
+    ];
+    table[at..at + LINE].copy_from_slice(&line);
 }
 
 // The line of a region and a guard, where their entry stands, at a place of the buffer; the place behind it.
@@ -78,7 +73,7 @@ fn write_entry(
         return at;
     }
     write_line(table, at, r, g, code);
-    at + 9
+    at + LINE
 }
 
 // The lines of a region from a place of the buffer on; the place behind them.
@@ -94,40 +89,33 @@ fn write_region(
     ensures { Writes (lines_at entries.now guards r) table.old at result table.new }
 {
     let mut next = at;
-    let mut g = 0;
-    while g < guards {
+    for g in 0..guards {
         next = write_entry(entries, r, g, table, next);
-        g += 1;
     }
     next
 }
 
-// The lines of the entries, by region and then guard. A buffer that is too short is left as it is, and so is one for
-// more regions or guards than there can be. `proofs/Monitors.antt` shows that the lines are the table's of a monitor
-// that has these entries.
+// The lines of the entries, by region and then guard; the table's length. A buffer that is too short is left as it is, and so is one
+// for more regions or guards than there can be. `proofs/Monitors.antt` shows that the lines are the table's of a
+// monitor that has these entries.
 pub fn write_table(
     entries: &[u8; machine::ENTRIES],
     regions: usize,
     guards: usize,
     table: &mut [u8],
-) -> Placed
+) -> Result<usize, TooShort>
     ensures { PutsTable entries.now regions guards table.old result table.new }
 {
-    if regions > machine::REGIONS {
-        return Placed::Short;
+    if regions > machine::REGIONS || guards > machine::REGIONS {
+        return Err(TooShort);
     }
-    if guards > machine::REGIONS {
-        return Placed::Short;
-    }
-    let size = count(entries, regions, guards) * 9;
+    let size = count(entries, regions, guards) * LINE;
     if table.len() < size {
-        return Placed::Short;
+        return Err(TooShort);
     }
     let mut at = 0;
-    let mut r = 0;
-    while r < regions {
+    for r in 0..regions {
         at = write_region(entries, guards, r, table, at);
-        r += 1;
     }
-    Placed::Length(size)
+    Ok(size)
 }

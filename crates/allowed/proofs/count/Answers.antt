@@ -17,7 +17,7 @@ loop-t-preserved c =
     let loop = c.loop-t in
     let a = c.args in
     let f = offered_at a.each a.methods a.fronts in
-    let here : c.offered.result ≡ f loop.t = c.offered.ensures ∙ rw c.has.ensures in
+    let here : c.offered.result ≡ f loop.t = c.offered.ensures ∙ rw (c.from.ensures, c.has.ensures, c.from-in-loop-t.ensures) in
     (rw (sum_next loop.t f) (omega arith), omega arith, omega arith)
 
 pub returns : goal.returns

@@ -6,6 +6,5 @@ use Rattle.allowed.proofs.frame_at.Goals as goal
 
 pub returns : goal.returns
 returns c =
-    let g = c in
-    let a = g.args in
-    (refl, refl, c.holds_at.ensures ∙ ap (λ (k : ℕ). holds_at a.holds.now k a.state) g.guard_at.ensures)
+    let a = c.args in
+    (refl, refl, c.holds_at.ensures ∙ ap (λ (k : ℕ). holds_at a.holds.now k a.state) c.guard_at.ensures)

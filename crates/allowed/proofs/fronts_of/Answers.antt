@@ -6,4 +6,4 @@ use Rattle.allowed.proofs.fronts_of.Goals as goal
 
 pub returns : goal.returns
 returns c queued none u h w e =
-    (c.told-told.ensures queued u h).1 ∙ ap (new_first _ _ _ _ _ u) e ∙ front_told _ _ _ _ _ u w none
+    rw c.from.ensures at (c.told-told.ensures queued u h).1 ∙ ap (new_first _ _ _ _ _ u) e ∙ front_told _ _ _ _ _ u w none

@@ -1,4 +1,7 @@
 -- `allowed::offered` meets its contract, by the place and whether the waiter is a first one.
+use mathlib.Core.Path.{◌≡◌, refl, ◌∙◌}
+use mathlib.Core.Bool.{Bool, true, false}
+use Rattle.std.specs.Int.{from_bool}
 use Rattle.threads.specs.Held.{place_of}
 use Rattle.logic.specs.Tests.{bit}
 use Rattle.allowed.specs.Offered.{offered_by}
@@ -8,13 +11,14 @@ pub returns-in-Idle : goal.returns-in-Idle
 unfolding offered_by place_of
 returns-in-Idle c = rw c.in-Idle.is
 
-pub returns-then-front : goal.returns-then-front
-unfolding offered_by place_of bit
-returns-then-front c = rw (c.in-Waiting.is, c.if-front.true)
+one : (front : Bool) → from_bool front ≡ bit front
+unfolding bit
+one true = refl
+one false = refl
 
-pub returns-else-front : goal.returns-else-front
-unfolding offered_by place_of bit
-returns-else-front c = rw (c.in-Waiting.is, c.if-front.false)
+pub returns-in-Waiting : goal.returns-in-Waiting
+unfolding offered_by place_of
+returns-in-Waiting c = rw c.in-Waiting.is (c.from.ensures ∙ one c.args.front)
 
 pub returns-in-Due : goal.returns-in-Due
 unfolding offered_by place_of

@@ -1,7 +1,7 @@
 -- `allowed::pick` meets its contract: behind t turns the frames of the first t threads are passed over.
 use Prim.Native.Nat.{◌-◌, ◌≤◌, ◌<◌}
 use native.Mathlib.Omega.{arith}
-use mathlib.Core.Path.{◌≡◌, ◌∙◌}
+use mathlib.Core.Path.{◌≡◌, refl, ◌∙◌}
 use Rattle.threads.specs.Held.{places_of, idle_thread}
 use Rattle.allowed.specs.Offered.{sum_each, offered_at}
 use Rattle.allowed.proofs.Sums.{sum_next}
@@ -13,15 +13,19 @@ returns-then-left-here c = λ _.
     let loop = c.loop-t in
     let a = c.args in
     let f = offered_at a.each a.methods a.fronts in
-    let here : c.offered-here.result ≡ f loop.t =
-    c.offered-here.ensures ∙ rw c.has.ensures in
-    let less : loop.left < c.offered-here.result = c.if-left-here.true in
+    let here : c.from-here.result ≡ f loop.t =
+    c.from-here.ensures ∙ c.offered.ensures ∙ rw (c.from.ensures, c.has.ensures, c.from-in-loop-t.ensures) in
+    let less : loop.left < c.from-here.result = c.if-left-here.true in
     let rest : loop.left ≡ a.index - sum_each loop.t f = omega arith in
     record {
-      below = c.loop-t-test.true;
-      from = omega arith;
-      to = omega arith;
-      region = rw (← rest) c.region_at.ensures;
+      spot = record { thread = loop.t; region = c.region_at.result };
+      found = refl;
+      picked = record {
+        below = c.loop-t-test.true;
+        from = omega arith;
+        to = omega arith;
+        region = rw (← rest) (rw c.from.ensures at c.region_at.ensures);
+      };
     }
 
 pub loop-t-preserved : goal.loop-t-preserved
@@ -30,9 +34,9 @@ loop-t-preserved c =
     let loop = c.loop-t in
     let a = c.args in
     let f = offered_at a.each a.methods a.fronts in
-    let here : c.offered-here.result ≡ f loop.t =
-    c.offered-here.ensures ∙ rw c.has.ensures in
-    let more : c.offered-here.result ≤ loop.left = c.if-left-here.false in
+    let here : c.from-here.result ≡ f loop.t =
+    c.from-here.ensures ∙ c.offered.ensures ∙ rw (c.from.ensures, c.has.ensures, c.from-in-loop-t.ensures) in
+    let more : c.from-here.result ≤ loop.left = c.if-left-here.false in
     (rw (sum_next loop.t f) (omega arith), omega arith)
 
 pub returns : goal.returns

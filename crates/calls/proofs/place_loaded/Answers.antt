@@ -7,16 +7,16 @@ use Rattle.calls.proofs.place_loaded.Goals as goal
 pub returns-then-verdict-ne0 : goal.returns-then-verdict-ne0
 returns-then-verdict-ne0 c file loads = not_placed loads _ (λ zero. omega (arith, c.if-verdict-ne0.true))
 
-pub returns-in-Short : goal.returns-in-Short
-returns-in-Short c file loads =
+pub returns-in-Err : goal.returns-in-Err
+returns-in-Err c file loads =
     let w = c in
     let e = w in
     too_short loads (omega (arith, e.if-verdict-ne0.false)) _ (e.entries_of-entries.ensures _ loads)
-    w.write_table.ensures _ c.say.ensures c.in-Short.is
+    w.write_table.ensures _ c.say.ensures c.in-Err.is
 
-pub returns-in-Length : goal.returns-in-Length
-returns-in-Length c file loads =
+pub returns-in-Ok : goal.returns-in-Ok
+returns-in-Ok c file loads =
     let w = c in
     let e = w in
     placed loads (omega (arith, e.if-verdict-ne0.false)) _ (e.entries_of-entries.ensures _ loads)
-    w.write_table.ensures _ c.in-Length.is
+    w.write_table.ensures _ c.in-Ok.is

@@ -1,4 +1,4 @@
-use Prim.Native.Nat.{ℕ, ◌-◌}
+use Prim.Native.Nat.{ℕ}
 use mathlib.Core.Path.{◌≡◌}
 use mathlib.Core.List.{List}
 use lib.ListN.{length}
@@ -13,7 +13,3 @@ invariant-loop-k l =
     (length l.out ≡ length l.initial.out) × ((m : Monitor) (kept : List ℕ)
     → MakeAsked l.threads l.wanted l.state l.slices.holds.now l.slices.after.now l.slices.guard_of.now l.slices.begins.now l.slices.goes_on.now l.slices.regions l.initial.out m kept
     → HeldMethods m l.methods × OnWay m l.threads l.wanted l.state l.seed l.initial.out l.run l.number l.last l.at l.k l.out)
-
-abbrev pub decreases-loop-k : goal.decreases-loop-k
-decreases-loop-k l =
-    l.wanted - l.k

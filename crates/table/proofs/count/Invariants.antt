@@ -1,4 +1,4 @@
-use Prim.Native.Nat.{◌*◌, ◌≤◌, ◌-◌}
+use Prim.Native.Nat.{◌*◌, ◌≤◌}
 use mathlib.Core.Path.{◌≡◌}
 use lib.ListN.{length}
 use Rattle.meaning.specs.Decide.Table.{for_each}
@@ -8,6 +8,3 @@ use Rattle.table.proofs.count.Given as goal
 abbrev pub invariant-loop-r : goal.invariant-loop-r
 invariant-loop-r l =
     (l.n * 9 ≡ length (for_each l.r 0 (lines_at l.entries l.guards))) × (l.n ≤ l.r * 16) × (l.r ≤ l.regions)
-
-abbrev pub decreases-loop-r : goal.decreases-loop-r
-decreases-loop-r l = l.regions - l.r

@@ -1,39 +1,15 @@
--- `table::write_line` meets its contract: its nine stores are the line's nine bytes.
+-- `table::write_line` meets its contract: the part that is written is the line's nine bytes.
+use Prim.Native.Nat.{◌+◌, ◌-◌}
+use mathlib.Core.Path.{◌≡◌, refl, ap, ◌∙◌}
 use native.Mathlib.Omega.{arith}
-use lib.ListN.{length-set}
-use Rattle.table.proofs.Lines.{line_stores}
-use borrow.Author.Rules.{rules}
+use Rattle.digits.specs.Written.{over}
+use Rattle.digits.proofs.Writing.{part_over}
+use Rattle.table.proofs.Lines.{line_bytes}
 use Rattle.table.proofs.write_line.Goals as goal
-
-pub bounds-table-at-2 : goal.bounds-table-at-2
-bounds-table-at-2 c = simp length-set (omega arith)
-
-pub bounds-table-at-3 : goal.bounds-table-at-3
-bounds-table-at-3 c = simp length-set (omega arith)
-
-pub bounds-table-at-4 : goal.bounds-table-at-4
-bounds-table-at-4 c = simp length-set (omega arith)
-
-pub bounds-table-at-5 : goal.bounds-table-at-5
-bounds-table-at-5 c = simp length-set (omega arith)
-
-pub bounds-table-at-6 : goal.bounds-table-at-6
-bounds-table-at-6 c = simp length-set (omega arith)
-
-pub bounds-table-at-7 : goal.bounds-table-at-7
-bounds-table-at-7 c = simp length-set (omega arith)
-
-pub bounds-table-at-8 : goal.bounds-table-at-8
-bounds-table-at-8 c = simp length-set (omega arith)
-
-pub bounds-table-at-9 : goal.bounds-table-at-9
-bounds-table-at-9 c = simp length-set (omega arith)
-
-pub shape_of-table : goal.shape_of-table
-shape_of-table c = simp length-set
 
 pub returns : goal.returns
 returns c =
     let a = c.args in
-    line_stores _ _ a.r a.g a.code _ _ (search rules) (search rules) (search rules) (search rules)
-    c.hex_digit.ensures c.hex_digit-2.ensures
+    let nine : a.at + 9 - a.at ≡ 9 = omega arith in
+    let line = line_bytes a.r a.g a.code _ _ (omega arith) (omega arith) (omega arith) c.hex_digit.ensures c.hex_digit-2.ensures in
+    rw (nine, c.copy_from_slice.ensures.after) (part_over _ _ 9 _ refl ∙ ap (over _ _) line)

@@ -7,16 +7,17 @@ use Rattle.table.specs.Slices.{lines_at, table_at}
 use Rattle.digits.proofs.Writing.{written_none, turn_length, turn_room, turn}
 use Rattle.table.proofs.Lines.{writes_short, writes_long, put, not_put}
 use Rattle.table.proofs.write_table.Goals as goal
+use Rattle.table.proofs.write_table.Goals.{then-regions-gt-REGIONS-via-then-regions-gt-REGIONS, then-regions-gt-REGIONS-via-else-regions-gt-REGIONS+then-guards-gt-REGIONS}
 
 -- the table fits
 room : (n l k : ℕ) → n * 9 ≡ l → n * 9 ≤ k → 0 + l ≤ k
 room n l k e h = omega arith
 
 pub returns-then-regions-gt-REGIONS : goal.returns-then-regions-gt-REGIONS
-returns-then-regions-gt-REGIONS c = not_put (λ hr hg. omega (arith, c.if-regions-gt-REGIONS.true))
-
-pub returns-then-guards-gt-REGIONS : goal.returns-then-guards-gt-REGIONS
-returns-then-guards-gt-REGIONS c = not_put (λ hr hg. omega (arith, c.if-guards-gt-REGIONS.true))
+returns-then-regions-gt-REGIONS c = not_put (λ hr hg. elim c.then-regions-gt-REGIONS.branch [
+  | then-regions-gt-REGIONS-via-then-regions-gt-REGIONS w ↦ omega arith
+  | then-regions-gt-REGIONS-via-else-regions-gt-REGIONS+then-guards-gt-REGIONS w ↦ omega arith
+])
 
 pub returns-then-table-size : goal.returns-then-table-size
 returns-then-table-size c = put (omega arith) (omega arith) (writes_short _ _ (omega arith))
