@@ -26,6 +26,7 @@ use Rattle.run.proofs.Records.{list_run}
 use Rattle.stepper.specs.Shown.{of_machine}
 use Rattle.points.specs.Written.{WritesPoints, StopSays}
 use Rattle.points.specs.declared.Written.{Written}
+use Rattle.run.specs.Way.{stop_number, stop_frame}
 use Rattle.calls.specs.Results.{Points, PointsSay}
 use Rattle.calls.specs.declared.Pointing as result
 use Rattle.calls.proofs.Loaded.{refusal_of}
@@ -73,7 +74,7 @@ module _ (file bytes : List ℕ) (start : ℕ) (buffer : List ℕ) (r : result.P
 
     -- an answer that is said of a stop
     stop_says : {a : Answer} (w : Written) (v : Bool) (b : code.Answer) → StopSays (of_machine v w.plain w.table) a
-        → (b.number ≡ (of_machine v w.plain w.table).number) × (b.first ≡ (of_machine v w.plain w.table).frame)
+        → (b.number ≡ stop_number (of_machine v w.plain w.table)) × (b.first ≡ stop_frame (of_machine v w.plain w.table))
         × (b.second ≡ 0)
         → Says b a
     stop_says w v b s e = record {
@@ -84,8 +85,8 @@ module _ (file bytes : List ℕ) (start : ℕ) (buffer : List ℕ) (r : result.P
 
     pub listed : kept m start ≡ true → (fs : List Frame) → frames_of bytes ≡ frames fs → (w : Written) (out : List ℕ)
         → WritesPoints m start fs w buffer out
-        → (r.plain.number ≡ w.plain.number) × (r.plain.first ≡ w.plain.frame) × (r.plain.second ≡ 0)
-        → (r.table.number ≡ w.table.number) × (r.table.first ≡ w.table.frame) × (r.table.second ≡ 0)
+        → (r.plain.number ≡ stop_number w.plain) × (r.plain.first ≡ stop_frame w.plain) × (r.plain.second ≡ 0)
+        → (r.table.number ≡ stop_number w.table) × (r.table.first ≡ stop_frame w.table) × (r.table.second ≡ 0)
         → r.count ≡ w.count → Points (points_from m start bytes buffer) r out
     unfolding points_from frame_points list_points of_machine machine_of
     listed k fs f w out x p t n =

@@ -206,11 +206,9 @@ pub fn points_loaded(
         &entries,
         out,
     );
-    let plain = written.plain;
-    let table = written.table;
     Pointing {
-        plain: answers::say(plain.number, plain.frame, 0),
-        table: answers::say(table.number, table.frame, 0),
+        plain: run::frames::answer_of(written.plain),
+        table: run::frames::answer_of(written.table),
         count: written.count,
     }
 }

@@ -16,8 +16,6 @@ ghost use Rattle.passes.specs.Pass.{found_of};
 ghost use Rattle.evaluator.specs.Coding.{slot_of};
 ghost use Rattle.divisors.specs.Coded.{Lowest, Coded};
 
-use passes::Found;
-
 // The value 1, with 128 added.
 const ONE: u16 = 129;
 
@@ -140,27 +138,27 @@ pub fn find_unvalued(
     places: &[u16],
     lows: [u16; syntax::VARIABLES],
     count: usize,
-) -> Found
+) -> Option<u16>
     ensures { (file : List ℕ) (ts : List Token) (values : List ℕ) (vs : List Var)
         → Words file ts kinds.now values places.now
         → Coded vs (lexemes ts) kinds.now operands.now lows count
         → result ≡ found_of (check.unvalued vs false ts) }
 {
     if !has_mod(kinds) {
-        return Found::Nothing;
+        return None;
     }
     if places.len() != kinds.len() {
-        return Found::Nothing;
+        return None;
     }
     let mut on = false;
     let mut i = 0;
     while i < kinds.len() {
         let kind = kinds[i];
         if offends(kinds, operands, lows, count, on, kind, i + 1) {
-            return Found::At(places[i]);
+            return Some(places[i]);
         }
         on = asks(on, kind);
         i += 1;
     }
-    Found::Nothing
+    None
 }

@@ -15,7 +15,9 @@ use Rattle.syntax.specs.Held.Kind.{kind_of}
 use Rattle.syntax.specs.Tree.{Monitor}
 use Rattle.syntax.specs.Decide.Reading.{Got, got, stuck, Reader, onwards, ◌>>=◌, give, begins, rest, choose, expect}
 use Rattle.syntax.specs.Decide.Reading.{at_end, read_monitor, read}
-use Rattle.grammar.specs.Reads.{Reads, Goes, Follows, halted, among, seen, Tells, Expects}
+use Rattle.std.specs.Prelude.{Ok, Err}
+use Rattle.syntax.proofs.Grammar.{read_spells}
+use Rattle.grammar.specs.Reads.{IsRead, Reads, Goes, Follows, halted, among, seen, Tells, Expects}
 use Rattle.grammar.specs.declared.Pos.{Pos}
 use Rattle.grammar.specs.declared.Pos.TheVariants.{Next, Stuck}
 
@@ -237,3 +239,17 @@ pub start : {ks : List ℕ} {to : Pos} → Follows Monitor ks (Next 0) (read_mon
     → map kind_of ls ≡ ks → Reads to ls (read ls)
 start {ks} {to} g ls i =
     start_reads ks to (4 * (length ks + 1)) g.goes ls i (omega (arith, ap length i, length-map ls kind_of))
+
+pub all_read : {ks : List ℕ} {to : Pos} {q : ℕ} → to ≡ Next q
+    → Follows Monitor ks (Next 0) (read_monitor (4 * (length ks + 1))) to
+    → (ls : List Lexeme) → map kind_of ls ≡ ks → IsRead (Ok tt) ls (read ls)
+unfolding IsRead Reads
+all_read at g ls i =
+    let r = rw at at (start g ls i) in
+    (r.1, r.2 ∙ ap (λ (us : List Lexeme). got r.1 us) (read_spells ls r.1 _ r.2).1)
+
+pub not_read : {ks : List ℕ} {to : Pos} {q : ℕ} → to ≡ Stuck q
+    → Follows Monitor ks (Next 0) (read_monitor (4 * (length ks + 1))) to
+    → (ls : List Lexeme) → map kind_of ls ≡ ks → IsRead (Err (record { token = q })) ls (read ls)
+unfolding IsRead Reads
+not_read at g ls i = rw at at (start g ls i)

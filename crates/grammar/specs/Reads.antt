@@ -1,10 +1,17 @@
 -- What a position says of a reading of lexemes: the phrase that was read ends there, or the reading stops there.
-use Rattle.std.specs.Prelude.{ℕ, ◌≤◌, Bool, false, ◌&&◌, ◌≡◌, List, [], ◌∷◌, map, length, drop, leb}
+use Rattle.std.specs.Prelude.{ℕ, ◌≤◌, Bool, false, ◌&&◌, ◌≡◌, List, [], ◌∷◌, map, length, drop, leb, Result, Ok, Err}
 use Rattle.syntax.specs.Token.{Lexeme}
 use Rattle.syntax.specs.Held.Kind.{kind_of}
 use Rattle.syntax.specs.Decide.Reading.{Got, got, stuck, Reader, expect}
+use Rattle.syntax.specs.Tree.{Monitor}
+use Rattle.grammar.specs.declared.Stuck as code
 use Rattle.grammar.specs.declared.Pos.{Pos}
 use Rattle.grammar.specs.declared.Pos.TheVariants.{Next, Stuck}
+
+-- all lexemes are those of a monitor, or no file of the grammar goes on with the one at a place
+unfoldable pub IsRead : Result (Unit {0}) code.Stuck → List Lexeme → Got Monitor → Type 0
+IsRead (Ok _) ls g = (m : Monitor) × (g ≡ got m [])
+IsRead (Err e) ls g = (e.token ≤ length ls) × (g ≡ stuck (drop e.token ls))
 
 unfoldable pub Reads : {A : Type 0} → Pos → List Lexeme → Got A → Type 0
 Reads {A = A} (Next p) ls g = (p ≤ length ls) × (a : A) × (g ≡ got a (drop p ls))

@@ -13,7 +13,13 @@ ghost use Rattle.syntax.specs.Decide.Reading.{read_expr, read_cond, read_conj, r
 ghost use Rattle.syntax.specs.Decide.Reading.{read_region, read_method, read_var, read_try, read_monitor};
 ghost use Rattle.syntax.specs.Decide.Reading as reading;
 ghost use Rattle.syntax.specs.Held.Kind.{kind_of};
-ghost use Rattle.grammar.specs.Reads.{Reads, Follows, Expects, halted, seen};
+ghost use Rattle.grammar.specs.Reads.{IsRead, Follows, Expects, halted, seen};
+
+// The token with which no file of the grammar can go on; the count of tokens stands for the file's end.
+#[derive(Clone, Copy, Debug, PartialEq, Eq)]
+pub struct Stuck {
+    pub token: usize,
+}
 
 // The token behind a phrase, or the token at which it cannot go on; the count of tokens stands for the file's end.
 // A function that is given a place at which the reading stopped hands it on.
@@ -381,13 +387,16 @@ fn read_monitor(kinds: &[u8], from: Pos, left: usize) -> Pos
     at_end(kinds, end)
 }
 
-// Where a file's tokens are no file of the grammar (4), or their count.
-pub fn read(kinds: &[u8]) -> Pos
+// Reads a file's tokens as one of the grammar, or says where they are none (4).
+pub fn read(kinds: &[u8]) -> Result<(), Stuck>
     ensures { (ls : List Lexeme) → map kind_of ls ≡ kinds.now → length ls ≤ most_bytes
-        → Reads result ls (reading.read ls) }
+        → IsRead result ls (reading.read ls) }
 {
     if syntax::FILE_BYTES < kinds.len() {
-        return Pos::Stuck(0);
+        return Err(Stuck { token: 0 });
     }
-    read_monitor(kinds, Pos::Next(0), 4 * (kinds.len() + 1))
+    match read_monitor(kinds, Pos::Next(0), 4 * (kinds.len() + 1)) {
+        Pos::Next(_) => Ok(()),
+        Pos::Stuck(token) => Err(Stuck { token }),
+    }
 }

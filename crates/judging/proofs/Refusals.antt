@@ -1,6 +1,6 @@
 -- What the answers of the passes, of the reader and of the variables' reader say of a file's check: refusals 3 to 9 and 15,
 -- and what is known where they do not arise.
-use Prim.Native.Nat.{ℕ, ◌≤◌, ◌<◌}
+use Prim.Native.Nat.{ℕ}
 use native.Mathlib.Omega.{arith}
 use mathlib.Core.Path.{◌≡◌, refl, sym, ap, ◌∙◌}
 use mathlib.Core.Bool.{true, false}
@@ -22,24 +22,25 @@ use Rattle.meaning.specs.Held.{behind_keep}
 use Rattle.logic.proofs.Bools.{different}
 use Rattle.meaning.proofs.Stages.{check_3, check_4, check_5, check_6, check_7, check_15, check_8}
 use Rattle.meaning.proofs.Stages.{check_9, check_0}
-use Rattle.grammar.specs.Reads.{Reads}
-use Rattle.grammar.specs.declared.Pos.TheVariants.{Next, Stuck}
+use Rattle.grammar.specs.Reads.{IsRead}
+use Rattle.grammar.specs.declared.Stuck.{Stuck}
 use Rattle.passes.specs.Pass.{found_of}
-use Rattle.passes.specs.declared.Found.TheVariants.{At, Nothing}
-use Rattle.variables.specs.Bounded.{RangedBy}
+use Rattle.std.specs.Prelude.{Some, None, Ok, Err}
+use Rattle.variables.specs.Bounded.{Ranged}
 use Rattle.variables.specs.Places.{first_var}
 use Rattle.variables.specs.declared.Declared.{Declared}
+use Rattle.variables.specs.declared.BadRange.{BadRange}
 use Rattle.layout.proofs.Same.{lexemes_length}
 use Rattle.judging.proofs.TokenSlices.{lexemes_map}
-use Rattle.judging.proofs.TokensStand.{keep_byte, ill_ranged_byte, stuck_byte, stuck_end}
+use Rattle.judging.proofs.TokensStand.{keep_byte, ill_ranged_byte, stuck_place}
 
 -- a pass's answer
-pub found_at : (o : Option ℕ) (k : ℕ) → At k ≡ found_of o → o ≡ some k
+pub found_at : (o : Option ℕ) (k : ℕ) → Some k ≡ found_of o → o ≡ some k
 unfolding found_of
 found_at none k e = different (cc)
 found_at (some j) k e = cc
 
-pub found_nothing : (o : Option ℕ) → Nothing ≡ found_of o → o ≡ none
+pub found_nothing : (o : Option ℕ) → None ≡ found_of o → o ≡ none
 unfolding found_of
 found_nothing none e = refl
 found_nothing (some j) e = different (cc)
@@ -56,26 +57,18 @@ module _ {file : List ℕ} {ts : List Token} {kinds values places : List ℕ} (w
   says_3 = check_3 file w.short w.cut
 
   module _ (room : crowded 0 0 0 ts ≡ none) where
-    -- 4
-    pub says_4 : (i : ℕ) → Reads {A = Monitor} (Stuck i) (lexemes ts) (read (lexemes ts)) → i < length places
-        → check file ≡ refused (answer 4 (get_or places i 0) 0)
-    unfolding Reads
-    says_4 i r h =
-        check_4 file w.short w.cut room r.1
-        ∙ ap (λ (k : ℕ). refused (answer 4 k 0)) (stuck_byte (length file) i w (omega (arith, places_counted)))
-
-    pub says_4_end : (i : ℕ) → Reads {A = Monitor} (Stuck i) (lexemes ts) (read (lexemes ts)) → length places ≤ i
-        → check file ≡ refused (answer 4 (length file) 0)
-    unfolding Reads
-    says_4_end i r h =
+    -- 4: "byte of the first token that cannot continue", or the file's length
+    pub says_4 : (e : Stuck) → IsRead (Err e) (lexemes ts) (read (lexemes ts))
+        → check file ≡ refused (answer 4 (get_or places e.token (length file)) 0)
+    unfolding IsRead
+    says_4 e r =
         check_4 file w.short w.cut room r.1
         ∙ ap (λ (k : ℕ). refused (answer 4 k 0))
-        (stuck_end ts (length file) i (omega (arith, places_counted, r.0, lexemes_length ts)))
+        (stuck_place (length file) e.token w (omega (arith, r.0, lexemes_length ts)))
 
-    pub tree_read : (i : ℕ) → Reads {A = Monitor} (Next i) (lexemes ts) (read (lexemes ts))
-        → (m : Monitor) × (spell m ≡ lexemes ts)
-    unfolding Reads
-    tree_read i r = (r.1, (read_spells (lexemes ts) r.1 _ r.2).0)
+    pub tree_read : IsRead (Ok tt) (lexemes ts) (read (lexemes ts)) → (m : Monitor) × (spell m ≡ lexemes ts)
+    unfolding IsRead
+    tree_read r = (r.0, (read_spells (lexemes ts) r.0 [] r.1).0)
 
     module _ (m : Monitor) (spelt : spell m ≡ lexemes ts) where
       tree : read (lexemes ts) ≡ got m []
@@ -92,16 +85,16 @@ module _ {file : List ℕ} {ts : List Token} {kinds values places : List ℕ} (w
 
         module _ (names : misnamed (number 0) [] [] ts ≡ none) where
           -- 7
-          pub says_7 : (d : Declared)
-              → RangedBy false (all m.vars) (lexemes ts) (key k_keep ∷ behind_keep m) first_var d
-              → check file ≡ refused (answer 7 (get_or places d.token 0) 0)
-          unfolding RangedBy
-          says_7 d (i, t, at) =
+          pub says_7 : (e : BadRange)
+              → Ranged (all m.vars) (lexemes ts) (key k_keep ∷ behind_keep m) first_var (Err e)
+              → check file ≡ refused (answer 7 (get_or places e.token 0) 0)
+          unfolding Ranged
+          says_7 e (i, t, at) =
               check_7 file w.short w.cut room tree few names (rw at (ill_ranged_byte ts m spelt w t))
 
-          pub no_7 : (d : Declared) → RangedBy true (all m.vars) (lexemes ts) (key k_keep ∷ behind_keep m) first_var d
+          pub no_7 : (d : Declared) → Ranged (all m.vars) (lexemes ts) (key k_keep ∷ behind_keep m) first_var (Ok d)
               → ill_ranged 1 (all m.vars) (places_of k_var ts) ≡ none
-          unfolding RangedBy
+          unfolding Ranged
           no_7 d r = ill_ranged_good (places_of k_var ts) r.0.good r.0.few_states
 
           module _ (ranges : ill_ranged 1 (all m.vars) (places_of k_var ts) ≡ none) where

@@ -1,11 +1,11 @@
 -- Where the parts of a file stand among its tokens, as the code finds them: the variables, `keep`, and the places of
 -- refusals 4, 7 and 8.
-use Prim.Native.Nat.{ℕ, zero, suc, ◌+◌, ◌-◌, ◌≤◌, ◌<◌}
+use Prim.Native.Nat.{ℕ, zero, suc, ◌+◌, ◌-◌, ◌≤◌}
 use native.Mathlib.Omega.{arith}
 use mathlib.Core.Path.{◌≡◌, refl, sym, ap, ◌∙◌}
 use mathlib.Core.Option.{Option, some}
 use mathlib.Core.List.{List, [], ◌∷◌, ◌++◌, map, append-nil}
-use lib.ListN.{length, take, drop, get_or, length-append, length-drop, drop_of_length-le}
+use lib.ListN.{length, take, drop, get_or, length-append, length-drop}
 use lib.Seq.{take_at}
 use Rattle.syntax.specs.Token.{Lexeme, key, Keyword, k_var, k_keep, Token, lexemes}
 use Rattle.syntax.specs.Tree.{Monitor, all, each, spell_var, spell}
@@ -82,18 +82,16 @@ left_from ts i h =
     omega (arith, length-drop i (lexemes ts), lexemes_length ts) in
     ap (λ (k : ℕ). drop k ts) counted
 
-first_place : (end : ℕ) (ts : List Token) (i : ℕ) → i < length ts
-    → place_of end (drop i ts) ≡ get_or (map (λ t. t.at) ts) i 0
+first_place : (end : ℕ) (ts : List Token) (i : ℕ)
+    → place_of end (drop i ts) ≡ get_or (map (λ t. t.at) ts) i end
 unfolding place_of
-first_place end [] i h = absurd (omega arith)
-first_place end (t ∷ ts) zero h = refl
-first_place end (t ∷ ts) (suc i) h = first_place end ts i (omega arith)
+first_place end [] zero = refl
+first_place end [] (suc i) = refl
+first_place end (t ∷ ts) zero = refl
+first_place end (t ∷ ts) (suc i) = first_place end ts i
 
-pub stuck_byte : {file : List ℕ} {ts : List Token} {kinds values places : List ℕ} (end i : ℕ)
-    → Words file ts kinds values places → i < length ts
-    → place_of end (left_of ts (drop i (lexemes ts))) ≡ get_or places i 0
-stuck_byte {ts = ts} end i w h = rw (left_from ts i (omega arith), w.by_place) (first_place end ts i h)
-
-pub stuck_end : (ts : List Token) (end i : ℕ) → i ≡ length ts → place_of end (left_of ts (drop i (lexemes ts))) ≡ end
-unfolding place_of
-stuck_end ts end i h = rw (left_from ts i (omega arith), drop_of_length-le ts {i = i} (omega arith))
+-- the byte of the token at which the reading stops, or the end behind the last one
+pub stuck_place : {file : List ℕ} {ts : List Token} {kinds values places : List ℕ} (end i : ℕ)
+    → Words file ts kinds values places → i ≤ length ts
+    → place_of end (left_of ts (drop i (lexemes ts))) ≡ get_or places i end
+stuck_place {ts = ts} end i w h = rw (left_from ts i h, w.by_place) (first_place end ts i)

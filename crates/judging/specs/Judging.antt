@@ -1,5 +1,5 @@
 -- What the answer of 3 to 7 says of a file's check: a refusal, or what is known where they do not arise.
-use Rattle.std.specs.Prelude.{ℕ, zero, suc, ◌≤◌, ◌≡◌, List, [], ◌∷◌, drop}
+use Rattle.std.specs.Prelude.{ℕ, ◌≤◌, ◌≡◌, List, [], ◌∷◌, drop, Result, Ok, Err}
 use Rattle.std.proofs.Math.Option.{none}
 use Rattle.syntax.specs.Token.{number, key, k_var, k_keep, Token, lexemes}
 use Rattle.syntax.specs.Tree.{Monitor, spell}
@@ -7,7 +7,9 @@ use Rattle.meaning.specs.Decide.Check.{crowded, past_limit, misnamed, ill_ranged
 use Rattle.meaning.specs.Model.{vars}
 use Rattle.meaning.specs.Held.{behind_keep}
 use Rattle.variables.specs.Bounded.{Bounded}
-use Rattle.answers.specs.Says.{Is}
+use Rattle.meaning.specs.Answer.{refused}
+use Rattle.answers.specs.Numbered.{numbered}
+use Rattle.answers.specs.declared.Refusal.{Refusal}
 use Rattle.judging.specs.declared.Judged.{Judged}
 
 -- 3 to 7 do not arise, of a tree and the variables that were read
@@ -20,10 +22,8 @@ pub record Past7 (ts : List Token) (m : Monitor) (j : Judged) : Type 0 where
   pub bounded : Bounded (vars m) j.bounds
   pub keep_stands : drop j.keep (lexemes ts) ≡ key k_keep ∷ behind_keep m
 
--- the answer of 3 to 7: 0 with a tree that passes them, or a refusal of the file with no higher number
-unfoldable pub JudgedBy : ℕ → List ℕ → List Token → Judged → Type 0
-JudgedBy zero file ts j = (m : Monitor) × Past7 ts m j
-JudgedBy (suc n) file ts j = (suc n ≤ 7) × Is j.answer (check file)
-
-unfoldable pub Judges : List ℕ → List Token → Judged → Type 0
-Judges file ts j = JudgedBy j.answer.number file ts j
+-- what 3 to 7 say: a tree that passes them, or a refusal of the file with a number of 3 to 7
+unfoldable pub Judges : List ℕ → List Token → Result Judged Refusal → Type 0
+Judges file ts (Ok j) = (m : Monitor) × Past7 ts m j
+Judges file ts (Err r) =
+    (3 ≤ (numbered r).number) × ((numbered r).number ≤ 7) × (check file ≡ refused (numbered r))

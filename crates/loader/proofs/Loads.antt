@@ -36,7 +36,10 @@ use Rattle.divisors.specs.Coded.{Coded}
 use Rattle.judging.proofs.Counts.{few_tokens, few_parts}
 use Rattle.loader.proofs.Names.{codes}
 use Rattle.loader.proofs.Flags.{held_places}
-use Rattle.judging.specs.Judging.{Past7, JudgedBy, Judges}
+use Rattle.std.specs.Prelude.{Ok, Err}
+use Rattle.answers.specs.Numbered.{numbered}
+use Rattle.answers.specs.declared.Refusal.{Refusal}
+use Rattle.judging.specs.Judging.{Past7, Judges}
 use Rattle.loader.specs.Loading.{Chosen, Monitored, Loads}
 use Rattle.sets.specs.Set.{size}
 use Rattle.meaning.specs.Decide.Touch.{sum_of, pairs_of}
@@ -94,27 +97,19 @@ loads_said file l kept holds after n early same (a, b, c) e =
     (is_refused file e (record { number = a; first = b; second = c })))
 
 -- the answer of 3 to 7
-module _ (file : List ℕ) (ts : List Token) (j : Judged) where
-  judged_other : (j.answer.number ≡ 0 → ⊥) → Judges file ts j → (j.answer.number ≤ 7) × Is j.answer (check file)
-  unfolding Judges JudgedBy
-  judged_other other q = go j.answer.number other q
-    where
-      go : (n : ℕ) → (n ≡ 0 → ⊥) → JudgedBy n file ts j → (n ≤ 7) × Is j.answer (check file)
-      go zero other q = absurd (other refl)
-      go (suc n) other q = q
+module _ (file : List ℕ) (ts : List Token) where
+  pub loads_judged : (l : Loaded) (kept holds after : List ℕ) {a : code.Answer} (r : Refusal) → l.answer ≡ a
+      → Says a (numbered r) → Judges file ts (Err r) → Loads file l kept holds after
+  unfolding Judges
+  loads_judged l kept holds after {a} r same says (least, most, e) =
+      let said : Says l.answer (numbered r) = subst (λ (x : code.Answer). Says x (numbered r)) (sym same) says in
+      loads_refused file l kept holds after
+      (subst Early (sym said.number) ((λ z. omega arith), (λ z. omega arith), λ z. omega arith))
+      (is_refused file e said)
 
-  pub loads_judged : (l : Loaded) (kept holds after : List ℕ) → l.answer ≡ j.answer → (j.answer.number ≡ 0 → ⊥)
-      → Judges file ts j
-      → Loads file l kept holds after
-  loads_judged l kept holds after same other q =
-      let few = (judged_other other q).0 in
-      loads_refused file l kept holds after (subst Early (ap (λ (x : code.Answer). x.number) (sym same))
-      (other, (λ z. omega arith), λ z. omega arith))
-      (subst (λ (x : code.Answer). Is x (check file)) (sym same) (judged_other other q).1)
-
-  pub judged_tree : j.answer.number ≡ 0 → Judges file ts j → (m : Monitor) × Past7 ts m j
-  unfolding Judges JudgedBy
-  judged_tree e q = subst (λ (n : ℕ). JudgedBy n file ts j) e q
+  pub judged_tree : {j : Judged} → Judges file ts (Ok j) → (m : Monitor) × Past7 ts m j
+  unfolding Judges
+  judged_tree q = q
 
 module _ {file : List ℕ} {ts : List Token} {kinds values places : List ℕ} (w : Words file ts kinds values places)
     (m : Monitor) (j : Judged)

@@ -16,8 +16,9 @@ use Rattle.meaning.specs.Decide.Check.{check}
 use Rattle.meaning.proofs.Stages.{check_1, check_2}
 use Rattle.logic.proofs.Bools.{split}
 use Rattle.tokens.specs.Coded.{Coded, Scans, scanned_as, scanned_of}
-use Rattle.tokens.specs.declared.Scanned.{Scanned}
-use Rattle.tokens.specs.declared.Scanned.TheVariants as scanned
+use Rattle.std.specs.Prelude.{Result, Ok, Err}
+use Rattle.tokens.specs.declared.ScanError.{ScanError}
+use Rattle.tokens.specs.declared.ScanError.TheVariants.{TooLong, NoToken}
 
 -- the slices of a scan, as far as it filled them, hold the tokens of the file
 words : {file : List ℕ} {ts : List Token} {kinds values places : List ℕ} → length file ≤ 8192
@@ -51,10 +52,10 @@ tokens_few file ts cut =
     )
 
 -- the answers and their grounds
-data Outcome (file : List ℕ) : Scanned → Type 0 where
-  long : 8192 < length file → Outcome file scanned.TooLong
-  bad : {k : ℕ} → length file ≤ 8192 → tokenize file ≡ none_at k → Outcome file (scanned.Bad k)
-  cut : (ts : List Token) → length file ≤ 8192 → tokenize file ≡ tokens ts → Outcome file (scanned.Tokens (length ts))
+data Outcome (file : List ℕ) : Result ℕ ScanError → Type 0 where
+  long : 8192 < length file → Outcome file (Err TooLong)
+  bad : {k : ℕ} → length file ≤ 8192 → tokenize file ≡ none_at k → Outcome file (Err (NoToken k))
+  cut : (ts : List Token) → length file ≤ 8192 → tokenize file ≡ tokens ts → Outcome file (Ok (length ts))
 
 outcome : (file : List ℕ) → Outcome file (scanned_of file)
 unfolding scanned_of scanned_as
@@ -87,39 +88,39 @@ pub record Counted (n : ℕ) (kinds values places : List ℕ) : Type 0 where
   pub in_values : Part n values
   pub in_places : Part n places
 
-module _ {file : List ℕ} {r : Scanned} {kinds₀ values₀ places₀ kinds values places : List ℕ}
+module _ {file : List ℕ} {r : Result ℕ ScanError} {kinds₀ values₀ places₀ kinds values places : List ℕ}
     (s : Scans file r kinds₀ values₀ places₀ kinds values places) where
-  outcome_of : {q : Scanned} → r ≡ q → Outcome file q
+  outcome_of : {q : Result ℕ ScanError} → r ≡ q → Outcome file q
   outcome_of e = subst (Outcome file) (sym s.answer ∙ e) (outcome file)
 
   -- 1
-  pub scanned_long : r ≡ scanned.TooLong → check file ≡ refused (answer 1 0 0)
+  pub scanned_long : r ≡ Err TooLong → check file ≡ refused (answer 1 0 0)
   scanned_long e = go (outcome_of e)
     where
-      go : Outcome file scanned.TooLong → check file ≡ refused (answer 1 0 0)
+      go : Outcome file (Err TooLong) → check file ≡ refused (answer 1 0 0)
       go (long h) = check_1 file h
 
   -- 2
-  pub scanned_bad : (k : ℕ) → r ≡ scanned.Bad k → check file ≡ refused (answer 2 k 0)
+  pub scanned_bad : (k : ℕ) → r ≡ Err (NoToken k) → check file ≡ refused (answer 2 k 0)
   scanned_bad k e = go (outcome_of e)
     where
-      go : {j : ℕ} → Outcome file (scanned.Bad j) → check file ≡ refused (answer 2 j 0)
+      go : {j : ℕ} → Outcome file (Err (NoToken j)) → check file ≡ refused (answer 2 j 0)
       go (bad h c) = check_2 file h c
 
-  pub scanned_tokens : (n : ℕ) → r ≡ scanned.Tokens n
+  pub scanned_tokens : (n : ℕ) → r ≡ Ok n
       → (ts : List Token) × (n ≡ length ts) × (n ≤ 8192) × Words file ts (take n kinds) (take n values) (take n places)
   unfolding scanned_of scanned_as
   scanned_tokens n e = go (outcome_of e)
     where
-      go : {j : ℕ} → Outcome file (scanned.Tokens j)
+      go : {j : ℕ} → Outcome file (Ok j)
           → (ts : List Token) × (j ≡ length ts) × (j ≤ 8192)
           × Words file ts (take j kinds) (take j values) (take j places)
       go (cut ts h c) =
-          let answered : scanned_of file ≡ scanned.Tokens (length ts) = cc (le-ltb 8192 (length file) h) in
+          let answered : scanned_of file ≡ Ok (length ts) = cc (le-ltb 8192 (length file) h) in
           (ts, refl, omega (arith, tokens_few file ts c), words h c (s.coded ts answered c))
 
   -- each slice has as many elements as there are tokens
-  pub scanned_counted : (n : ℕ) → r ≡ scanned.Tokens n → Counted n kinds values places
+  pub scanned_counted : (n : ℕ) → r ≡ Ok n → Counted n kinds values places
   scanned_counted n e =
       let (ts, same, few, w) = scanned_tokens n e in
       record {

@@ -14,8 +14,7 @@ use answers::Answer;
 use choice::Choice;
 use judging::Judged;
 use layout::Layout;
-use passes::Found;
-use tokens::Scanned;
+use tokens::ScanError;
 use variables::Bounds;
 
 // 1 to 9 and 15: the answer, and of an accepted file its variables, its layout, how many tries it has with the choice among
@@ -78,7 +77,7 @@ fn load_judged(
     names::resolve(file, kinds, values, places, operands);
     layout::link_braces(kinds, operands);
     let lows = bounds.lows;
-    if let Found::At(k) = divisors::find_unvalued(kinds, operands, places, lows, bounds.count) {
+    if let Some(k) = divisors::find_unvalued(kinds, operands, places, lows, bounds.count) {
         return not_loaded(answers::say(15, wide(k), 0));
     }
     let tries = layout::tries_of(kinds, keep);
@@ -128,14 +127,13 @@ fn load_tokens(
     ensures leaves { Leaves result.answer.number kept.old holds.old after.old
         kept.new holds.new after.new }
 {
-    let judged = judging::judge(file, kinds, values, places);
-    let so_far = judged.answer;
-    if so_far.number != 0 {
-        return not_loaded(so_far);
-    }
+    let judged = match judging::judge(file, kinds, values, places) {
+        Ok(judged) => judged,
+        Err(refusal) => return not_loaded(Answer::from(refusal)),
+    };
     let n = kinds.len();
     if syntax::TOKENS < n {
-        return not_loaded(so_far);
+        return not_loaded(Answer::accepted());
     }
     let mut operands = [0u16; syntax::TOKENS];
     load_judged(
@@ -164,9 +162,9 @@ pub fn load(file: &[u8], kept: &mut [u8], holds: &mut [u16], after: &mut [u16]) 
     let mut values = [0u16; syntax::FILE_BYTES];
     let mut places = [0u16; syntax::FILE_BYTES];
     match tokens::scan(file, &mut kinds, &mut values, &mut places) {
-        Scanned::TooLong => not_loaded(answers::say(1, 0, 0)),
-        Scanned::Bad(k) => not_loaded(answers::say(2, k, 0)),
-        Scanned::Tokens(n) => load_tokens(
+        Err(ScanError::TooLong) => not_loaded(answers::say(1, 0, 0)),
+        Err(ScanError::NoToken(k)) => not_loaded(answers::say(2, k, 0)),
+        Ok(n) => load_tokens(
             file,
             &kinds[..n],
             &values[..n],

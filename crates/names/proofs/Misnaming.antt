@@ -17,7 +17,7 @@ use Rattle.syntax.proofs.Lexemes.{decides_key}
 use Rattle.logic.proofs.Bools.{different}
 use Rattle.meaning.specs.Decide.Check.{past_limit, member, misnamed}
 use Rattle.names.specs.declared.Names.{Names}
-use Rattle.passes.specs.declared.Found.TheVariants.{At, Nothing}
+use Rattle.std.specs.Prelude.{Some, None}
 use Rattle.passes.specs.Pass.{found_of}
 use Rattle.names.specs.Slots.{Titles, Grows, Judges, wrong_by, wrongly}
 use Rattle.passes.proofs.ByIndex.{token_at, kind_at, Few, few_first, few_next, room, Pass, offends, goes_on, ends}
@@ -148,10 +148,10 @@ module _ {file : List ℕ} {ts : List Token} {kinds values places : List ℕ} (h
 
   pub naming_offends : i < length kinds → (r : Bool)
       → Judges file vars methods (get_or kinds i 0) before (get_or places i 0) (get_or values i 0) r → r ≡ true
-      → At (get_or places i 0) ≡ found_of (misnamed (number 0) [] [] ts)
+      → Some (get_or places i 0) ≡ found_of (misnamed (number 0) [] [] ts)
   naming_offends l r d e = offends naming h (number 0, [], []) summary i s.so_far l (judged l r d ∙ e)
 
-  pub naming_ends : length kinds ≤ i → Nothing ≡ found_of (misnamed (number 0) [] [] ts)
+  pub naming_ends : length kinds ≤ i → None ≡ found_of (misnamed (number 0) [] [] ts)
   naming_ends l = ends naming h (number 0, [], []) summary i s.so_far l
 
   pub naming_next : past_limit 0 0 0 0 ts ≡ none → i < length kinds → (r : Bool)

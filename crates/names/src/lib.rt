@@ -12,8 +12,6 @@ ghost use Rattle.meaning.specs.Decide.Check.{past_limit, member, misnamed};
 ghost use Rattle.passes.specs.Pass.{found_of};
 ghost use Rattle.names.specs.Slots.{titles_of, slot_in, slot_or_value, Resolved, NameAt, Titles, Grows, Judges};
 
-use passes::Found;
-
 // Declared names, as many as there may be methods: where each begins in the file, and its length.
 #[derive(Clone, Copy)]
 pub struct Names {
@@ -129,16 +127,16 @@ fn wrong(
 
 // 6: a name declared twice among its kind, or a variable used that is not declared. (With at most six variables and
 // eight methods.)
-pub fn find_misnamed(file: &[u8], kinds: &[u8], values: &[u16], places: &[u16]) -> Found
+pub fn find_misnamed(file: &[u8], kinds: &[u8], values: &[u16], places: &[u16]) -> Option<u16>
     ensures { (ts : List Token)
         → Words file.now ts kinds.now values.now places.now
         → past_limit 0 0 0 0 ts ≡ none → result ≡ found_of (misnamed (number 0) [] [] ts) }
 {
     if values.len() != kinds.len() {
-        return Found::Nothing;
+        return None;
     }
     if places.len() != kinds.len() {
-        return Found::Nothing;
+        return None;
     }
     let mut vars = no_names();
     let mut methods = no_names();
@@ -150,7 +148,7 @@ pub fn find_misnamed(file: &[u8], kinds: &[u8], values: &[u16], places: &[u16]) 
         let start = places[i];
         let len = values[i];
         if wrong(file, vars, methods, kind, before, start, len) {
-            return Found::At(start);
+            return Some(start);
         }
         vars = declared(vars, declares(kind, before, syntax::KEY_VAR), start, len);
         methods = declared(
@@ -162,7 +160,7 @@ pub fn find_misnamed(file: &[u8], kinds: &[u8], values: &[u16], places: &[u16]) 
         before = kind;
         i += 1;
     }
-    Found::Nothing
+    None
 }
 
 // The variables of a file, in order.

@@ -22,7 +22,7 @@ use Rattle.meaning.specs.Accepted.{opens, closes}
 use Rattle.meaning.specs.Decide.Check.{tally, crowded, past_limit}
 use Rattle.logic.proofs.Bools.{is_false, no_some, clash}
 use Rattle.passes.specs.Pass.{found_of}
-use Rattle.passes.specs.declared.Found.TheVariants.{At, Nothing}
+use Rattle.std.specs.Prelude.{Some, None}
 
 -- what is left from an index on is what stands there and what is left behind it
 pub rest_at : {A : Type 0} (l : List A) (i : ℕ) (d : A) → i < length l → drop i l ≡ get_or l i d ∷ drop (i + 1) l
@@ -140,7 +140,7 @@ module _ {S : Type 0} (p : Pass S) {file : List ℕ} {ts : List Token} {kinds va
       [ true ↦ some (token_at ts i).at | false ↦ p.find (p.next s (token_at ts i).lexeme) (drop (i + 1) ts) ]
   step l = so_far ∙ ap (p.find s) (here h i l) ∙ p.token s (token_at ts i) (drop (i + 1) ts)
 
-  pub offends : i < length kinds → p.test s (token_at ts i).lexeme (drop (i + 1) ts) ≡ true → At (get_or places i 0)
+  pub offends : i < length kinds → p.test s (token_at ts i).lexeme (drop (i + 1) ts) ≡ true → Some (get_or places i 0)
       ≡ found_of (p.find s₀ ts)
   unfolding found_of
   offends l e = rw (step l, e, place_at h i)
@@ -153,7 +153,7 @@ module _ {S : Type 0} (p : Pass S) {file : List ℕ} {ts : List Token} {kinds va
   pub passed : i < length kinds → p.find s₀ ts ≡ none → p.test s (token_at ts i).lexeme (drop (i + 1) ts) ≡ false
   passed l e = is_false (λ t. no_some {a = (token_at ts i).at} (sym e ∙ step l ∙ rw t))
 
-  pub ends : length kinds ≤ i → Nothing ≡ found_of (p.find s₀ ts)
+  pub ends : length kinds ≤ i → None ≡ found_of (p.find s₀ ts)
   unfolding found_of
   ends l = rw (so_far, at_end_lem h i l, p.nothing s)
 

@@ -1,4 +1,4 @@
-// The passes over a file's tokens that answer 3 and 5, by counts.
+// The passes over a file's tokens that answer 3 and 5, by counts: each finds the place of the first token that offends.
 #![tactic(auto)]
 
 ghost use Rattle.std.specs.Prelude.{◌≡◌, ◌&&◌, ◌||◌, ℕ, ◌+◌, ◌≤◌, ◌<◌, List, leb, eqb};
@@ -10,13 +10,6 @@ ghost use Rattle.syntax.specs.Held.Kind.{kind_of, Words};
 ghost use Rattle.meaning.specs.Accepted.{opens};
 ghost use Rattle.meaning.specs.Decide.Check.{tally, crowded, past_limit};
 ghost use Rattle.passes.specs.Pass.{found_of};
-
-// The place of the first token that offends, or that there is none.
-#[derive(Clone, Copy)]
-pub enum Found {
-    At(u16),
-    Nothing,
-}
 
 // Is a kind one of two?
 fn either(kind: u8, a: u8, b: u8) -> bool
@@ -51,12 +44,12 @@ fn crowds(kind: u8, passed: usize, opened: usize, closed: usize) -> bool
 }
 
 // 3: more than 1,024 tokens, or brackets and braces nested deeper than 12.
-pub fn find_crowded(kinds: &[u8], places: &[u16]) -> Found
+pub fn find_crowded(kinds: &[u8], places: &[u16]) -> Option<u16>
     ensures { (file : List ℕ) (ts : List Token) (values : List ℕ)
         → Words file ts kinds.now values places.now → result ≡ found_of (crowded 0 0 0 ts) }
 {
     if places.len() != kinds.len() {
-        return Found::Nothing;
+        return None;
     }
     let mut opened: usize = 0;
     let mut closed: usize = 0;
@@ -64,13 +57,13 @@ pub fn find_crowded(kinds: &[u8], places: &[u16]) -> Found
     while i < kinds.len() {
         let kind = kinds[i];
         if crowds(kind, i, opened, closed) {
-            return Found::At(places[i]);
+            return Some(places[i]);
         }
         opened = more(opened, either(kind, syntax::LBRACE, syntax::LPAREN));
         closed = more(closed, either(kind, syntax::RBRACE, syntax::RPAREN));
         i += 1;
     }
-    Found::Nothing
+    None
 }
 
 // Is this token a var past 6, a method past 8, a waituntil past 16 or a try past 16?
@@ -95,12 +88,12 @@ fn exceeds(kind: u8, vars: usize, methods: usize, regions: usize, tries: usize) 
 }
 
 // 5: a var past 6, a method past 8, a waituntil past 16 or a try past 16.
-pub fn find_past_limit(kinds: &[u8], places: &[u16]) -> Found
+pub fn find_past_limit(kinds: &[u8], places: &[u16]) -> Option<u16>
     ensures { (file : List ℕ) (ts : List Token) (values : List ℕ)
         → Words file ts kinds.now values places.now → result ≡ found_of (past_limit 0 0 0 0 ts) }
 {
     if places.len() != kinds.len() {
-        return Found::Nothing;
+        return None;
     }
     let mut vars: usize = 0;
     let mut methods: usize = 0;
@@ -111,7 +104,7 @@ pub fn find_past_limit(kinds: &[u8], places: &[u16]) -> Found
         let kind = kinds[i];
         let place = places[i];
         if exceeds(kind, vars, methods, regions, tries) {
-            return Found::At(place);
+            return Some(place);
         }
         vars = more(vars, kind == syntax::KEY_VAR);
         methods = more(methods, kind == syntax::KEY_METHOD);
@@ -119,5 +112,5 @@ pub fn find_past_limit(kinds: &[u8], places: &[u16]) -> Found
         tries = more(tries, kind == syntax::KEY_TRY);
         i += 1;
     }
-    Found::Nothing
+    None
 }

@@ -134,18 +134,17 @@ fn alike(running: Running) -> Both
 }
 
 // What a machine's run gives: its refusal, or its record.
-fn running_of(bounds: Bounds, stop: Stop, run: Run, notified: u16) -> Running
+fn running_of(bounds: Bounds, stop: Option<Stop>, run: Run, notified: u16) -> Running
     ensures { (m : Monitor) (w : Bool) (x : machine.Run) → Bounded (vars m) bounds → notified ≡ notices_in w run
         → StopsAs w (count (vars m)) stop run x → Runs (decided.running_of m x) result }
 {
-    let number = stop.number;
-    if number != 0 {
-        return not_run(number, stop.frame, 0);
-    }
-    Running {
-        answer: answers::say(0, 0, 0),
-        record: record_of(bounds, run, notified),
-        of_file: false,
+    match stop {
+        Some(stop) => not_run(stop.refusal.number(), stop.frame, 0),
+        None => Running {
+            answer: answers::say(0, 0, 0),
+            record: record_of(bounds, run, notified),
+            of_file: false,
+        },
     }
 }
 
@@ -180,11 +179,9 @@ pub fn run_from(
         regions: layout.regions,
     };
     let ended = frames::run_trace(bytes, start as StateNumber, &slices);
-    let plain = ended.plain;
-    let table = ended.table;
     let last = ended.run;
     Both {
-        plain: running_of(bounds, plain, last, last.plain),
-        table: running_of(bounds, table, last, last.table),
+        plain: running_of(bounds, ended.plain, last, last.plain),
+        table: running_of(bounds, ended.table, last, last.table),
     }
 }

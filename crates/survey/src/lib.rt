@@ -10,7 +10,7 @@ use answers::Answer;
 use loader::Loaded;
 use lookup::{Numbered, State};
 use outline::Outline;
-use tokens::Scanned;
+use tokens::ScanError;
 
 // The verdict of a file, and what becomes of its tries: whether it is told, how many there are, the chosen ones as bits,
 // and of each that a body breaks the pass, from 1, and the region and the state that break it.
@@ -55,9 +55,9 @@ fn outline_loaded(file: &[u8], loaded: Loaded) -> Outline
     let mut values = [0u16; syntax::FILE_BYTES];
     let mut places = [0u16; syntax::FILE_BYTES];
     match tokens::scan(file, &mut kinds, &mut values, &mut places) {
-        Scanned::TooLong => outline::no_outline(verdict),
-        Scanned::Bad(_) => outline::no_outline(verdict),
-        Scanned::Tokens(n) => outline::outline_of(
+        Err(ScanError::TooLong) => outline::no_outline(verdict),
+        Err(ScanError::NoToken(_)) => outline::no_outline(verdict),
+        Ok(n) => outline::outline_of(
             &kinds[..n],
             &values[..n],
             &places[..n],

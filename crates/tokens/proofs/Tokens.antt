@@ -17,7 +17,8 @@ use Rattle.tokens.specs.Coded.{lexeme_code, code_of, Within, Coded, scanned_as, 
 use Rattle.tokens.specs.Coded.{TokensWritten, Scans}
 use Rattle.syntax.specs.Held.Kind.{kind_of, value_of}
 use Rattle.scanner.specs.declared.Step.{Step}
-use Rattle.tokens.specs.declared.Scanned.TheVariants as scanned
+use Rattle.std.specs.Prelude.{Ok, Err}
+use Rattle.tokens.specs.declared.ScanError.TheVariants.{TooLong, NoToken}
 use Rattle.scanner.proofs.FirstElement.{by_cases, leading_none, leading_stop, leading_more}
 use Rattle.tokens.proofs.Coding.{Found, missing, there, found_at}
 
@@ -245,13 +246,13 @@ module _ (file kinds₀ values₀ places₀ kinds values places : List ℕ) (n a
 
   module _ (short : length file ≤ 8192) where
     pub scans_all : tokens_from at 0 (drop at file) ≡ tokens []
-        → Scans file (scanned.Tokens n) kinds₀ values₀ places₀ kinds values places
+        → Scans file (Ok n) kinds₀ values₀ places₀ kinds values places
     unfolding after scanned_as TokensWritten
     scans_all e =
         let whole : tokenize file ≡ tokens h.held = h.whole ∙ ap (after h.held) e
         ∙ ap tokens (append-nil h.held) in
         record {
-          answer = sym (in_bounds file short ∙ ap scanned_as whole ∙ ap scanned.Tokens h.count);
+          answer = sym (in_bounds file short ∙ ap scanned_as whole ∙ ap Ok h.count);
           coded = λ ts _ q. let same : h.held ≡ ts = cc in rw same at h.coded;
           written = n;
           how_many_is = refl;
@@ -259,7 +260,7 @@ module _ (file kinds₀ values₀ places₀ kinds values places : List ℕ) (n a
         }
 
     pub scans_bad : (k : ℕ) → at ≤ k → tokens_from at 0 (drop at file) ≡ none_at k
-        → Scans file (scanned.Bad k) kinds₀ values₀ places₀ kinds values places
+        → Scans file (Err (NoToken k)) kinds₀ values₀ places₀ kinds values places
     unfolding after scanned_as TokensWritten
     scans_bad k l e =
         let whole : tokenize file ≡ none_at k = h.whole ∙ ap (after h.held) e in
@@ -272,10 +273,10 @@ module _ (file kinds₀ values₀ places₀ kinds values places : List ℕ) (n a
         }
 
 pub scans_long : (file kinds values places : List ℕ) → 8192 < length file
-    → Scans file scanned.TooLong kinds values places kinds values places
+    → Scans file (Err TooLong) kinds values places kinds values places
 unfolding scanned_of TokensWritten
 scans_long file kinds values places h =
-    let long : scanned_of file ≡ scanned.TooLong = rw (scanned_of, lt-ltb 8192 (length file) h) in
+    let long : scanned_of file ≡ Err TooLong = rw (scanned_of, lt-ltb 8192 (length file) h) in
     record {
       answer = sym long;
       coded = λ ts q _. let z : ◌≡◌ {A = ℕ} 0 1 = cc in absurd (omega arith);

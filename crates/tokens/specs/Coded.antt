@@ -1,5 +1,6 @@
 -- How tokens are held as numbers: of each token its kind, a value and its place; and the number of a reserved word.
 use Rattle.std.specs.Prelude.{ℕ, suc, ◌+◌, ◌-◌, ◌≤◌, ◌≡◌, true, false, List, [], ◌∷◌, map, length, take, drop, ltb}
+use Rattle.std.specs.Prelude.{Result, Ok, Err}
 use Rattle.syntax.specs.Bytes.{same_bytes}
 use Rattle.syntax.specs.Decide.Lexeme.{keyword_number}
 use Rattle.syntax.specs.Held.Kind.{kind_of, value_of, keyword_count}
@@ -9,8 +10,8 @@ use Rattle.syntax.specs.Decide.Scan.{Tokens, tokens, none_at, tokenize, word_of}
 use Rattle.scanner.specs.declared.Token as token
 use Rattle.scanner.specs.declared.Token.TheVariants.{Word, Number, Mark, None}
 use Rattle.tokens.specs.declared.Code.{Code}
-use Rattle.tokens.specs.declared.Scanned.{Scanned}
-use Rattle.tokens.specs.declared.Scanned.TheVariants as scanned
+use Rattle.tokens.specs.declared.ScanError.{ScanError}
+use Rattle.tokens.specs.declared.ScanError.TheVariants.{TooLong, NoToken}
 
 -- the number of the first of some words that a text is, and their count where it is none of them
 unfoldable pub place : List (List ℕ) → List ℕ → ℕ
@@ -47,12 +48,12 @@ pub record Coded (ts : List Token) (kinds values places : List ℕ) : Type 0 whe
   pub by_place : take (length ts) places ≡ map (λ t. t.at) ts
 
 -- what a scan of a file answers (1, 2)
-unfoldable pub scanned_as : Tokens → Scanned
-scanned_as (tokens ts) = scanned.Tokens (length ts)
-scanned_as (none_at k) = scanned.Bad k
+unfoldable pub scanned_as : Tokens → Result ℕ ScanError
+scanned_as (tokens ts) = Ok (length ts)
+scanned_as (none_at k) = Err (NoToken k)
 
-unfoldable pub scanned_of : List ℕ → Scanned
-scanned_of file = elim (ltb most_bytes (length file)) [ true ↦ scanned.TooLong | false ↦ scanned_as (tokenize file) ]
+unfoldable pub scanned_of : List ℕ → Result ℕ ScanError
+scanned_of file = elim (ltb most_bytes (length file)) [ true ↦ Err TooLong | false ↦ scanned_as (tokenize file) ]
 
 -- behind their first n numbers the slices are as they were lent
 pub record SameBehind (n : ℕ) (kinds₀ values₀ places₀ kinds values places : List ℕ) : Type 0 where
@@ -62,15 +63,15 @@ pub record SameBehind (n : ℕ) (kinds₀ values₀ places₀ kinds values place
 
 -- how many tokens a scan writes: as many as it counts; at most one for each byte before one that begins none; of a file
 -- that is too long, none
-unfoldable pub TokensWritten : Scanned → ℕ → Type 0
-TokensWritten (scanned.Tokens m) n = n ≡ m
-TokensWritten (scanned.Bad k) n = n ≤ k
-TokensWritten scanned.TooLong n = n ≡ 0
+unfoldable pub TokensWritten : Result ℕ ScanError → ℕ → Type 0
+TokensWritten (Ok m) n = n ≡ m
+TokensWritten (Err (NoToken k)) n = n ≤ k
+TokensWritten (Err TooLong) n = n ≡ 0
 
 -- the whole promise of a scan: its answer, the tokens where it answers with their count, and what is left as it was
-pub record Scans (file : List ℕ) (r : Scanned) (kinds₀ values₀ places₀ kinds values places : List ℕ) : Type 0 where
+pub record Scans (file : List ℕ) (r : Result ℕ ScanError) (kinds₀ values₀ places₀ kinds values places : List ℕ) : Type 0 where
   pub answer : r ≡ scanned_of file
-  pub coded : (ts : List Token) → scanned_of file ≡ scanned.Tokens (length ts) → tokenize file ≡ tokens ts
+  pub coded : (ts : List Token) → scanned_of file ≡ Ok (length ts) → tokenize file ≡ tokens ts
       → Coded ts kinds values places
   pub written : ℕ
   pub how_many_is : TokensWritten r written

@@ -10,12 +10,11 @@ ghost use Rattle.tokens.specs.Coded.{place, key_code, lexeme_code, Within, code_
 
 use scanner::{Cursor, Token};
 
-// How many tokens a file has; the first byte that begins none (2); or that it is too long (1).
-#[derive(Clone, Copy)]
-pub enum Scanned {
-    Tokens(usize),
-    Bad(usize),
+// Why a file has no tokens: it is too long (1), or a byte begins none (2), and which is the first.
+#[derive(Debug, Clone, Copy, PartialEq, Eq)]
+pub enum ScanError {
     TooLong,
+    NoToken(usize),
 }
 
 // How a token is held: its kind, with a number's value or a name's length.
@@ -122,14 +121,19 @@ fn code_of(file: &[u8], token: Token) -> Code
 }
 
 // The tokens of a file, into slices that are long enough.
-fn scan_into(file: &[u8], kinds: &mut [u8], values: &mut [u16], places: &mut [u16]) -> Scanned
+fn scan_into(
+    file: &[u8],
+    kinds: &mut [u8],
+    values: &mut [u16],
+    places: &mut [u16],
+) -> Result<usize, ScanError>
     requires { (length kinds.old ≡ most_bytes) × (length values.old ≡ most_bytes) × (length places.old
         ≡ most_bytes) }
     ensures { Scans file.now result kinds.old values.old places.old
         kinds.new values.new places.new }
 {
     if syntax::FILE_BYTES < file.len() {
-        return Scanned::TooLong;
+        return Err(ScanError::TooLong);
     }
     let mut cursor = Cursor::new();
     let mut n: usize = 0;
@@ -140,9 +144,9 @@ fn scan_into(file: &[u8], kinds: &mut [u8], values: &mut [u16], places: &mut [u1
         let next = step.next;
         if next.at == start {
             if start < file.len() {
-                return Scanned::Bad(start);
+                return Err(ScanError::NoToken(start));
             }
-            return Scanned::Tokens(n);
+            return Ok(n);
         }
         let token = step.token;
         let code = code_of(file, token);
@@ -152,16 +156,16 @@ fn scan_into(file: &[u8], kinds: &mut [u8], values: &mut [u16], places: &mut [u1
         n += 1;
         cursor = next;
     }
-    Scanned::Tokens(n)
+    Ok(n)
 }
 
-// The tokens of a file that is not too long: each token's kind, a number's value or a name's length, and its place.
+// The tokens of a file, and how many there are: each token's kind, a number's value or a name's length, and its place.
 pub fn scan(
     file: &[u8],
     kinds: &mut [u8; syntax::FILE_BYTES],
     values: &mut [u16; syntax::FILE_BYTES],
     places: &mut [u16; syntax::FILE_BYTES],
-) -> Scanned
+) -> Result<usize, ScanError>
     ensures { Scans file.now result kinds.old values.old places.old
         kinds.new values.new places.new }
 {

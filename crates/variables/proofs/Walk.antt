@@ -1,5 +1,6 @@
 -- The walk over a file's variables: those passed are good and held, and the tokens of the others are left.
-use Rattle.std.proofs.Common.{◌≡◌, ℕ, zero, suc, ◌+◌, ◌*◌, ◌<◌, ◌≤◌, true, false, leb, List, [], ◌∷◌, ◌++◌, length, get_or, take, drop, pos, sym, refl, ap, ◌∙◌, subst, inl, inr, append_assoc, append-nil, add-zero, arith, length-append, leb-false, leb-true}
+use Rattle.std.specs.Prelude.{Ok, Err}
+use Rattle.std.proofs.Common.{◌≡◌, ℕ, zero, suc, ◌+◌, ◌*◌, ◌<◌, ◌≤◌, leb, List, [], ◌∷◌, ◌++◌, length, get_or, take, drop, pos, sym, refl, ap, ◌∙◌, subst, inl, inr, append_assoc, append-nil, add-zero, arith, length-append, leb-false, leb-true}
 use mathlib.Core.Option.{some, some-injective}
 use lib.ListN.{get_elem?}
 use lib.Seq.{take-append_seam}
@@ -11,7 +12,7 @@ use Rattle.meaning.specs.State.{size, count, starts}
 use Rattle.meaning.specs.Accepted.{GoodRanges, no_vars}
 use Rattle.logic.proofs.Bools.{split, no_some}
 use Rattle.syntax.proofs.ByKind.{is_key_lem}
-use Rattle.variables.specs.Bounded.{Numbers, Bounded, EndsVars, Ranged, RangedBy}
+use Rattle.variables.specs.Bounded.{Numbers, Bounded, EndsVars, Ranged}
 use Rattle.meaning.specs.Held.{Offset, Biased, Ranges}
 use Rattle.variables.specs.Promises.{TripleAt, SpelledVar, Good, Slots, Loaded, WithVar, Weighed}
 use Rattle.variables.specs.declared.Bounds.{Bounds}
@@ -182,8 +183,8 @@ module _ (kinds values : List ℕ) (at : ℕ) (b : Bounds) (i : ℕ) (walk : Wal
 
     -- the variable there is the first bad one
     pub walk_bad : (Good b.states t → ⊥) → (vs : List Var) (ls us : List Lexeme) → Spelling kinds values at vs ls us
-        → Ranged vs ls us at (record { ok = false; token = i; bounds = b })
-    unfolding Ranged RangedBy
+        → Ranged vs ls us at (Err (record { token = i }))
+    unfolding Ranged
     walk_bad bad vs ls us s =
         let w = walk vs ls us s in
         let (v, rest, parts, spelled) = next vs ls us s w in
@@ -209,8 +210,8 @@ module _ (kinds values : List ℕ) (at : ℕ) (b : Bounds) (i : ℕ) (walk : Wal
   -- no `var` stands at i
   pub walk_end : (get_or kinds i 0 ≡ kind_of (key k_var) → ⊥) → (r : Bounds) → Weighed b r
       → (vs : List Var) (ls us : List Lexeme)
-      → Spelling kinds values at vs ls us → Ranged vs ls us at (record { ok = true; token = i; bounds = r })
-  unfolding Ranged RangedBy each
+      → Spelling kinds values at vs ls us → Ranged vs ls us at (Ok (record { bounds = r; next = i }))
+  unfolding Ranged each
   walk_end none r weighed vs ls us s =
       let w = walk vs ls us s in
       let all : w.todo ≡ [] = stops s.held us s.ends i w.todo w.left none in

@@ -1,5 +1,5 @@
 -- How the variables of a file and the values of a state are held as numbers: each value with 128 added.
-use Rattle.std.specs.Prelude.{◌≡◌, ℕ, suc, ◌+◌, ◌<◌, ◌≤◌, Bool, true, false, List, ◌∷◌, map, length, take, drop, ℤ, ◌≢◌, slice_index}
+use Rattle.std.specs.Prelude.{◌≡◌, ℕ, suc, ◌+◌, ◌<◌, ◌≤◌, List, ◌∷◌, map, length, take, drop, ℤ, ◌≢◌, slice_index, Result, Ok, Err}
 use Rattle.std.proofs.Math.Option.{some}
 use Rattle.std.proofs.Math.ListN.{get_elem?}
 use Rattle.syntax.specs.Limits.{most_vars}
@@ -15,6 +15,7 @@ use Rattle.meaning.specs.Accepted.{GoodRanges}
 use Rattle.meaning.specs.Refusal.{FirstIllRanged}
 use Rattle.variables.specs.declared.Bounds.{Bounds}
 use Rattle.variables.specs.declared.Declared.{Declared}
+use Rattle.variables.specs.declared.BadRange.{BadRange}
 
 -- kinds, and each number's value at its place
 pub record Numbers (ls : List Lexeme) (kinds values : List ℕ) : Type 0 where
@@ -49,9 +50,6 @@ unfoldable pub EndsVars : List Lexeme → Type 0
 EndsVars us = (l : Lexeme) × (rest : List Lexeme) × (us ≡ l ∷ rest) × (l ≢ key k_var)
 
 -- good variables and the token behind them, or the token of the first bad one
-unfoldable pub RangedBy : Bool → List Var → List Lexeme → List Lexeme → ℕ → Declared → Type 0
-RangedBy true vs ls us at r = Bounded vs r.bounds × (drop r.token ls ≡ us)
-RangedBy false vs ls us at r = (i : ℕ) × FirstIllRanged vs i × (r.token ≡ at + length (each spell_var (take i vs)))
-
-unfoldable pub Ranged : List Var → List Lexeme → List Lexeme → ℕ → Declared → Type 0
-Ranged vs ls us at r = RangedBy r.ok vs ls us at r
+unfoldable pub Ranged : List Var → List Lexeme → List Lexeme → ℕ → Result Declared BadRange → Type 0
+Ranged vs ls us at (Ok d) = Bounded vs d.bounds × (drop d.next ls ≡ us)
+Ranged vs ls us at (Err e) = (i : ℕ) × FirstIllRanged vs i × (e.token ≡ at + length (each spell_var (take i vs)))

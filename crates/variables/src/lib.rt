@@ -26,12 +26,17 @@ pub struct Bounds {
     pub states: StateNumber,
 }
 
-// The variables, with the token behind them; or the token of the first variable with a bad range (7).
+// The variables, with the token behind them.
 #[derive(Clone, Copy)]
 pub struct Declared {
-    pub ok: bool,
-    pub token: usize,
     pub bounds: Bounds,
+    pub next: usize,
+}
+
+// The token of the first variable with a bad range (7).
+#[derive(Clone, Copy, Debug, PartialEq, Eq)]
+pub struct BadRange {
+    pub token: usize,
 }
 
 // The token at which a file's variables begin: behind `monitor NAME {`.
@@ -76,14 +81,14 @@ struct Triple {
 fn kind_at(kinds: &[u8], at: usize) -> u8
     ensures { result ≡ slice_index kinds.now at }
 {
-    if at < kinds.len() { kinds[at] } else { 0 }
+    kinds.get(at).copied().unwrap_or(0)
 }
 
 // The value of a token, 0 past the end.
 fn value_at(values: &[u16], at: usize) -> u16
     ensures { result ≡ slice_index values.now at }
 {
-    if at < values.len() { values[at] } else { 0 }
+    values.get(at).copied().unwrap_or(0)
 }
 
 // The integer that begins at a token.
@@ -93,12 +98,12 @@ fn int_at(kinds: &[u8], values: &[u16], at: usize) -> Integer
 {
     if kind_at(kinds, at) == syntax::MINUS {
         Integer {
-            value: OFFSET - value_at(values, at + MARK) as u32,
+            value: OFFSET - u32::from(value_at(values, at + MARK)),
             next: at + NEGATED,
         }
     } else {
         Integer {
-            value: OFFSET + value_at(values, at) as u32,
+            value: OFFSET + u32::from(value_at(values, at)),
             next: at + PLAIN,
         }
     }
@@ -197,11 +202,9 @@ fn weights_of(
 {
     let mut weights = [1u16; syntax::VARIABLES];
     let mut weight = states;
-    let mut k: usize = 0;
-    while k < count {
-        weight = weight / size_of(lows[k], highs[k]);
+    for k in 0..count {
+        weight /= size_of(lows[k], highs[k]);
         weights[k] = weight;
-        k += 1;
     }
     weights
 }
@@ -211,40 +214,32 @@ fn weighed(bounds: Bounds) -> Bounds
     requires { bounds.count ≤ most_vars }
     ensures { Weighed bounds result }
 {
-    let mut next = bounds;
-    let lows = bounds.lows;
-    let highs = bounds.highs;
-    let weights = weights_of(lows, highs, bounds.count, bounds.states);
-    next.weights = weights;
-    next
+    Bounds {
+        weights: weights_of(bounds.lows, bounds.highs, bounds.count, bounds.states),
+        ..bounds
+    }
 }
 
 // The variables that begin at a token.
-pub fn read(kinds: &[u8], values: &[u16], at: usize) -> Declared
+pub fn read(kinds: &[u8], values: &[u16], at: usize) -> Result<Declared, BadRange>
     ensures { (vs : List Var) (ls us : List Lexeme) → Numbers ls kinds.now values.now
         → drop at ls ≡ each spell_var vs ++ us → EndsVars us → length vs ≤ most_vars → length ls ≤ most_bytes
         → Ranged vs ls us at result }
 {
     let mut bounds = no_bounds();
-    let mut i = at;
-    while kind_at(kinds, i) == syntax::KEY_VAR {
-        let v = triple_at(kinds, values, i);
+    let mut next = at;
+    while kind_at(kinds, next) == syntax::KEY_VAR {
+        let v = triple_at(kinds, values, next);
         if !fits(bounds.states, v) {
-            return Declared {
-                ok: false,
-                token: i,
-                bounds: bounds,
-            };
+            return Err(BadRange { token: next });
         }
         bounds = with_var(bounds, v);
-        i = v.next;
+        next = v.next;
     }
-    let all = weighed(bounds);
-    Declared {
-        ok: true,
-        token: i,
-        bounds: all,
-    }
+    Ok(Declared {
+        bounds: weighed(bounds),
+        next,
+    })
 }
 
 // What sixteen bits keep of a sum.
@@ -273,10 +268,7 @@ fn digit_of(low: u16, weight: u16, rest: StateNumber) -> Digit
     ensures { DigitOf low weight rest result }
 {
     if weight == 0 {
-        return Digit {
-            value: low,
-            rest: rest,
-        };
+        return Digit { value: low, rest };
     }
     Digit {
         value: plus(low, rest / weight),
@@ -290,15 +282,13 @@ pub fn values_of(bounds: Bounds, state: StateNumber) -> [u16; syntax::VARIABLES]
 {
     let mut values = [128u16; syntax::VARIABLES];
     let mut rest = state;
-    let mut k = 0;
-    while k < syntax::VARIABLES {
+    for k in 0..syntax::VARIABLES {
         if bounds.count <= k {
             return values;
         }
         let digit = digit_of(bounds.lows[k], bounds.weights[k], rest);
         values[k] = digit.value;
         rest = digit.rest;
-        k += 1;
     }
     values
 }
@@ -307,7 +297,7 @@ pub fn values_of(bounds: Bounds, state: StateNumber) -> [u16; syntax::VARIABLES]
 fn above(value: u16, low: u16) -> u16
     ensures { result ≡ value - low }
 {
-    if low <= value { value - low } else { 0 }
+    value.saturating_sub(low)
 }
 
 // What a value adds to a state's number: how far it is above its lowest, as often as it weighs.
@@ -322,14 +312,12 @@ pub fn number_of(bounds: Bounds, values: [u16; syntax::VARIABLES]) -> StateNumbe
     ensures { NumberOf bounds values result }
 {
     let mut number: StateNumber = 0;
-    let mut k = 0;
-    while k < syntax::VARIABLES {
+    for k in 0..syntax::VARIABLES {
         if bounds.count <= k {
             return number;
         }
         let more = share_of(values[k], bounds.lows[k], bounds.weights[k]);
         number = plus(number, more);
-        k += 1;
     }
     number
 }

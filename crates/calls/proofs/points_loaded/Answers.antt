@@ -67,7 +67,7 @@ returns c file loads =
       guard_count = l.guard_count;
       room = omega arith;
     }))
-    c.say-2.ensures c.say-3.ensures refl)
+    c.answer_of.ensures c.answer_of-2.ensures refl)
 
 pub overflow_cast-start : goal.overflow_cast-start
 overflow_cast-start = λ c. let low = c.admit-early.ensures.start_lt_most_states c.if-early-ne0.false in

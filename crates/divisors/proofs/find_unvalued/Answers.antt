@@ -17,7 +17,7 @@ use Rattle.divisors.proofs.Divisor.{valuing, lexemes_left}
 use borrow.Author.Tests.{ne_eqb}
 use Rattle.syntax.proofs.ByKind.{kind_key}
 use Rattle.passes.specs.Pass.{found_of}
-use Rattle.passes.specs.declared.Found.TheVariants.{Nothing}
+use Rattle.std.specs.Prelude.{None}
 use Rattle.divisors.proofs.find_unvalued.Goals as goal
 
 -- where no `mod` stands
@@ -35,13 +35,13 @@ module _ {file : List ℕ} {ts : List Token} {kinds values places : List ℕ} (h
       (not_asked on _)
 
   from : (n i : ℕ) (on : Bool) → i + n ≡ length kinds → unvalued vs false ts ≡ unvalued vs on (drop i ts)
-      → Nothing ≡ found_of (unvalued vs false ts)
+      → None ≡ found_of (unvalued vs false ts)
   from zero i on e so_far = ends (valuing vs) h false on i so_far (omega arith)
   from (suc n) i on e so_far =
       from n (i + 1) (asks on (token_at ts i).lexeme) (omega arith)
       (goes_on (valuing vs) h false on i so_far (omega arith) (passes_by on i (omega arith)))
 
-  nothing : Nothing ≡ found_of (unvalued vs false ts)
+  nothing : None ≡ found_of (unvalued vs false ts)
   nothing = from (length kinds) 0 false (omega arith) refl
 
 -- The loop

@@ -17,8 +17,8 @@ use Rattle.loader.proofs.Loads.{coded, loads_15, loads}
 use Rattle.loader.proofs.load_judged.Goals as goal
 
 -- 15 is judged before anything is filled
-pub returns-in-At : goal.returns-in-At
-returns-in-At c =
+pub returns-in-Some : goal.returns-in-Some
+returns-in-Some c =
     let j = c.args.judged in
     record {
       loads = λ ts m w p o l₁ l₂ l₃.
@@ -26,7 +26,7 @@ returns-in-At c =
           let x = coded w m j p _ _ resolves (c.link_braces.ensures (lexemes ts) (kinds_held w m j p)
           (resolved_long w m j p _ resolves) (few_lexemes w m j p)) in
           loads_15 w m j p c.not_loaded.result _ _ _ c.not_loaded.ensures c.say.ensures c.wide.ensures
-          (found_at _ _ (sym c.in-At.is ∙ c.find_unvalued.ensures _ ts _ (vars m) w x));
+          (found_at _ _ (sym c.in-Some.is ∙ c.find_unvalued.ensures _ ts _ (vars m) w x));
       leaves = left_all _ _ _ _;
     }
 
@@ -53,8 +53,8 @@ returns c =
     }
 
 -- the operands are as many as they were
-pub shape_of-operands-in-At : goal.shape_of-operands-in-At
-shape_of-operands-in-At c =
+pub shape_of-operands-in-Some : goal.shape_of-operands-in-Some
+shape_of-operands-in-Some c =
     omega (arith, c.link_braces.auto.operands, c.resolve.auto.operands)
 
 pub shape_of-operands : goal.shape_of-operands

@@ -7,21 +7,20 @@ use Rattle.filling.proofs.Fills.{left_all}
 use Rattle.loader.proofs.Loads.{loads_judged, judged_tree, few, kinds_long}
 use Rattle.loader.proofs.load_tokens.Goals as goal
 
-pub returns-then-so_far-ne0 : goal.returns-then-so_far-ne0
-returns-then-so_far-ne0 c =
+pub returns-in-Err : goal.returns-in-Err
+returns-in-Err c =
     record {
-      loads = λ ts w l₁ l₂ l₃. loads_judged _ ts c.judge-judged.result c.not_loaded.result _ _ _ c.not_loaded.ensures
-          (λ zero. omega (arith, c.if-so_far-ne0.true)) (c.judge-judged.ensures ts w);
+      loads = λ ts w l₁ l₂ l₃. loads_judged _ ts c.not_loaded.result _ _ _ _ c.not_loaded.ensures c.from.ensures
+          (rw c.in-Err.is at (c.judge.ensures ts w));
       leaves = left_all _ _ _ _;
     }
 
 pub returns-then-n-gt-TOKENS : goal.returns-then-n-gt-TOKENS
 returns-then-n-gt-TOKENS c =
-    let j = c.judge-judged.result in
     record {
       loads = λ ts w l₁ l₂ l₃.
-          let (m, p) = judged_tree _ ts j (omega (arith, c.if-so_far-ne0.false)) (c.judge-judged.ensures ts w) in
-          absurd (omega (arith, c.if-n-gt-TOKENS.true, kinds_long w m j p, few w m j p));
+          let (m, p) = judged_tree _ ts (rw c.in-Ok.is at (c.judge.ensures ts w)) in
+          absurd (omega (arith, c.if-n-gt-TOKENS.true, kinds_long w m _ p, few w m _ p));
       leaves = left_all _ _ _ _;
     }
 
@@ -30,10 +29,9 @@ slice_bounds-load_judged-end c = sym (length-take-le _ _ c.if-n-gt-TOKENS.false)
 
 pub returns : goal.returns
 returns c =
-    let j = c.judge-judged.result in
     record {
       loads = λ ts w l₁ l₂ l₃.
-          let (m, p) = judged_tree _ ts j (omega (arith, c.if-so_far-ne0.false)) (c.judge-judged.ensures ts w) in
-          c.load_judged.ensures.loads ts m w p (length-take-le _ _ c.if-n-gt-TOKENS.false ∙ kinds_long w m j p) l₁ l₂ l₃;
+          let (m, p) = judged_tree _ ts (rw c.in-Ok.is at (c.judge.ensures ts w)) in
+          c.load_judged.ensures.loads ts m w p (length-take-le _ _ c.if-n-gt-TOKENS.false ∙ kinds_long w m _ p) l₁ l₂ l₃;
       leaves = c.load_judged.ensures.leaves;
     }

@@ -14,7 +14,7 @@ returns-then-kind_at-eq-MINUS c =
       further = omega arith;
       near = omega arith;
       spelled = λ ls rest n held e.
-          rw c.value_at.ensures
+          rw (c.from.ensures, c.value_at.ensures)
           (minus_int held rest a.at n e (sym c.kind_at.ensures ∙ c.if-kind_at-eq-MINUS.true));
     }
 
@@ -26,6 +26,6 @@ returns-else-kind_at-eq-MINUS c =
       further = omega arith;
       near = omega arith;
       spelled = λ ls rest n held e.
-          rw c.value_at-else-kind_at-eq-MINUS.ensures
+          rw (c.from-else-kind_at-eq-MINUS.ensures, c.value_at-else-kind_at-eq-MINUS.ensures)
           (plain_int held rest a.at n e (λ q. c.if-kind_at-eq-MINUS.false (c.kind_at.ensures ∙ q)));
     }

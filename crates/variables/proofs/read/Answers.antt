@@ -31,14 +31,14 @@ var_there kinds i held is =
     let e = sym held ∙ is in (e, inside kinds i (omega arith))
 
 pub triple_at-v-requires : goal.triple_at-v-requires
-triple_at-v-requires c = omega (arith, (var_there c.args.kinds.now c.loop-v.i c.kind_at.ensures c.loop-v-test.true).1)
+triple_at-v-requires c = omega (arith, (var_there c.args.kinds.now c.loop-v.next c.kind_at.ensures c.loop-v-test.true).1)
 
 pub returns-then-not-fits : goal.returns-then-not-fits
 returns-then-not-fits c vs ls us held e ends few short =
     let g = c in
     let a = g.args in
-    walk_bad a.kinds.now a.values.now a.at g.loop-v.bounds g.loop-v.i g.loop-v.invariant.2
-    (var_there c.args.kinds.now c.loop-v.i c.kind_at.ensures c.loop-v-test.true).0 c.triple_at-v.result
+    walk_bad a.kinds.now a.values.now a.at g.loop-v.bounds g.loop-v.next g.loop-v.invariant.2
+    (var_there c.args.kinds.now c.loop-v.next c.kind_at.ensures c.loop-v-test.true).0 c.triple_at-v.result
     c.triple_at-v.ensures
     (c.fits.ensures.no c.if-not-fits.true) vs ls us
     (record { held = held; begins = e; ends = ends; few = few })
@@ -54,7 +54,7 @@ pub loop-v-smaller : goal.loop-v-smaller
 loop-v-smaller c =
     omega (
       arith,
-      (var_there c.args.kinds.now c.loop-v.i c.kind_at.ensures c.loop-v-test.true).1,
+      (var_there c.args.kinds.now c.loop-v.next c.kind_at.ensures c.loop-v-test.true).1,
       c.triple_at-v.ensures.further,
     )
 
@@ -64,8 +64,8 @@ loop-v-preserved c =
     let a = g.args in (
       c.with_var-bounds.ensures.few,
       c.with_var-bounds.ensures.room,
-      walk_more a.kinds.now a.values.now a.at g.loop-v.bounds g.loop-v.i g.loop-v.invariant.2
-          (var_there c.args.kinds.now c.loop-v.i c.kind_at.ensures c.loop-v-test.true).0 c.triple_at-v.result
+      walk_more a.kinds.now a.values.now a.at g.loop-v.bounds g.loop-v.next g.loop-v.invariant.2
+          (var_there c.args.kinds.now c.loop-v.next c.kind_at.ensures c.loop-v-test.true).0 c.triple_at-v.result
           c.triple_at-v.ensures c.with_var-bounds.result
           (c.fits.ensures.yes c.if-not-fits.false)
           c.with_var-bounds.ensures,
@@ -76,6 +76,6 @@ unfolding kind_of keyword_number
 returns c vs ls us held e ends few short =
     let g = c in
     let a = g.args in
-    walk_end a.kinds.now a.values.now a.at g.loop-v.bounds g.loop-v.i g.loop-v.invariant.2
-    (λ q. c.loop-v-test.false (c.kind_at.ensures ∙ q)) c.weighed-all.result c.weighed-all.ensures
+    walk_end a.kinds.now a.values.now a.at g.loop-v.bounds g.loop-v.next g.loop-v.invariant.2
+    (λ q. c.loop-v-test.false (c.kind_at.ensures ∙ q)) c.weighed.result c.weighed.ensures
     vs ls us (record { held = held; begins = e; ends = ends; few = few })
