@@ -6,13 +6,13 @@ use mathlib.Core.Bool.{true, false}
 use mathlib.Core.List.{List}
 use lib.ListN.{length}
 use lib.Dec.{ltb}
-use borrow.Author.Tests.{lt-ltb, le-ltb}
+use borrow.Author.Tests.{lt-ltb}
 use Rattle.syntax.specs.Tree.{Monitor}
 use Rattle.meaning.specs.Answer.{Answer, answer, accepted}
 use Rattle.meaning.specs.Decide.Check.{check}
 use Rattle.meaning.specs.Model.{vars, model}
 use Rattle.meaning.specs.State.{start_number}
-use Rattle.meaning.specs.Load.{frame_size, not_made, made_of}
+use Rattle.meaning.specs.Load.{not_made, made_of}
 use Rattle.meaning.specs.Decide.Load.{load_frames, made_in, bad_count, load_of}
 use Rattle.meaning.proofs.ModelLaws.{startable_iff}
 use Rattle.demands.specs.Load.{CountFits}

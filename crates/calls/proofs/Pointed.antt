@@ -13,7 +13,7 @@ use Rattle.meaning.specs.Answer.{Answer, answer, accepted}
 use Rattle.meaning.specs.Decide.Check.{check}
 use Rattle.meaning.specs.Decide.Frames.{frames_of, frames}
 use Rattle.meaning.specs.Model.{kept, model}
-use Rattle.meaning.specs.Points.{Pointing, no_points, point_room, points_of, points_from, frame_points, list_points, point_count}
+use Rattle.meaning.specs.Points.{no_points, point_room, points_of, points_from, frame_points, list_points, point_count}
 use Rattle.meaning.proofs.ModelLaws.{startable_iff}
 use Rattle.meaning.proofs.Frames.{frames_read}
 use Rattle.demands.proofs.Points.{every_point}
@@ -22,7 +22,10 @@ use Rattle.answers.specs.declared.Answer as code
 use Rattle.run.specs.Results.{machine_of}
 use Rattle.run.specs.Way.{run_of}
 use Rattle.run.specs.Ended.{Admits, not_kept, no_frame, all_frames}
-use Rattle.run.proofs.Records.{list_run}
+use Rattle.run.proofs.Records.{list_run, same_refusal, not_ok}
+use Rattle.std.specs.Prelude.{⊤, Result, Err}
+use Rattle.answers.specs.Numbered.{numbered}
+use Rattle.answers.specs.declared.Refusal.{Refusal}
 use Rattle.stepper.specs.Shown.{of_machine}
 use Rattle.points.specs.Written.{WritesPoints, StopSays}
 use Rattle.points.specs.declared.Written.{Written}
@@ -65,12 +68,15 @@ module _ (file bytes : List ℕ) (start : ℕ) (buffer : List ℕ) (r : result.P
         rw (e, points_of, long) x
 
   module _ (m : Monitor) where
-    pub refused_early : (b : code.Answer) → Admits m start bytes b → (b.number ≡ 0 → ⊥) → r.plain ≡ b → r.table ≡ b
-        → r.count ≡ 0 → Points (points_from m start bytes buffer) r buffer
+    pub refused_early : {early : Result ⊤ Refusal} → Admits m start bytes early → (x : Refusal) → early ≡ Err x
+        → (b : code.Answer) → Says b (numbered x) → r.plain ≡ b → r.table ≡ b → r.count ≡ 0
+        → Points (points_from m start bytes buffer) r buffer
     unfolding points_from frame_points
-    refused_early b (not_kept k s) other p t n = rw (k, points_from) (nothing b r buffer p t n s)
-    refused_early b (no_frame j k f s) other p t n = rw (k, points_from, f) (nothing b r buffer p t n s)
-    refused_early b (all_frames fs k f s) other p t n = absurd (other s.number)
+    refused_early (not_kept k e) x is b s p t n =
+        rw (k, points_from) (nothing b r buffer p t n (subst (λ (y : Refusal). Says b (numbered y)) (same_refusal _ _ is e) s))
+    refused_early (no_frame j k f e) x is b s p t n =
+        rw (k, points_from, f) (nothing b r buffer p t n (subst (λ (y : Refusal). Says b (numbered y)) (same_refusal _ _ is e) s))
+    refused_early (all_frames fs k f e) x is b s p t n = not_ok x is e
 
     -- an answer that is said of a stop
     stop_says : {a : Answer} (w : Written) (v : Bool) (b : code.Answer) → StopSays (of_machine v w.plain w.table) a

@@ -10,7 +10,7 @@ use borrow.Author.Tests.{ltb-true, ltb-false}
 use Rattle.logic.proofs.Bools.{split}
 use Rattle.syntax.specs.Limits.{most_vars}
 use Rattle.meaning.specs.Held.{Offset}
-use Rattle.meaning.specs.Answer.{Answer, answer}
+use Rattle.meaning.specs.Answer.{Answer}
 use Rattle.meaning.specs.Decide.Check.{check}
 use Rattle.meaning.specs.Calls.{plain_machine, table_machine, Running, ran, refused_file, not_run}
 use Rattle.meaning.specs.Calls as calls

@@ -17,6 +17,7 @@ use machine::StateNumber;
 use run::{Both, Running};
 use stepper::Slices;
 use table::TooShort;
+use waiters::PerMachine;
 
 // What placing answers, and where it is placed the table's length, the chosen tries, the first the lowest bit, and how
 // many pairs of region and guard are touched.
@@ -142,15 +143,11 @@ pub fn both_loaded(
 {
     let verdict = loaded.answer;
     if verdict.number != 0 {
-        let refused = Running {
+        return PerMachine::alike(Running {
             answer: verdict,
             record: run::no_record(),
             of_file: true,
-        };
-        return Both {
-            plain: refused,
-            table: refused,
-        };
+        });
     }
     let entries = entries_of(loaded, kept, holds, after);
     let bounds = loaded.bounds;
@@ -191,9 +188,8 @@ pub fn points_loaded(
     }
     let bounds = loaded.bounds;
     let layout = loaded.layout;
-    let early = run::admit(bounds, bytes, start, kept);
-    if early.number != 0 {
-        return no_points(early);
+    if let Err(refusal) = run::admit(bounds, bytes, start, kept) {
+        return no_points(Answer::from(refusal));
     }
     let entries = entries_of(loaded, kept, holds, after);
     let written = points::write_points(

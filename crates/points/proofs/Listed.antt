@@ -24,11 +24,9 @@ use Rattle.stepper.specs.Shown.{of_machine, told_on}
 use Rattle.run.specs.Way.{run_of, At, TableAt, goes_on, has_stopped, Way, BothStop, stop_number, stop_frame}
 use Rattle.std.specs.Prelude.{None}
 use Rattle.run.specs.declared.frames.Going.{Going}
-use Rattle.run.specs.declared.frames.Stop.{Stop}
 use Rattle.run.specs.declared.frames.Ended.{Ended}
 use Rattle.variables.specs.declared.Bounds.{Bounds}
 use Rattle.layout.specs.declared.Layout.{Layout}
-use Rattle.points.specs.declared.Written.{Written}
 use Rattle.points.specs.Written.{PointsAsked, PointStands, Listed, StopSays, WritesPoints}
 use Rattle.points.proofs.Shown.{at_notices}
 

@@ -1,11 +1,10 @@
 -- What the code says of a run before its first frame, and what the end of its run says of a machine's run of the list.
-use Rattle.std.specs.Prelude.{ℕ, ◌<◌, ◌≡◌, Bool, true, false, List, take, Option}
+use Rattle.std.specs.Prelude.{ℕ, ◌<◌, ◌≡◌, Bool, true, false, List, take, ⊤, Option, Result, Ok, Err}
 use Rattle.syntax.specs.Tree.{Monitor}
-use Rattle.meaning.specs.Answer.{answer}
 use Rattle.meaning.specs.Model.{kept}
 use Rattle.meaning.specs.Decide.Frames.{frames_of, frames, none_at}
-use Rattle.answers.specs.Says.{Says}
-use Rattle.answers.specs.declared.Answer.{Answer}
+use Rattle.answers.specs.declared.Refusal.{Refusal}
+use Rattle.answers.specs.declared.Refusal.TheVariants.{NoStart, NoFrame}
 use Rattle.machine.specs.Monitor.{Config, Frame, Run, accepted, stopped}
 use Rattle.stepper.specs.declared.Run as code
 use Rattle.stepper.specs.Shown.{of_machine, Shows}
@@ -14,11 +13,10 @@ use Rattle.run.specs.declared.frames.Stop.{Stop}
 use Rattle.run.specs.declared.frames.Ended.{Ended}
 
 -- 11 and 12, before any frame is judged
-pub data Admits (m : Monitor) (s : ℕ) (bytes : List ℕ) (r : Answer) : Type 0 where
-  not_kept : kept m s ≡ false → Says r (answer 11 0 0) → Admits m s bytes r
-  no_frame : (k : ℕ) → kept m s ≡ true → frames_of bytes ≡ none_at k → Says r (answer 12 k 0) → Admits m s bytes r
-  all_frames : (fs : List Frame) → kept m s ≡ true → frames_of bytes ≡ frames fs → Says r (answer 0 0 0)
-      → Admits m s bytes r
+pub data Admits (m : Monitor) (s : ℕ) (bytes : List ℕ) (r : Result ⊤ Refusal) : Type 0 where
+  not_kept : kept m s ≡ false → r ≡ Err NoStart → Admits m s bytes r
+  no_frame : (k : ℕ) → kept m s ≡ true → frames_of bytes ≡ none_at k → r ≡ Err (NoFrame k) → Admits m s bytes r
+  all_frames : (fs : List Frame) → kept m s ≡ true → frames_of bytes ≡ frames fs → r ≡ Ok tt → Admits m s bytes r
 
 -- a machine's part of an end
 abbrev pub stop_in : Bool → Ended → Option Stop

@@ -16,6 +16,22 @@ pub struct Stop {
     pub frame: usize,
 }
 
+impl From<Stop> for answers::Refusal {
+    ghost use Rattle.meaning.specs.Answer.{answer};
+    ghost use Rattle.answers.specs.Numbered.{numbered};
+    ghost use Rattle.stepper.specs.Answered.{number_of};
+
+    ghost from_gives = { λ stop refusal. numbered refusal ≡ answer (number_of stop.refusal) stop.frame 0 };
+
+    #[tactic(auto, unfolding(stepper::specs::Answered::number_of))]
+    fn from(stop: Stop) -> answers::Refusal {
+        match stop.refusal {
+            Refusal::Misplaced => answers::Refusal::Misplaced(stop.frame),
+            Refusal::NotAllowed => answers::Refusal::NotAllowed(stop.frame),
+        }
+    }
+}
+
 // Where each machine stops, if it does, and the record at the plain one's end.
 #[derive(Clone, Copy)]
 pub struct Ended {
@@ -102,7 +118,7 @@ pub fn answer_of(stop: Option<Stop>) -> Answer
     ensures { (result.number ≡ stop_number stop) × (result.first ≡ stop_frame stop) × (result.second ≡ 0) }
 {
     match stop {
-        Some(stop) => answers::say(stop.refusal.number(), stop.frame, 0),
-        None => answers::say(0, 0, 0),
+        Some(stop) => Answer::from(answers::Refusal::from(stop)),
+        None => Answer::accepted(),
     }
 }

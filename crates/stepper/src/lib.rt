@@ -13,7 +13,7 @@ ghost use Rattle.machine.specs.Agreement.{Checked};
 ghost use Rattle.machine.proofs.Reached.{Reached};
 ghost use Rattle.machine.proofs.Points.{ToldAt};
 ghost use Rattle.threads.specs.Held.{place_of, places_of, Turned, Queued};
-ghost use Rattle.stepper.specs.Answered.{number_of, answered};
+ghost use Rattle.stepper.specs.Answered.{answered};
 ghost use Rattle.stepper.specs.Shown.{of_machine, Shows, Steps, Stays, step_by, frame_of};
 ghost use Rattle.waiters.specs.Slices.{holds_at, follows_at, slices};
 ghost use Rattle.stepper.specs.Slices.{newly_at, config_of};
@@ -46,19 +46,6 @@ pub enum Refusal {
     Misplaced,
     // 14: the rules do not allow the frame.
     NotAllowed,
-}
-
-impl Refusal {
-    // Its number.
-    #[tactic(auto, unfolding(crate::specs::Answered::number_of))]
-    pub fn number(self) -> u8
-        ensures { result ≡ number_of self }
-    {
-        match self {
-            Refusal::Misplaced => 13,
-            Refusal::NotAllowed => 14,
-        }
-    }
 }
 
 // Of each machine whether it takes the frame, or why not; and the record afterwards, which shows the next point of a machine
