@@ -8,13 +8,32 @@ ghost use Rattle.threads.specs.Held.{place_of, places_of, turns_of};
 ghost use Rattle.digits.specs.Written.{Writes};
 ghost use Rattle.lines.specs.Written.{PutsLine};
 ghost use Rattle.point.specs.Held.{region_part, due_part, idle_part, held_byte, held_set, held_value, held_each};
-ghost use Rattle.point.specs.Held.{held_shared, held_notices, held_table, held_point};
+ghost use Rattle.point.specs.Held.{held_shared, held_notices, table_of, bytes_of};
 
 use std::array;
 use threads::{Place, Thread};
 
 // The bytes of a point.
 pub const POINT: usize = 49;
+
+// A machine's notices, and those of them that are new.
+#[derive(Clone, Copy)]
+pub struct Notices {
+    pub now: u16,
+    pub told: u16,
+}
+
+// What is written of a point: the values, the places and the guards that hold, which both machines have in common; each
+// machine's notices, the table's none where it has stopped; and the turns.
+#[derive(Clone, Copy)]
+pub struct Point {
+    pub values: [u16; syntax::VARIABLES],
+    pub places: [u8; machine::THREADS],
+    pub guards: u16,
+    pub plain: Notices,
+    pub table: Option<Notices>,
+    pub turns: [u8; machine::THREADS],
+}
 
 // A place as three numbers that have no bit in common, so that a byte is made of it without a branch.
 #[tactic(auto, unfolding(crate::specs::Held::region_part, threads::specs::Held::place_of))]
@@ -108,45 +127,37 @@ fn put_shared(
 }
 
 // A machine's notices, and those of them that are new.
-fn put_notices(out: &mut [u8], at: usize, notified: u16, told: u16) -> usize
+fn put_notices(out: &mut [u8], at: usize, notices: Notices) -> usize
     requires { at + 4 ≤ length out.old }
-    ensures { Writes (held_notices notified told) out.old at result out.new }
+    ensures { Writes (held_notices notices.now notices.told) out.old at result out.new }
 {
-    let next = put_set(out, at, notified);
-    put_set(out, next, told)
+    let next = put_set(out, at, notices.now);
+    put_set(out, next, notices.told)
 }
 
 // The table's part: whether it is there, and its notices.
-fn put_table(out: &mut [u8], at: usize, there: u8, notified: u16, told: u16) -> usize
+fn put_table(out: &mut [u8], at: usize, table: Option<Notices>) -> usize
     requires { at + 5 ≤ length out.old }
-    ensures { Writes (held_table there notified told) out.old at result out.new }
+    ensures { Writes (table_of table) out.old at result out.new }
 {
-    let next = digits::put_bytes(out, at, &[there]);
-    put_notices(out, next, notified, told)
+    match table {
+        Some(notices) => {
+            let next = digits::put_bytes(out, at, &[1]);
+            put_notices(out, next, notices)
+        }
+        None => digits::put_bytes(out, at, &[0; 5]),
+    }
 }
 
 // A point where there is room for it; else all is as it was.
-pub fn put_point(
-    out: &mut [u8],
-    at: usize,
-    values: [u16; syntax::VARIABLES],
-    bytes: [u8; machine::THREADS],
-    guards: u16,
-    plain: u16,
-    told: u16,
-    there: u8,
-    table: u16,
-    woken: u16,
-    turns: [u8; machine::THREADS],
-) -> usize
-    ensures { PutsLine (held_point values bytes guards plain told there table woken turns)
-        (at + 49 ≤ length out.old) out.old at result out.new }
+pub fn put_point(out: &mut [u8], at: usize, point: &Point) -> usize
+    ensures { PutsLine (bytes_of point.now) (at + 49 ≤ length out.old) out.old at result out.new }
 {
     if !digits::has_room(out, at, POINT) {
         return at;
     }
-    let one = put_shared(out, at, values, bytes, guards);
-    let two = put_notices(out, one, plain, told);
-    let three = put_table(out, two, there, table, woken);
-    put_each(out, three, turns)
+    let one = put_shared(out, at, point.values, point.places, point.guards);
+    let two = put_notices(out, one, point.plain);
+    let three = put_table(out, two, point.table);
+    put_each(out, three, point.turns)
 }
