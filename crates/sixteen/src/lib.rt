@@ -79,6 +79,7 @@ pub fn faulted(ok: [bool; 16], on: [bool; 16], lacks: u16) -> [bool; 16]
 }
 
 // The remainder of one number less another by a third less a fourth, and 0 where that is below 1.
+// Stays (no plainer): lanes have one `minus` for all, so a struct of two numbers would stand here and in `of_number` alone.
 fn remainder(plus: u32, minus: u32, by: u32, less: u32) -> u32
     ensures { result ≡ remainder_of plus minus by less }
 {

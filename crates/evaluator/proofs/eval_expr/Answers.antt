@@ -8,7 +8,7 @@ use Rattle.syntax.specs.Decide.Lexeme.{mark_number, keyword_number}
 use Rattle.syntax.specs.Token.{mark}
 use Rattle.syntax.specs.Tree.{sign_mark}
 use Rattle.evaluator.specs.Promises.{sign_of}
-use Rattle.evaluator.proofs.Readings.{past_sign, open_first, open_last, open_more}
+use Rattle.evaluator.proofs.Readings.{open_first, open_last, open_more}
 use Rattle.evaluator.proofs.eval_expr.Goals as goal
 use Rattle.evaluator.proofs.eval_expr.Goals.{in-16, in-17, Joined-kind_at}
 
