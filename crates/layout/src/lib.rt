@@ -27,6 +27,7 @@ pub struct Layout {
     pub guards: usize,
     // of each region: the tokens at which its guard and its body begin, its guard's number, whether it begins a method
     // (1), and whether another region follows it in its method (1)
+    // Stays (interface): `Held`, `HeldPlaces` (machine/specs/Held) and `Laid` read each as a list of numbers, the flags as 0 and 1.
     pub guards_at: [u16; machine::REGIONS],
     pub bodies_at: [u16; machine::REGIONS],
     pub guard_of: [u8; machine::REGIONS],
@@ -38,6 +39,7 @@ pub struct Layout {
 
 // The tries of a file, at most sixteen: how many, the tokens at which their conditions begin, and the token behind
 // them.
+// Stays (interface): no heap in the library crates, so a list of at most sixteen is an array with its count.
 #[derive(Clone, Copy)]
 pub struct Tries {
     pub count: usize,

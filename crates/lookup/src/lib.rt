@@ -77,42 +77,43 @@ fn move_by(kept: bool, holds: u16, guard: u8, to: StateNumber) -> u16
     if to == machine::STATE_END { FAULTS } else { to }
 }
 
-// The same of the region with a number, at a state; behind the regions nothing runs.
-fn move_at(
-    layout: Layout,
+// What is held of a state: whether it is kept, the guards that hold, and with the layout the states after bodies.
+#[derive(Clone, Copy)]
+struct Here<'a> {
+    layout: &'a Layout,
+    after: &'a [StateNumber; machine::AFTER],
+    number: StateNumber,
     kept: bool,
     holds: u16,
-    after: &[StateNumber; machine::AFTER],
-    number: StateNumber,
-    r: usize,
-) -> u16
-    requires { (number < most_states) × (r < most_regions) }
-    ensures { result ≡ move_in layout.regions layout.guard_of kept holds after.now number r }
-{
-    if layout.regions <= r {
-        return NEVER;
-    }
-    move_by(
-        kept,
-        holds,
-        layout.guard_of[r],
-        after[r * machine::STATES + usize::from(number)],
-    )
+    ghost small: { number < most_states },
 }
 
-// The same of every region.
-fn moves(
-    layout: Layout,
-    kept: bool,
-    holds: u16,
-    after: &[StateNumber; machine::AFTER],
-    number: StateNumber,
-) -> [u16; machine::REGIONS]
-    requires { number < most_states }
-    ensures { (r : ℕ) → r < most_regions
-        → get_or result r 0 ≡ move_in layout.regions layout.guard_of kept holds after.now number r }
-{
-    array::from_fn(|r| move_at(layout, kept, holds, after, number, r))
+impl Here<'_> {
+    // What the body of the region with a number does; behind the regions nothing runs.
+    fn move_of(self, r: usize) -> u16
+        requires { r < most_regions }
+        ensures { result ≡ move_in self.entry.layout.now.regions self.entry.layout.now.guard_of
+            self.entry.kept self.entry.holds self.entry.after.now self.entry.number r }
+    {
+        if self.layout.regions <= r {
+            return NEVER;
+        }
+        move_by(
+            self.kept,
+            self.holds,
+            self.layout.guard_of[r],
+            self.after[r * machine::STATES + usize::from(self.number)],
+        )
+    }
+
+    // The same of every region.
+    fn moves(self) -> [u16; machine::REGIONS]
+        ensures { (r : ℕ) → r < most_regions
+            → get_or result r 0 ≡ move_in self.entry.layout.now.regions self.entry.layout.now.guard_of
+            self.entry.kept self.entry.holds self.entry.after.now self.entry.number r }
+    {
+        array::from_fn(|r| self.move_of(r))
+    }
 }
 
 // The state with a number, from what was loaded of a file.
@@ -135,6 +136,13 @@ pub fn state_of(
     let s = number as StateNumber;
     let is_kept = kept[number] == 1;
     let holding = sets::below(holds[number], layout.guards);
+    let here = Here {
+        layout: &layout,
+        after,
+        number: s,
+        kept: is_kept,
+        holds: holding,
+    };
     State {
         answer,
         known: true,
@@ -142,7 +150,7 @@ pub fn state_of(
         vars: bounds.count,
         values: variables::values_of(bounds, s),
         holds: holding,
-        after: moves(layout, is_kept, holding, after, s),
+        after: here.moves(),
     }
 }
 
