@@ -29,76 +29,74 @@ fn asks(on: bool, kind: u8) -> bool
         | (on & !((kind == syntax::SEMICOLON) | (kind == syntax::LBRACE)))
 }
 
-// Can the variable in a slot be below 1? One that is not declared is 0.
-fn low_variable(lows: [u16; syntax::VARIABLES], count: usize, slot: usize) -> bool
-    ensures { (vs : List Var) (x : List ℕ) → Lowest vs lows count → slot ≡ slot_of vs x
-        → result ≡ less (value_of vs (lowest vs) x) (pos 1) }
-{
-    if count <= slot {
-        return true;
-    }
-    if syntax::VARIABLES <= slot {
-        return true;
-    }
-    lows[slot] < ONE
-}
-
-// Does a number stand at a token?
-fn is_number(kinds: &[u8], at: usize) -> bool
-    ensures { result ≡ eqb (get_or kinds.now at no_kind) number_kind }
-{
-    kinds.get(at) == Some(&syntax::NUMBER)
-}
-
-// Can the divisor that begins at a token be below 1?
-fn low_divisor(
-    kinds: &[u8],
-    operands: &[u16],
+// What 15 looks up: the kinds and operands of a file's tokens, and the lowest values of its variables, each with 128 added.
+#[derive(Clone, Copy)]
+struct Held<'a> {
+    kinds: &'a [u8],
+    operands: &'a [u16],
     lows: [u16; syntax::VARIABLES],
     count: usize,
-    at: usize,
-) -> bool
-    requires { at < 9223372036854775808 }
-    ensures { (vs : List Var) (ls : List Lexeme)
-        → Coded vs ls kinds.now operands.now lows count
-        → result ≡ low_divisor vs (read_atom (drop at ls)) }
-{
-    if kinds.len() <= at {
-        return false;
-    }
-    if operands.len() <= at {
-        return false;
-    }
-    match kinds[at] {
-        syntax::NAME => low_variable(lows, count, usize::from(operands[at])),
-        syntax::NUMBER => operands[at] == 0,
-        syntax::MINUS => is_number(kinds, at + 1),
-        _ => false,
-    }
 }
 
-// Is a token of a kind a `mod` that is asked, and can the divisor behind it be below 1?
-fn offends(
-    kinds: &[u8],
-    operands: &[u16],
-    lows: [u16; syntax::VARIABLES],
-    count: usize,
-    on: bool,
-    kind: u8,
-    next: usize,
-) -> bool
-    requires { next < 9223372036854775808 }
-    ensures { (vs : List Var) (ls : List Lexeme) (l : Lexeme)
-        → Coded vs ls kinds.now operands.now lows count → kind ≡ kind_of l
-        → result ≡ on && is_key k_mod l && low_divisor vs (read_atom (drop next ls)) }
-{
-    if !on {
-        return false;
+impl<'a> Held<'a> {
+    // Can the variable in a slot be below 1? One that is not declared is 0.
+    fn low_variable(self, slot: usize) -> bool
+        ensures { (vs : List Var) (x : List ℕ) → Lowest vs self.entry.lows self.entry.count → slot ≡ slot_of vs x
+            → result ≡ less (value_of vs (lowest vs) x) (pos 1) }
+    {
+        if self.count <= slot {
+            return true;
+        }
+        if syntax::VARIABLES <= slot {
+            return true;
+        }
+        self.lows[slot] < ONE
     }
-    if kind != syntax::KEY_MOD {
-        return false;
+
+    // Does a number stand at a token?
+    fn is_number(self, at: usize) -> bool
+        ensures { result ≡ eqb (get_or self.entry.kinds.now at no_kind) number_kind }
+    {
+        self.kinds.get(at) == Some(&syntax::NUMBER)
     }
-    low_divisor(kinds, operands, lows, count, next)
+
+    // Can the divisor that begins at a token be below 1?
+    fn low_divisor(self, at: usize) -> bool
+        requires { at < 9223372036854775808 }
+        ensures { (vs : List Var) (ls : List Lexeme)
+            → Coded vs ls self.entry.kinds.now self.entry.operands.now self.entry.lows self.entry.count
+            → result ≡ low_divisor vs (read_atom (drop at ls)) }
+    {
+        if self.kinds.len() <= at {
+            return false;
+        }
+        if self.operands.len() <= at {
+            return false;
+        }
+        match self.kinds[at] {
+            syntax::NAME => self.low_variable(usize::from(self.operands[at])),
+            syntax::NUMBER => self.operands[at] == 0,
+            syntax::MINUS => self.is_number(at + 1),
+            _ => false,
+        }
+    }
+
+    // Is a token of a kind a `mod` that is asked, and can the divisor behind it be below 1?
+    fn offends(self, on: bool, kind: u8, next: usize) -> bool
+        requires { next < 9223372036854775808 }
+        ensures { (vs : List Var) (ls : List Lexeme) (l : Lexeme)
+            → Coded vs ls self.entry.kinds.now self.entry.operands.now self.entry.lows self.entry.count
+            → kind ≡ kind_of l
+            → result ≡ on && is_key k_mod l && low_divisor vs (read_atom (drop next ls)) }
+    {
+        if !on {
+            return false;
+        }
+        if kind != syntax::KEY_MOD {
+            return false;
+        }
+        self.low_divisor(next)
+    }
 }
 
 // Does a `mod` stand among the tokens? A file without any pays for no more than this.
@@ -128,9 +126,15 @@ pub fn find_unvalued(
     if places.len() != kinds.len() {
         return None;
     }
+    let held = Held {
+        kinds,
+        operands,
+        lows,
+        count,
+    };
     let mut on = false;
     for (i, &kind) in kinds.iter().enumerate() {
-        if offends(kinds, operands, lows, count, on, kind, i + 1) {
+        if held.offends(on, kind, i + 1) {
             return Some(places[i]);
         }
         on = asks(on, kind);

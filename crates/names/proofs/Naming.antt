@@ -9,6 +9,8 @@ use lib.ListN.{length, take, drop, get_or, set, length-append, length-drop, get_
 use lib.Seq.{length-take-le, get_or_at, get_or-set_same, get_or-set_other}
 use lib.Dec.{ltb, eqb, leb-suc-suc}
 use borrow.Author.Tests.{lt-ltb, ltb-true, ltb-false}
+use Rattle.std.specs.Str.{bytes_eq}
+use Rattle.std.proofs.lemmas.Slice.Eq.{bytes_eq-Decides}
 use Rattle.syntax.specs.Limits.{most_methods}
 use Rattle.syntax.specs.Bytes.{same_bytes}
 use Rattle.syntax.specs.Token.{Lexeme, name, key, number, mark, Token, k_var, k_method, k_monitor, Mark, Keyword}
@@ -31,6 +33,12 @@ use Rattle.passes.proofs.ByIndex.{rest_at, token_at, token_member, value_at, pla
 pub same_test : (r : Bool) (x y : List ℕ) → (r ≡ true → x ≡ y) → (x ≡ y → r ≡ true) → r ≡ same_bytes x y
 same_test true x y f g = sym ((decides_same x y).1 (f refl))
 same_test false x y f g = sym (is_false (λ h. clash (g ((decides_same x y).0 h)) refl))
+
+-- equal parts of the file are equal names
+pub same_parts : {a b x y : List ℕ} {r : Bool} → a ≡ x → b ≡ y → r ≡ bytes_eq a b → r ≡ same_bytes x y
+same_parts {x = x} {y = y} p q e =
+    let d = bytes_eq-Decides x y in
+    e ∙ rw (p, q) (same_test (bytes_eq x y) x y d.0 d.1)
 
 pub same_sym : (x y : List ℕ) → same_bytes x y ≡ same_bytes y x
 same_sym x y = same_test (same_bytes x y) y x (λ h. sym ((decides_same x y).0 h)) (λ e. (decides_same x y).1 (sym e))

@@ -35,7 +35,7 @@ impl Name {
         if file.len() < other_end {
             return false;
         }
-        check::same(&file[start..end], &file[other_start..other_end])
+        file[start..end] == file[other_start..other_end]
     }
 }
 

@@ -11,7 +11,7 @@ use lib.Dec.{leb, eqb}
 use borrow.Author.Tests.{leb-true}
 use Rattle.std.specs.Char.{is_ascii_alphabetic, is_ascii_alphanumeric}
 use Rattle.syntax.specs.Decide.Leading.{leading}
-use Rattle.syntax.specs.Bytes.{letter, digit, word_byte, between, decimal, same_bytes}
+use Rattle.syntax.specs.Bytes.{letter, digit, word_byte, between, decimal}
 
 -- a case distinction on a Boolean that keeps the equation
 pub by_cases : {A : Type 0} (b : Bool) → (b ≡ true → A) → (b ≡ false → A) → A
@@ -64,10 +64,6 @@ pub and_true : (a b : Bool) → a && b ≡ true → (a ≡ true) × (b ≡ true)
 and_true true b e = (refl, e)
 and_true false b e = absurd (false≢true e)
 
-and_false : (b : Bool) → b && false ≡ false
-and_false true = refl
-and_false false = refl
-
 -- a word's bytes are the kit's letters and digits, and `_`
 turned : (d u l s : Bool) → (u || l) || d || s ≡ (((d || u) || l) || s)
 turned true true l s = refl
@@ -105,20 +101,3 @@ power_at_most zero h = omega arith
 power_at_most (suc zero) h = omega arith
 power_at_most (suc (suc zero)) h = omega arith
 power_at_most (suc (suc (suc i))) h = omega arith
-
-pub same_lengths : (a b : List ℕ) → (length a ≡ length b → ⊥) → same_bytes a b ≡ false
-unfolding same_bytes
-same_lengths [] [] n = absurd (n refl)
-same_lengths [] (y ∷ b) n = refl
-same_lengths (x ∷ a) [] n = refl
-same_lengths (x ∷ a) (y ∷ b) n = rw (same_lengths a b (λ e. n (ap suc e))) (and_false (eqb x y))
-
-module _ (a b : List ℕ) (i : ℕ) where
-  pub same_at : i < length a → i < length b
-      → same_bytes (drop i a) (drop i b) ≡ eqb (get_or a i 0) (get_or b i 0) && same_bytes (drop (i + 1) a) (drop (i + 1) b)
-  unfolding same_bytes
-  same_at h k = rw (drop-cons a i 0, drop-cons b i 0, add-one)
-
-  pub same_end : length a ≤ i → length b ≤ i → same_bytes (drop i a) (drop i b) ≡ true
-  unfolding same_bytes
-  same_end h k = rw (drop_of_length-le a h, drop_of_length-le b k)

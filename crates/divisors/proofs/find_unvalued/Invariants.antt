@@ -13,4 +13,4 @@ use Rattle.divisors.proofs.find_unvalued.Given as goal
 abbrev pub invariant-loop-i : goal.invariant-loop-i
 invariant-loop-i l =
     ((file : List ℕ) (ts : List Token) (values : List ℕ) (vs : List Var) → Words file ts l.kinds values l.places
-    → Coded vs (lexemes ts) l.kinds l.operands l.lows l.count → unvalued vs false ts ≡ unvalued vs l.on (drop l.i ts))
+    → Coded vs (lexemes ts) l.kinds l.operands l.fn.lows l.count → unvalued vs false ts ≡ unvalued vs l.on (drop l.i ts))

@@ -1,16 +1,16 @@
--- `divisors::low_divisor` meets its contract: each return is a law on the atom in front, by its kind.
+-- `divisors::Held::low_divisor` meets its contract: each return is a law on the atom in front, by its kind.
 use native.Mathlib.Omega.{arith}
 use mathlib.Core.Path.{sym, ◌∙◌}
 use Rattle.syntax.specs.Decide.Lexeme.{mark_number}
 use Rattle.syntax.specs.Held.Kind.{kind_of}
 use Rattle.divisors.proofs.Divisor.{at_end_lem, operands_long, at_name, at_number, at_minus, at_other}
-use Rattle.divisors.proofs.low_divisor.Goals as goal
+use Rattle.divisors.proofs.Held.low_divisor.Goals as goal
 
-pub returns-then-kinds-at : goal.returns-then-kinds-at
-returns-then-kinds-at c vs ls coded = sym (at_end_lem coded _ c.if-kinds-at.true)
+pub returns-then-self-at : goal.returns-then-self-at
+returns-then-self-at c vs ls coded = sym (at_end_lem coded _ c.if-self-at.true)
 
-pub returns-then-operands-at : goal.returns-then-operands-at
-returns-then-operands-at c vs ls coded = absurd (omega (arith, operands_long coded 0))
+pub returns-then-self-at-2 : goal.returns-then-self-at-2
+returns-then-self-at-2 c vs ls coded = absurd (omega (arith, operands_long coded 0))
 
 pub returns-in-0 : goal.returns-in-0
 returns-in-0 c vs ls coded =

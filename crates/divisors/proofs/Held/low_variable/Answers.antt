@@ -1,11 +1,11 @@
--- `divisors::low_variable` meets its contract: by the lowest value in the slot, and of a slot without a variable by 0.
+-- `divisors::Held::low_variable` meets its contract: by the lowest value in the slot, and of a slot without a variable by 0.
 use native.Mathlib.Omega.{arith}
 use mathlib.Core.Path.{sym}
 use Rattle.divisors.proofs.Divisor.{undeclared, declared}
-use Rattle.divisors.proofs.low_variable.Goals as goal
+use Rattle.divisors.proofs.Held.low_variable.Goals as goal
 
-pub returns-then-count-slot : goal.returns-then-count-slot
-returns-then-count-slot c vs x low is = sym (undeclared x low is c.if-count-slot.true)
+pub returns-then-self-slot : goal.returns-then-self-slot
+returns-then-self-slot c vs x low is = sym (undeclared x low is c.if-self-slot.true)
 
 pub returns-then-slot-ge-VARIABLES : goal.returns-then-slot-ge-VARIABLES
 returns-then-slot-ge-VARIABLES c vs x low is = absurd (omega (arith, low.few, low.counted))

@@ -1,10 +1,10 @@
--- `divisors::offends` is the definition's test: what is asked, the word, and the divisor.
+-- `divisors::Held::offends` is the definition's test: what is asked, the word, and the divisor.
 use borrow.Author.Tests.{ne_eqb, eq-eqb}
 use Rattle.syntax.specs.Token.{key, k_mod}
 use Rattle.syntax.specs.Decide.Lexeme.{keyword_number}
 use Rattle.syntax.specs.Held.Kind.{kind_of}
 use Rattle.syntax.proofs.ByKind.{kind_key}
-use Rattle.divisors.proofs.offends.Goals as goal
+use Rattle.divisors.proofs.Held.offends.Goals as goal
 
 pub returns-then-not-on : goal.returns-then-not-on
 returns-then-not-on c vs ls l coded e = rw (c.if-not-on.true)
