@@ -239,14 +239,14 @@ pub fn read(kinds: &[u8], values: &[u16], at: usize) -> Result<Declared, BadRang
 pub fn plus(a: u16, b: u16) -> u16
     ensures { result ≡ wrapped (a + b) }
 {
-    std::num::wrapping_add_u16(a, b)
+    a.wrapping_add(b)
 }
 
-// And of a product: the language has no wrapping one, so the wide one is cut at once.
+// And of a product.
 fn times(a: u16, b: u16) -> u16
     ensures { result ≡ wrapped (a * b) }
 {
-    (a as u32 * b as u32 % 65536) as u16
+    a.wrapping_mul(b)
 }
 
 // A value, and the number that is left for the variables behind it.
