@@ -125,26 +125,17 @@ fn triple_at(kinds: &[u8], values: &[u16], at: usize) -> Triple
     }
 }
 
-// Whether a variable's bounds and start value are good and leave at most 4,096 states.
-fn fits(states: StateNumber, v: Triple) -> bool
-    ensures { Fitting states v result }
-{
-    if v.high < v.low {
-        return false;
+impl Triple {
+    // Whether the bounds and the start value are good and leave at most 4,096 states.
+    fn fits(self, states: StateNumber) -> bool
+        ensures { Fitting states self result }
+    {
+        LOWEST <= self.low
+            && self.low <= self.start
+            && self.start <= self.high
+            && self.high <= HIGHEST
+            && states <= machine::STATE_END / ((self.high - self.low) as u16 + 1)
     }
-    if v.low < LOWEST {
-        return false;
-    }
-    if HIGHEST < v.high {
-        return false;
-    }
-    if v.start < v.low {
-        return false;
-    }
-    if v.high < v.start {
-        return false;
-    }
-    states <= machine::STATE_END / ((v.high - v.low) as u16 + 1)
 }
 
 // No variables: slots without a variable have an empty range, and 0 as their start value.
@@ -159,24 +150,6 @@ pub fn no_bounds() -> Bounds
         count: 0,
         states: 1,
     }
-}
-
-// One good variable more.
-fn with_var(bounds: Bounds, v: Triple) -> Bounds
-    requires good { Good bounds.states v }
-    requires count_le_most_vars { (bounds.count ≤ most_vars) × (bounds.states ≤ most_states) }
-    ensures { WithVar bounds v result }
-{
-    let mut next = bounds;
-    let at = bounds.count;
-    if at < syntax::VARIABLES {
-        next.lows[at] = (v.low - LOWEST) as u16;
-        next.highs[at] = (v.high - LOWEST) as u16;
-        next.starts[at] = (v.start - LOWEST) as u16;
-        next.count = at + 1;
-        next.states = bounds.states * ((v.high - v.low) as u16 + 1);
-    }
-    next
 }
 
 // How many values a range has. The remainder keeps the number small for any range.
@@ -209,14 +182,34 @@ fn weights_of(
     weights
 }
 
-// Bounds with their weights.
-fn weighed(bounds: Bounds) -> Bounds
-    requires { bounds.count ≤ most_vars }
-    ensures { Weighed bounds result }
-{
-    Bounds {
-        weights: weights_of(bounds.lows, bounds.highs, bounds.count, bounds.states),
-        ..bounds
+impl Bounds {
+    // One good variable more.
+    fn with_var(self, v: Triple) -> Bounds
+        requires good { Good self.states v }
+        requires room { (self.count ≤ most_vars) × (self.states ≤ most_states) }
+        ensures { WithVar self v result }
+    {
+        let mut next = self;
+        let at = self.count;
+        if at < syntax::VARIABLES {
+            next.lows[at] = (v.low - LOWEST) as u16;
+            next.highs[at] = (v.high - LOWEST) as u16;
+            next.starts[at] = (v.start - LOWEST) as u16;
+            next.count = at + 1;
+            next.states = self.states * ((v.high - v.low) as u16 + 1);
+        }
+        next
+    }
+
+    // The same, with their weights.
+    fn weighed(self) -> Bounds
+        requires { self.count ≤ most_vars }
+        ensures { Weighed self result }
+    {
+        Bounds {
+            weights: weights_of(self.lows, self.highs, self.count, self.states),
+            ..self
+        }
     }
 }
 
@@ -230,14 +223,14 @@ pub fn read(kinds: &[u8], values: &[u16], at: usize) -> Result<Declared, BadRang
     let mut next = at;
     while kind_at(kinds, next) == syntax::KEY_VAR {
         let v = triple_at(kinds, values, next);
-        if !fits(bounds.states, v) {
+        if !v.fits(bounds.states) {
             return Err(BadRange { token: next });
         }
-        bounds = with_var(bounds, v);
+        bounds = bounds.with_var(v);
         next = v.next;
     }
     Ok(Declared {
-        bounds: weighed(bounds),
+        bounds: bounds.weighed(),
         next,
     })
 }
@@ -246,14 +239,14 @@ pub fn read(kinds: &[u8], values: &[u16], at: usize) -> Result<Declared, BadRang
 pub fn plus(a: u16, b: u16) -> u16
     ensures { result ≡ wrapped (a + b) }
 {
-    std::num::wrapping_add_u16(a, b)
+    a.wrapping_add(b)
 }
 
-// And of a product: the language has no wrapping one, so the wide one is cut at once.
+// And of a product.
 fn times(a: u16, b: u16) -> u16
     ensures { result ≡ wrapped (a * b) }
 {
-    (a as u32 * b as u32 % 65536) as u16
+    a.wrapping_mul(b)
 }
 
 // A value, and the number that is left for the variables behind it.

@@ -1,7 +1,8 @@
 -- `variables::plus` meets its contract: 65,536 is 2 ^ 16.
+use Rattle.std.proofs.Common.{refl}
 use Rattle.meaning.specs.SixteenBits.{wrapped}
 use Rattle.variables.proofs.plus.Goals as goal
 
 pub returns : goal.returns
 unfolding wrapped
-returns c = c.wrapping_add_u16.ensures.value
+returns c = refl

@@ -47,7 +47,7 @@ pub with_var-bounds-requires : goal.with_var-bounds-requires
 with_var-bounds-requires c =
     record {
       good = c.fits.ensures.yes c.if-not-fits.false;
-      count_le_most_vars = (omega arith, omega arith);
+      room = (omega arith, omega arith);
     }
 
 pub loop-v-smaller : goal.loop-v-smaller

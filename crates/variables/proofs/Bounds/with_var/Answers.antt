@@ -1,7 +1,7 @@
--- `variables::with_var` meets its contract. Where a slot is left the stores are the contract's; elsewhere it asks
+-- `variables::Bounds::with_var` meets its contract. Where a slot is left the stores are the contract's; elsewhere it asks
 -- nothing.
 use Rattle.std.proofs.Common.{arith}
-use Rattle.variables.proofs.with_var.Goals as goal
+use Rattle.variables.proofs.Bounds.with_var.Goals as goal
 
 pub returns-else-at-lt-VARIABLES : goal.returns-else-at-lt-VARIABLES
 returns-else-at-lt-VARIABLES c =
