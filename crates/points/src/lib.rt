@@ -102,28 +102,26 @@ fn write_rest(
     let mut to = next;
     let lines = bytes.len().div_ceil(trace::FRAME);
     for k in 0..lines {
-        let then = match run::frames::pass(going, bytes, k * trace::FRAME, k, &slices) {
-            Ok(then) => then,
-            Err(ended) => {
-                let count = k + 1;
-                return Written {
-                    plain: ended.plain,
-                    table: ended.table,
-                    count,
-                };
-            }
-        };
+        let passed = run::frames::pass(going, bytes, k * trace::FRAME, k, &slices);
+        if let Err(refusal) = passed.answer {
+            let count = k + 1;
+            return Written {
+                plain: Some(Stop { refusal, frame: k }),
+                table: passed.going.lost,
+                count,
+            };
+        }
         to = write_point(
             out,
             to,
             bounds,
             layout.guards,
             holds,
-            then,
+            passed.going,
             going.run.plain,
             going.run.table,
         );
-        going = then;
+        going = passed.going;
     }
     let count = lines + 1;
     Written {

@@ -138,6 +138,11 @@ unfolding number_of
 some_number Misplaced z = absurd (omega arith)
 some_number NotAllowed z = absurd (omega arith)
 
+-- what is no refusal is taken
+pub answered_ok : (a : Result ⊤ Refusal) → ((r : Refusal) → a ≡ Err r → ⊥) → a ≡ Ok tt
+answered_ok (Ok u) h = refl
+answered_ok (Err r) h = absurd (h r refl)
+
 -- nothing has stopped it before
 lost_first : (lost : Option Stop) (a : Result ⊤ Refusal) (k : ℕ) → stop_number lost ≡ 0 → (answered a ≡ 0 → ⊥)
     → (stop_number (lost_by lost a k) ≡ answered a) × (stop_frame (lost_by lost a k) ≡ k)

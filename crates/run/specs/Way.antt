@@ -14,6 +14,7 @@ use Rattle.stepper.specs.declared.Run as code
 use Rattle.run.specs.declared.frames.Stop.{Stop}
 use Rattle.run.specs.declared.frames.Going.{Going}
 use Rattle.run.specs.declared.frames.Ended.{Ended}
+use Rattle.run.specs.declared.frames.Passed.{Passed}
 
 -- what is asked of the slices: they hold a checked monitor with its table, the start is kept, and the bytes are frames
 pub record Asked (bytes : List ℕ) (state : ℕ) (holds after guard_of begins going_on entries : List ℕ) (regions : ℕ)
@@ -73,6 +74,8 @@ pub record BothStop (m : Monitor) (s : ℕ) (fs : List Frame) (g : Going) (e : E
   pub before : e.run ≡ g.run
 
 -- one frame more
-unfoldable pub Passes : Monitor → ℕ → List Frame → Going → Result Going Ended → ℕ → Type 0
-Passes m s fs g (Ok next) k = Way m s fs next (k + 1)
-Passes m s fs g (Err ended) k = BothStop m s fs g ended k
+pub record Passes (m : Monitor) (s : ℕ) (fs : List Frame) (g : Going) (p : Passed) (k : ℕ) : Type 0 where
+  pub taken : p.answer ≡ Ok tt → Way m s fs p.going (k + 1)
+  pub refused :
+      (r : Refusal) → p.answer ≡ Err r
+      → BothStop m s fs g (record { plain = Some (record { refusal = r; frame = k }); table = p.going.lost; run = g.run }) k

@@ -4,7 +4,7 @@
 use native.Mathlib.Omega.{arith}
 use mathlib.Core.Path.{refl, subst}
 use Rattle.std.specs.Prelude.{Result}
-use Rattle.run.specs.Way.{Passes}
+use Rattle.run.proofs.FrameByFrame.{answered_ok}
 use Rattle.run.specs.declared.frames.Going.{Going}
 use Rattle.run.specs.declared.frames.Ended.{Ended}
 use Rattle.meaning.specs.Model.{model}
@@ -23,22 +23,20 @@ pub loop-k-init : goal.loop-k-init
 loop-k-init c = (refl, λ m kept fs s before a l way x. (way, x))
 
 pub returns-in-Err : goal.returns-in-Err
-unfolding Passes
 returns-in-Err c m kept fs s before a l way x =
     let at = c.loop-k in
     let w = at.invariant.1 m kept fs s before a l way x in
-    let passes = c.pass.ensures (model m) kept s fs a.asked (omega arith) (line_below c.args.bytes.now at.k (omega (arith, c.loop-k-test.true))) w.0 in
-    ends_stopped a at.going _ at.k (subst (λ (r : Result Going Ended). Passes (model m) s fs at.going r at.k) c.in-Err.is passes) w.1
+    let passes = c.pass-passed.ensures (model m) kept s fs a.asked (omega arith) (line_below c.args.bytes.now at.k (omega (arith, c.loop-k-test.true))) w.0 in
+    ends_stopped a at.going _ at.k (passes.refused c.in-Err.refusal c.in-Err.is) w.1
 
 pub loop-k-preserved : goal.loop-k-preserved
-unfolding Passes
 loop-k-preserved c =
     let at = c.loop-k in (
       omega arith,
       λ m kept fs s before a l way x.
           let w = at.invariant.1 m kept fs s before a l way x in
-          let passes = c.pass.ensures (model m) kept s fs a.asked (omega arith) (line_below c.args.bytes.now at.k (omega (arith, c.loop-k-test.true))) w.0 in
-          let now = subst (λ (r : Result Going Ended). Passes (model m) s fs at.going r at.k) c.in-Ok.is passes in
+          let passes = c.pass-passed.ensures (model m) kept s fs a.asked (omega arith) (line_below c.args.bytes.now at.k (omega (arith, c.loop-k-test.true))) w.0 in
+          let now = passes.taken (answered_ok _ c.in_default.not-Err) in
           let below = now.below in
           let fits = room a (at.k + 1) (omega arith) in
           let n = w.1.long in

@@ -3,13 +3,13 @@
 use native.Mathlib.Omega.{arith}
 use mathlib.Core.Path.{refl, subst}
 use mathlib.Core.Bool.{true, false}
-use Rattle.run.specs.Way.{goes_on, Passes, stop_number, stop_frame}
+use Rattle.run.specs.Way.{goes_on, stop_number, stop_frame}
 use Rattle.run.specs.declared.frames.Going.{Going}
 use Rattle.run.specs.declared.frames.Ended.{Ended}
 use Rattle.std.specs.Prelude.{Result}
 use Prim.Native.Nat.{ℕ, ◌+◌, ◌*◌, ◌<◌, ◌/◌, ◌%◌, min}
 use mathlib.Core.List.{List}
-use Rattle.run.proofs.FrameByFrame.{at_start, ends_all, ends_stopped}
+use Rattle.run.proofs.FrameByFrame.{at_start, ends_all, ends_stopped, answered_ok}
 use lib.ListN.{length}
 use Rattle.std.proofs.lemmas.Grind.{div_ceil_times}
 use Rattle.run.proofs.frames.run_trace.Goals as goal
@@ -27,23 +27,20 @@ loop-k-init c m kept fs a = record {
 }
 
 pub returns-in-Err : goal.returns-in-Err
-unfolding Passes
 returns-in-Err c m kept fs a =
     let l = c.loop-k in
     let way = l.invariant m kept fs a in
     let below = line_below c.args.bytes.now l.k (omega (arith, c.loop-k-test.true)) in
-    let passes = c.pass.ensures m kept _ fs a (omega arith) below way in
-    ends_stopped m _ fs l.going _ l.k way
-    (subst (λ (r : Result Going Ended). Passes m c.args.state fs l.going r l.k) c.in-Err.is passes)
+    let passes = c.pass-passed.ensures m kept _ fs a (omega arith) below way in
+    ends_stopped m _ fs l.going _ l.k way (passes.refused c.in-Err.refusal c.in-Err.is)
 
 pub loop-k-preserved : goal.loop-k-preserved
-unfolding Passes
 loop-k-preserved c m kept fs a =
     let l = c.loop-k in
     let way = l.invariant m kept fs a in
     let below = line_below c.args.bytes.now l.k (omega (arith, c.loop-k-test.true)) in
-    let passes = c.pass.ensures m kept _ fs a (omega arith) below way in
-    subst (λ (r : Result Going Ended). Passes m c.args.state fs l.going r l.k) c.in-Ok.is passes
+    let passes = c.pass-passed.ensures m kept _ fs a (omega arith) below way in
+    passes.taken (answered_ok _ c.in_default.not-Err)
 
 pub returns : goal.returns
 returns c m kept fs a =
