@@ -18,6 +18,7 @@ use stepper::{Frame, Run};
 use threads::{Place, Thread};
 
 // The first regions of the methods: how many, and each.
+// Stays (interface): an array with its count beside it, since a library crate has no heap (a rule of the project).
 #[derive(Clone, Copy)]
 pub struct Methods {
     pub count: u8,

@@ -43,7 +43,7 @@ pub fn make_frames(
             return k;
         };
         run = slices.step(run, frame).run;
-        at = lines::put_frame(out, at, frame.thread, frame.region, frame.flag);
+        at = lines::put_frame(out, at, frame);
         last = frame.thread;
         number = next;
     }

@@ -8,10 +8,12 @@ ghost use Rattle.meaning.specs.Hex.{hex2, hex_bool};
 ghost use Rattle.meaning.specs.Lines.{hex4, refusal_line};
 ghost use Rattle.meaning.specs.Trace.{frame_line};
 ghost use Rattle.threads.specs.Held.{place_of, places_of};
+ghost use Rattle.stepper.specs.Shown.{frame_of};
 ghost use Rattle.digits.specs.Written.{Writes};
 ghost use Rattle.lines.specs.Written.{byte_of, each_at, held_line, PutsLine};
 
 use std::array;
+use stepper::Frame;
 use threads::{Place, Thread};
 
 // Two digits.
@@ -57,16 +59,16 @@ pub fn put_answer(out: &mut [u8], at: usize, number: u8, first: usize, second: u
 }
 
 // A frame's line, at a place of the buffer.
-pub fn put_frame(out: &mut [u8], at: usize, thread: u8, region: u8, flag: bool) -> usize
-    ensures { PutsLine (frame_line (record { thread = thread; region = region; flag = flag }))
-        (at + 7 ≤ length out.old) out.old at result out.new }
+pub fn put_frame(out: &mut [u8], at: usize, frame: Frame) -> usize
+    ensures { PutsLine (frame_line (frame_of frame)) (at + 7 ≤ length out.old) out.old at result
+        out.new }
 {
     if !digits::has_room(out, at, 7) {
         return at;
     }
-    let one = put2(out, at, thread);
-    let two = put2(out, one, region);
-    let three = put2(out, two, u8::from(flag));
+    let one = put2(out, at, frame.thread);
+    let two = put2(out, one, frame.region);
+    let three = put2(out, two, u8::from(frame.flag));
     put_end(out, three)
 }
 
@@ -97,6 +99,7 @@ pub fn value_bytes(values: [u16; syntax::VARIABLES]) -> [u8; syntax::VARIABLES]
 }
 
 // The places of the threads, a byte each.
+// Stays (interface): not `point::place_bytes`, whose clause (`held_byte`) says other bytes of a due region past 15.
 fn place_bytes(threads: [Thread; machine::THREADS]) -> [u8; machine::THREADS]
     ensures long { length result ≡ 16 }
     ensures each { (t : ℕ) → t < 16 → get_or result t 0 ≡ byte_of (places_of threads t) }

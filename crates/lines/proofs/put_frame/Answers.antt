@@ -6,6 +6,7 @@ use lib.ListN.{length}
 use Rattle.std.specs.Int.{from_bool}
 use Rattle.meaning.specs.Hex.{hex2, hex_bool}
 use Rattle.meaning.specs.Trace.{frame_line}
+use Rattle.stepper.specs.Shown.{frame_of}
 use Rattle.digits.proofs.Writing.{written_four, written_same}
 use Rattle.lines.proofs.Writing.{put, not_put}
 use Rattle.lines.proofs.put_frame.Goals as goal
@@ -36,8 +37,8 @@ unfolding hex2
 put_end-requires c = omega (arith, c.has_room.ensures.room c.if-not-has_room.false)
 
 pub returns : goal.returns
-unfolding frame_line hex2
+unfolding frame_line frame_of hex2
 returns c =
     put (omega (arith, c.has_room.ensures.room c.if-not-has_room.false))
-    (written_four c.put2-one.ensures c.put2-two.ensures (written_same (flag_digits c.args.flag) (rw c.from.ensures at c.put2-three.ensures))
-    c.put_end.ensures (omega (arith, flag_length c.args.flag, c.has_room.ensures.room c.if-not-has_room.false)))
+    (written_four c.put2-one.ensures c.put2-two.ensures (written_same (flag_digits c.args.frame.flag) (rw c.from.ensures at c.put2-three.ensures))
+    c.put_end.ensures (omega (arith, flag_length c.args.frame.flag, c.has_room.ensures.room c.if-not-has_room.false)))
