@@ -8,7 +8,6 @@ use native.Mathlib.Omega.{arith}
 use native.Mathlib.Numerals.{add-one}
 use lib.ListN.{length, drop, get_or, length-map, drop_of_length-le}
 use lib.Seq.{drop-cons}
-use lib.Dec.{leb}
 use borrow.Author.Tests.{le-leb, lt-leb}
 use Rattle.std.specs.Prelude.{Option, Some, None, Result, Ok, Err, IsErr, IsErrAnd, is_some}
 use Rattle.std.proofs.Common.{rules}
@@ -19,7 +18,7 @@ use Rattle.syntax.specs.Decide.Reading.{Got, got, stuck, Reader, onwards, ◌>>=
 use Rattle.syntax.specs.Decide.Reading.{at_end, read_many, read_monitor, read}
 use Rattle.syntax.proofs.Grammar.{read_spells}
 use Rattle.logic.proofs.Bools.{different}
-use Rattle.grammar.specs.Reads.{IsRead, Reads, Follows, ended, among, behind, Sees, Accepts, Tells, Expects, Spends}
+use Rattle.grammar.specs.Reads.{IsRead, Reads, Follows, ended, among, behind, Sees, Accepts, Tells, Expects}
 use Rattle.grammar.specs.declared.Stuck.{Stuck}
 
 -- Parts in turn
