@@ -214,7 +214,7 @@ pub fn load_loaded(
     rows: &StateRows,
     out: &mut [u8],
 ) -> Made
-    ensures { (file : List ℕ) → Loads file loaded rows.now.kept rows.now.holds rows.now.after
+    ensures { (file kept : List ℕ) → Loads file loaded kept rows.now.holds rows.now.after
         → CountFits threads
         → Makes (load_of file seed threads wanted out.old) result out.new }
 {

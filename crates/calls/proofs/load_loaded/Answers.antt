@@ -10,12 +10,12 @@ use Rattle.calls.proofs.Making.{no_monitor, too_short, made, zero_said, start_of
 use Rattle.calls.proofs.load_loaded.Goals as goal
 
 pub returns-then-verdict-ne0 : goal.returns-then-verdict-ne0
-returns-then-verdict-ne0 c file loads fits =
+returns-then-verdict-ne0 c file kept loads fits =
     let n = c.not_made.ensures in
     no_monitor file _ _ _ _ _ fits _ loads.verdict c.if-verdict-ne0.true n.0 n.1
 
 pub returns-then-out-wanted : goal.returns-then-out-wanted
-returns-then-out-wanted c file loads fits =
+returns-then-out-wanted c file kept loads fits =
     let d = c in
     let n = c.not_made-then-out-wanted.ensures in
     let (m, e) = monitor_of file _ loads.verdict d.if-verdict-ne0.false in
@@ -24,7 +24,7 @@ returns-then-out-wanted c file loads fits =
 
 pub returns : goal.returns
 unfolding CountFits model
-returns c file loads fits =
+returns c file kept loads fits =
     let w = c in
     let q = w in
     let d = q in

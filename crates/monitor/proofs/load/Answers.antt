@@ -30,7 +30,7 @@ unfolding bad_count threads
 returns c =
     let a = c.args in
     record {
-      makes = c.load_loaded.ensures _ (c.load-loaded.ensures.loads)
+      makes = c.load_loaded.ensures _ _ (c.load-loaded.ensures.loads)
           ((count_fits a.threads).0 c.if-threads.false);
       load_says = load_words a.file.now a.seed a.threads a.wanted a.out.now;
     }
