@@ -13,6 +13,7 @@ ghost use Rattle.meaning.specs.Model.{model};
 
 use layout::Layout;
 use machine::StateNumber;
+use point::{Notices, Point};
 use run::frames::{Going, Stop};
 use stepper::Slices;
 use variables::Bounds;
@@ -43,20 +44,30 @@ fn write_point(
 {
     let Going { run, lost } = going;
     let values = variables::values_of(bounds, run.state);
-    let bytes = point::place_bytes(run.threads.each);
+    let places = point::place_bytes(run.threads.each);
     let turns = point::turn_bytes(run.threads.each);
     let holding = sets::below(holds[(run.state % machine::STATE_END) as usize], guards);
     let now = run.plain;
     let told = sets::minus(now, plain);
-    match lost {
-        Some(_) => point::put_point(out, at, values, bytes, holding, now, told, 0, 0, 0, turns),
+    let notices = match lost {
+        Some(_) => None,
         None => {
             let woken = sets::minus(run.table, table);
-            point::put_point(
-                out, at, values, bytes, holding, now, told, 1, run.table, woken, turns,
-            )
+            Some(Notices {
+                now: run.table,
+                told: woken,
+            })
         }
-    }
+    };
+    let point = Point {
+        values,
+        places,
+        guards: holding,
+        plain: Notices { now, told },
+        table: notices,
+        turns,
+    };
+    point::put_point(out, at, &point)
 }
 
 // The points behind the first one, from a place of the buffer on.
