@@ -1,7 +1,7 @@
 -- What a loaded file says of placing its table.
 use Prim.Native.Nat.{ℕ}
 use native.Mathlib.Omega.{arith}
-use mathlib.Core.Path.{◌≡◌, refl, sym}
+use mathlib.Core.Path.{◌≡◌, refl, sym, subst}
 use mathlib.Core.Bool.{Bool, true, false}
 use mathlib.Core.List.{List}
 use lib.ListN.{length}
@@ -24,7 +24,12 @@ use Rattle.table.proofs.Monitors.{table_is}
 use Rattle.loader.specs.Loading.{Loads}
 use Rattle.loader.specs.declared.Loaded.{Loaded}
 use Rattle.calls.specs.Results.{Places, EntriesOf}
+use Rattle.calls.specs.declared.Placing.{Placing}
 use Rattle.calls.proofs.Loaded.{monitor_of, refusal_of}
+
+-- an answer, and no table
+abbrev pub Refuses : Placing → code.Answer → Type 0
+Refuses p a = (p.answer ≡ a) × (p.length ≡ 0) × (p.chosen ≡ 0) × (p.pairs ≡ 0)
 
 module _ {file : List ℕ} {l : Loaded} {kept holds after : List ℕ} (loads : Loads file l kept holds after) where
   says_accepted : (m : Monitor) → check file ≡ accepted m → Says l.answer (answer 0 0 0)
@@ -32,12 +37,18 @@ module _ {file : List ℕ} {l : Loaded} {kept holds after : List ℕ} (loads : L
   says_accepted m e = rw e at loads.verdict
 
   -- a refused file: nothing is written
-  pub not_placed : (buffer : List ℕ) → (l.answer.number ≡ 0 → ⊥)
-      → Places (place file buffer) (record { answer = l.answer; length = 0; chosen = 0; pairs = 0 }) buffer
+  pub not_placed : (buffer : List ℕ) (p : Placing) → Refuses p l.answer → (l.answer.number ≡ 0 → ⊥)
+      → Places (place file buffer) p buffer
   unfolding place Is answer_of
-  not_placed buffer other =
+  not_placed buffer p (same, length, chosen, pairs) other =
       let (a, e) = refusal_of file l.answer loads.verdict other in
-      rw (e, place) (record { answer = rw e at loads.verdict; length = refl; chosen = refl; pairs = refl; bytes = refl })
+      rw (e, place) (record {
+        answer = subst (λ (x : code.Answer). Says x a) (sym same) (rw e at loads.verdict);
+        length = length;
+        chosen = chosen;
+        pairs = pairs;
+        bytes = refl;
+      })
 
   -- an accepted file: its entries are filled, and its table is written
   module _ (z : l.answer.number ≡ 0) (entries : List ℕ) {buffer behind : List ℕ} {r : Result ℕ TooShort}
@@ -86,20 +97,19 @@ module _ {file : List ℕ} {l : Loaded} {kept holds after : List ℕ} (loads : L
               bytes = rw (t, buffer_of) at w.buffer;
             })
 
-    pub too_short : (a : code.Answer) → (a.number ≡ 10) × (a.first ≡ 0) × (a.second ≡ 0) → r ≡ Err (record {})
-        → Places (place file buffer) (record { answer = a; length = 0; chosen = 0; pairs = 0 }) behind
+    pub too_short : (a : code.Answer) → Says a (answer 10 0 0) → (p : Placing) → Refuses p a → r ≡ Err (record {})
+        → Places (place file buffer) p behind
     unfolding place written placed_of buffer_of
-    too_short a (x, y, z) at_short = rw (e, place) (go (ltb (length buffer) (length table)) refl)
+    too_short a s p (same, none, chosen, pairs) at_short = rw (e, place) (go (ltb (length buffer) (length table)) refl)
       where
         go : (b : Bool) → ltb (length buffer) (length table) ≡ b
-            → Places (written table (chosen_bits m) (pairs_of m) buffer) (record { answer = a; length = 0; chosen = 0; pairs = 0 }) behind
+            → Places (written table (chosen_bits m) (pairs_of m) buffer) p behind
         go true t =
             rw (t, written) (record {
-              answer = record { number = x; first = y; second = z };
-              length = refl;
-              chosen = refl;
-              pairs = refl;
-              bytes =
-                  rw (t, buffer_of) at w.buffer;
+              answer = subst (λ (x : code.Answer). Says x (answer 10 0 0)) (sym same) s;
+              length = none;
+              chosen = chosen;
+              pairs = pairs;
+              bytes = rw (t, buffer_of) at w.buffer;
             })
-        go false t = let s : r ≡ Ok (length table) = rw (t, placed_of) at w.answer in different (cc)
+        go false t = let other : r ≡ Ok (length table) = rw (t, placed_of) at w.answer in different (cc)

@@ -11,8 +11,8 @@ ghost use Rattle.demands.specs.Load.{CountFits};
 ghost use Rattle.loader.specs.Loading.{Loads};
 ghost use Rattle.calls.specs.Results.{Places, Points, Makes, Agrees, EntriesOf, start_of};
 
-use answers::Answer;
-use loader::Loaded;
+use answers::{Answer, Refusal};
+use loader::{Loaded, StateRows};
 use machine::StateNumber;
 use run::{Both, Running};
 use stepper::Slices;
@@ -48,13 +48,8 @@ pub struct Made {
 }
 
 // The entries of an accepted file's table, from what was loaded of it.
-fn entries_of(
-    loaded: Loaded,
-    kept: &[u8; machine::STATES],
-    holds: &[u16; machine::STATES],
-    after: &[StateNumber; machine::AFTER],
-) -> [u8; machine::ENTRIES]
-    ensures { (file : List ℕ) → Loads file loaded kept.now holds.now after.now
+fn entries_of(loaded: Loaded, rows: &StateRows) -> [u8; machine::ENTRIES]
+    ensures { (file : List ℕ) → Loads file loaded rows.now.kept rows.now.holds rows.now.after
         → EntriesOf file result }
 {
     let bounds = loaded.bounds;
@@ -63,9 +58,9 @@ fn entries_of(
     let touched = loaded.touched;
     let mut entries = [0u8; machine::ENTRIES];
     entries::fill_entries(
-        kept,
-        holds,
-        after,
+        &rows.kept,
+        &rows.holds,
+        &rows.after,
         &guard_of,
         &touched,
         bounds.states,
@@ -76,40 +71,35 @@ fn entries_of(
     entries
 }
 
+// A refusal, with no table.
+fn not_placed(answer: Answer) -> Placing
+    ensures { (result.answer ≡ answer) × (result.length ≡ 0) × (result.chosen ≡ 0) × (result.pairs ≡ 0) }
+{
+    Placing {
+        answer,
+        length: 0,
+        chosen: 0,
+        pairs: 0,
+    }
+}
+
 // The table of what was loaded from byte 0 of a lent buffer; of a refused file not a byte of the buffer changes.
-pub fn place_loaded(
-    loaded: Loaded,
-    kept: &[u8; machine::STATES],
-    holds: &[u16; machine::STATES],
-    after: &[StateNumber; machine::AFTER],
-    table: &mut [u8],
-) -> Placing
-    ensures { (file : List ℕ) → Loads file loaded kept.now holds.now after.now
+pub fn place_loaded(loaded: Loaded, rows: &StateRows, table: &mut [u8]) -> Placing
+    ensures { (file : List ℕ) → Loads file loaded rows.now.kept rows.now.holds rows.now.after
         → Places (place file table.old) result table.new }
 {
     let verdict = loaded.answer;
     if verdict.number != 0 {
-        return Placing {
-            answer: verdict,
-            length: 0,
-            chosen: 0,
-            pairs: 0,
-        };
+        return not_placed(verdict);
     }
     let layout = loaded.layout;
-    let choice = loaded.choice;
-    let entries = entries_of(loaded, kept, holds, after);
+    let entries = entries_of(loaded, rows);
     match table::write_table(&entries, layout.regions, layout.guards, table) {
-        Err(TooShort) => Placing {
-            answer: answers::say(10, 0, 0),
-            length: 0,
-            chosen: 0,
-            pairs: 0,
-        },
+        Err(TooShort) => not_placed(Answer::from(Refusal::BufferTooShort)),
         Ok(length) => Placing {
             answer: verdict,
             length,
-            chosen: choice.chosen,
+            chosen: loaded.choice.chosen,
             pairs: loaded.pairs,
         },
     }
@@ -125,20 +115,12 @@ pub fn start_of(loaded: Loaded) -> usize
         return 0;
     }
     let bounds = loaded.bounds;
-    let starts = bounds.starts;
-    variables::number_of(bounds, starts) as usize
+    usize::from(variables::number_of(bounds, bounds.starts))
 }
 
 // Both machines over what was loaded of a file: its refusal, or the runs of the trace from a start state.
-pub fn both_loaded(
-    loaded: Loaded,
-    bytes: &[u8],
-    start: usize,
-    kept: &[u8; machine::STATES],
-    holds: &[u16; machine::STATES],
-    after: &[StateNumber; machine::AFTER],
-) -> Both
-    ensures { (file : List ℕ) → Loads file loaded kept.now holds.now after.now
+pub fn both_loaded(loaded: Loaded, bytes: &[u8], start: usize, rows: &StateRows) -> Both
+    ensures { (file : List ℕ) → Loads file loaded rows.now.kept rows.now.holds rows.now.after
         → Agrees file bytes.now start result.plain result.table }
 {
     let verdict = loaded.answer;
@@ -149,10 +131,19 @@ pub fn both_loaded(
             of_file: true,
         });
     }
-    let entries = entries_of(loaded, kept, holds, after);
+    let entries = entries_of(loaded, rows);
     let bounds = loaded.bounds;
     let layout = loaded.layout;
-    run::run_from(bounds, layout, bytes, start, kept, holds, after, &entries)
+    run::run_from(
+        bounds,
+        layout,
+        bytes,
+        start,
+        &rows.kept,
+        &rows.holds,
+        &rows.after,
+        &entries,
+    )
 }
 
 // One answer for both machines, and no point.
@@ -171,12 +162,10 @@ pub fn points_loaded(
     loaded: Loaded,
     bytes: &[u8],
     start: usize,
-    kept: &[u8; machine::STATES],
-    holds: &[u16; machine::STATES],
-    after: &[StateNumber; machine::AFTER],
+    rows: &StateRows,
     out: &mut [u8],
 ) -> Pointing
-    ensures { (file : List ℕ) → Loads file loaded kept.now holds.now after.now
+    ensures { (file : List ℕ) → Loads file loaded rows.now.kept rows.now.holds rows.now.after
         → Points (points_of file bytes.now start out.old) result out.new }
 {
     let verdict = loaded.answer;
@@ -184,21 +173,21 @@ pub fn points_loaded(
         return no_points(verdict);
     }
     if out.len() / point::POINT <= bytes.len() / trace::FRAME {
-        return no_points(answers::say(10, 0, 0));
+        return no_points(Answer::from(Refusal::BufferTooShort));
     }
     let bounds = loaded.bounds;
     let layout = loaded.layout;
-    if let Err(refusal) = run::admit(bounds, bytes, start, kept) {
+    if let Err(refusal) = run::admit(bounds, bytes, start, &rows.kept) {
         return no_points(Answer::from(refusal));
     }
-    let entries = entries_of(loaded, kept, holds, after);
+    let entries = entries_of(loaded, rows);
     let written = points::write_points(
         bounds,
         layout,
         bytes,
         start as StateNumber,
-        holds,
-        after,
+        &rows.holds,
+        &rows.after,
         &entries,
         out,
     );
@@ -213,10 +202,7 @@ pub fn points_loaded(
 fn not_made(answer: Answer) -> Made
     ensures { (result.answer ≡ answer) × (result.count ≡ 0) }
 {
-    Made {
-        answer: answer,
-        count: 0,
-    }
+    Made { answer, count: 0 }
 }
 
 // A load over what was loaded of a file: its refusal, 10, or the frames that are made, of so many threads, and their lines.
@@ -225,11 +211,10 @@ pub fn load_loaded(
     seed: u32,
     threads: u8,
     wanted: usize,
-    holds: &[u16; machine::STATES],
-    after: &[StateNumber; machine::AFTER],
+    rows: &StateRows,
     out: &mut [u8],
 ) -> Made
-    ensures { (file kept : List ℕ) → Loads file loaded kept holds.now after.now
+    ensures { (file : List ℕ) → Loads file loaded rows.now.kept rows.now.holds rows.now.after
         → CountFits threads
         → Makes (load_of file seed threads wanted out.old) result out.new }
 {
@@ -238,14 +223,13 @@ pub fn load_loaded(
         return not_made(verdict);
     }
     if out.len() / trace::FRAME < wanted {
-        return not_made(answers::say(10, 0, 0));
+        return not_made(Answer::from(Refusal::BufferTooShort));
     }
     let bounds = loaded.bounds;
     let layout = loaded.layout;
-    let starts = bounds.starts;
     let slices = Slices {
-        holds,
-        after,
+        holds: &rows.holds,
+        after: &rows.after,
         guard_of: &layout.guard_of,
         begins: &layout.begins,
         goes_on: &layout.goes_on,
@@ -256,12 +240,12 @@ pub fn load_loaded(
         seed,
         threads,
         wanted,
-        variables::number_of(bounds, starts),
+        variables::number_of(bounds, bounds.starts),
         &slices,
         out,
     );
     Made {
         answer: verdict,
-        count: count,
+        count,
     }
 }

@@ -1,6 +1,6 @@
 -- What a loaded file says of its check: of a refused one nothing more, of an accepted one all that the slices hold; and
 -- slices that are left as they were.
-use Prim.Native.Nat.{ℕ, zero, suc, ◌≤◌}
+use Prim.Native.Nat.{ℕ, ◌≤◌}
 use native.Mathlib.Omega.{arith}
 use mathlib.Core.Path.{◌≡◌, refl, sym, subst, ap, ◌∙◌}
 use mathlib.Core.Bool.{true, false}
@@ -29,18 +29,20 @@ use Rattle.layout.specs.declared.Layout.{Layout}
 use Rattle.layout.specs.declared.Tries.{Tries}
 use Rattle.states.proofs.Holding.{held}
 use Rattle.answers.specs.Says.{Says, Is, answer_of}
+use Rattle.answers.specs.Numbered.{numbered}
 use Rattle.answers.specs.declared.Answer as code
+use Rattle.answers.specs.declared.Refusal.{Refusal}
+use Rattle.answers.specs.declared.Refusal.TheVariants.{TooLong, NoToken, NoRemainder}
+use Rattle.std.specs.Prelude.{Result, Ok, Err}
+use Rattle.std.specs.Result.{IsErrAnd}
 use Rattle.layout.proofs.Same.{lexemes_length}
 use Rattle.judging.proofs.Refusals.{kinds_of, says_15, says_8, says_9, says_0}
 use Rattle.divisors.specs.Coded.{Coded}
 use Rattle.judging.proofs.Counts.{few_tokens, few_parts}
 use Rattle.loader.proofs.Names.{codes}
 use Rattle.loader.proofs.Flags.{held_places}
-use Rattle.std.specs.Prelude.{Ok, Err}
-use Rattle.answers.specs.Numbered.{numbered}
-use Rattle.answers.specs.declared.Refusal.{Refusal}
 use Rattle.judging.specs.Judging.{Past7, Judges}
-use Rattle.loader.specs.Loading.{Chosen, Monitored, Loads}
+use Rattle.loader.specs.Loading.{Chosen, Monitored, Loads, LoadsOr, Early}
 use Rattle.sets.specs.Set.{size}
 use Rattle.meaning.specs.Decide.Touch.{sum_of, pairs_of}
 use Rattle.mentions.specs.Mentioned as mentions
@@ -48,15 +50,11 @@ use Rattle.mentions.specs.declared.Mentions.{Mentions}
 use Rattle.mentions.proofs.Counted.{pairs_counted}
 use Rattle.mentions.proofs.GuardsAt.{few_guards}
 use Rattle.rows.specs.Filling.{Filling}
-use Rattle.filling.specs.Filling.{Filled, Rows}
+use Rattle.filling.specs.Filling.{Filled, Rows, Leaves}
 use Rattle.judging.specs.declared.Judged.{Judged}
 use Rattle.filling.specs.declared.Settled.{Settled}
 use Rattle.loader.specs.declared.Loaded.{Loaded}
 use Rattle.filling.proofs.Fills.{numbers_of}
-
--- the number of an answer by which nothing more is known of a file: that of 1 to 7, or 15
-abbrev Early : ℕ → Type 0
-Early n = (n ≡ 0 → ⊥) × (n ≡ 8 → ⊥) × (n ≡ 9 → ⊥)
 
 -- such an answer is that of no file that passes these checks
 not_passed : (file : List ℕ) (l : Loaded) → Early l.answer.number → Is l.answer (check file)
@@ -85,31 +83,53 @@ is_refused : (file : List ℕ) {r : code.Answer} {a : Answer} → check file ≡
 unfolding Is answer_of
 is_refused file e s = rw e s
 
--- 1, 2 and 15
-pub loads_said : (file : List ℕ) (l : Loaded) (kept holds after : List ℕ) {r : code.Answer} (n : ℕ) {k : ℕ} → Early n
-    → l.answer ≡ r
-    → (r.number ≡ n) × (r.first ≡ k) × (r.second ≡ 0) → check file ≡ refused (answer n k 0)
-    → Loads file l kept holds after
-loads_said file l kept holds after n early same (a, b, c) e =
-    let is = ap (λ (x : code.Answer). x.number) same ∙ a in
+-- 1 to 7 and 15, of what is not loaded
+pub loads_early : (file : List ℕ) (l : Loaded) (kept holds after : List ℕ) {r : code.Answer} (f : Refusal) → l.answer ≡ r
+    → Says r (numbered f) → LoadsOr file (Err f) kept holds after → Loads file l kept holds after
+unfolding LoadsOr
+loads_early file l kept holds after f same s (early, e) =
+    let is = ap (λ (x : code.Answer). x.number) same ∙ s.number in
     loads_refused file l kept holds after (subst Early (sym is) early)
-    (subst (λ (x : code.Answer). Is x (check file)) (sym same)
-    (is_refused file e (record { number = a; first = b; second = c })))
+    (subst (λ (x : code.Answer). Is x (check file)) (sym same) (is_refused file e s))
 
--- the answer of 3 to 7
-module _ (file : List ℕ) (ts : List Token) where
-  pub loads_judged : (l : Loaded) (kept holds after : List ℕ) {a : code.Answer} (r : Refusal) → l.answer ≡ a
-      → Says a (numbered r) → Judges file ts (Err r) → Loads file l kept holds after
-  unfolding Judges
-  loads_judged l kept holds after {a} r same says (least, most, e) =
-      let said : Says l.answer (numbered r) = subst (λ (x : code.Answer). Says x (numbered r)) (sym same) says in
-      loads_refused file l kept holds after
-      (subst Early (sym said.number) ((λ z. omega arith), (λ z. omega arith), λ z. omega arith))
-      (is_refused file e said)
+pub leaves_early : (l : Loaded) {r : code.Answer} (f : Refusal) {a b c d e g : List ℕ} → l.answer ≡ r → Says r (numbered f)
+    → Leaves (numbered f).number a b c d e g → Leaves l.answer.number a b c d e g
+leaves_early l f {a} {b} {c} {d} {e} {g} same s h =
+    subst (λ (n : ℕ). Leaves n a b c d e g) (sym (ap (λ (x : code.Answer). x.number) same ∙ s.number)) h
 
-  pub judged_tree : {j : Judged} → Judges file ts (Ok j) → (m : Monitor) × Past7 ts m j
-  unfolding Judges
-  judged_tree q = q
+-- 1 and 2
+pub too_long : (file kept holds after : List ℕ) → check file ≡ refused (answer 1 0 0)
+    → LoadsOr file (Err TooLong) kept holds after
+unfolding LoadsOr
+too_long file kept holds after e = (((λ z. omega arith), (λ z. omega arith), λ z. omega arith), e)
+
+pub no_token : (file kept holds after : List ℕ) (k : ℕ) → check file ≡ refused (answer 2 k 0)
+    → LoadsOr file (Err (NoToken k)) kept holds after
+unfolding LoadsOr
+no_token file kept holds after k e = (((λ z. omega arith), (λ z. omega arith), λ z. omega arith), e)
+
+-- 3 to 7
+pub judged_early : (file : List ℕ) (ts : List Token) (r : Refusal) (kept holds after : List ℕ) → Judges file ts (Err r)
+    → LoadsOr file (Err r) kept holds after
+unfolding LoadsOr Judges
+judged_early file ts r kept holds after (low, high, e) =
+    (((λ z. omega arith), (λ z. omega arith), λ z. omega arith), e)
+
+-- a refusal that `?` hands on
+pub same_refusal : (file : List ℕ) (x : Result Loaded Refusal) (r : Refusal) (kept holds after : List ℕ)
+    → IsErrAnd x (λ e. e ≡ r) → LoadsOr file (Err r) kept holds after → LoadsOr file x kept holds after
+same_refusal file (Ok l) r kept holds after e h = absurd e
+same_refusal file (Err f) r kept holds after e h =
+    subst (λ (y : Refusal). LoadsOr file (Err y) kept holds after) (sym e) h
+
+pub judged_tree : (file : List ℕ) (ts : List Token) (j : Judged) → Judges file ts (Ok j) → (m : Monitor) × Past7 ts m j
+unfolding Judges
+judged_tree file ts j q = q
+
+pub loaded_said : (file : List ℕ) (l : Loaded) (kept holds after : List ℕ) → LoadsOr file (Ok l) kept holds after
+    → Loads file l kept holds after
+unfolding LoadsOr
+loaded_said file l kept holds after q = q
 
 module _ {file : List ℕ} {ts : List Token} {kinds values places : List ℕ} (w : Words file ts kinds values places)
     (m : Monitor) (j : Judged)
@@ -168,12 +188,13 @@ module _ {file : List ℕ} {ts : List Token} {kinds values places : List ℕ} (w
       }
 
   -- 15, at a place that was found
-  pub loads_15 : (l : Loaded) (kept holds after : List ℕ) {r : code.Answer} {k i : ℕ} → l.answer ≡ r
-      → (r.number ≡ 15) × (r.first ≡ i) × (r.second ≡ 0) → i ≡ k → unvalued (vars m) false ts ≡ some k
-      → Loads file l kept holds after
-  loads_15 l kept holds after same (a, b, c) e u =
-      loads_said file l kept holds after 15 ((λ z. omega arith), (λ z. omega arith), λ z. omega arith) same (a, b ∙ e, c)
-      (says_15 w p.uncrowded m p.grammar p.counts p.names p.ranges u)
+  pub loads_15 : (kept holds after : List ℕ) {k i : ℕ} → i ≡ k → unvalued (vars m) false ts ≡ some k
+      → LoadsOr file (Err (NoRemainder i)) kept holds after
+  unfolding LoadsOr
+  loads_15 kept holds after e u = (
+    ((λ z. omega arith), (λ z. omega arith), λ z. omega arith),
+    says_15 w p.uncrowded m p.grammar p.counts p.names p.ranges u ∙ ap (λ (b : ℕ). refused (answer 15 b 0)) (sym e),
+  )
 
   -- what is known of its names
   pub resolved : {l : Layout} {t : Tries} {linked : List ℕ} → Filling m (lexemes ts) kinds linked j.bounds l t
@@ -256,9 +277,9 @@ module _ {file : List ℕ} {ts : List Token} {kinds values places : List ℕ} (w
               });
         }
 
-    pub loads : Loads file loaded kept holds after
+    all : Loads file loaded kept holds after
     unfolding regions
-    loads =
+    all =
         split (kept_at m (starts (vars m))) (λ on. go on (broken m) refl)
         (λ off. refuses (says_8 w p.uncrowded m p.grammar p.counts p.names p.ranges valued
         j.keep p.keep_stands off)
@@ -270,3 +291,7 @@ module _ {file : List ℕ} {ts : List Token} {kinds values places : List ℕ} (w
             refuses (says_9 w p.uncrowded m p.grammar p.counts p.names p.ranges valued on e)
             ((filled.settles on).breaks k n e)
         go on none e = accepts on e (says_0 w p.uncrowded m p.grammar p.counts p.names p.ranges valued on e)
+
+    pub loads : LoadsOr file (Ok loaded) kept holds after
+    unfolding LoadsOr
+    loads = all

@@ -1,10 +1,10 @@
 -- What loading a file says of its check: the answer, and of an accepted file all that the table and the machines look
 -- up.
-use Rattle.std.specs.Prelude.{ℕ, ◌≡◌, true, List, length}
+use Rattle.std.specs.Prelude.{ℕ, ◌≡◌, true, List, length, Result, Ok, Err}
 use Rattle.syntax.specs.Token.{Token, lexemes}
 use Rattle.syntax.specs.Tree.{Monitor}
 use Rattle.machine.specs.Held.{Held, HeldPlaces}
-use Rattle.meaning.specs.Answer.{accepted}
+use Rattle.meaning.specs.Answer.{accepted, refused}
 use Rattle.meaning.specs.Decide.Check.{check}
 use Rattle.meaning.specs.Model.{vars, regions, guards, model}
 use Rattle.meaning.specs.State.{starts}
@@ -17,6 +17,8 @@ use Rattle.choice.specs.Chosen.{Chooses}
 use Rattle.mentions.specs.Mentioned.{TouchedSets}
 use Rattle.filling.specs.Filling.{Rows}
 use Rattle.answers.specs.Says.{Is}
+use Rattle.answers.specs.Numbered.{numbered}
+use Rattle.answers.specs.declared.Refusal.{Refusal}
 use Rattle.loader.specs.declared.Loaded.{Loaded}
 
 -- how many tries there are, and the choice among them
@@ -44,3 +46,17 @@ pub record Loads (file : List ℕ) (l : Loaded) (kept holds after : List ℕ) : 
       → Bounded (vars m) l.bounds × Laid m (lexemes ts) l.layout
   pub rows : (ts : List Token) (m : Monitor) → words.Past15 file ts m → kept_at m (starts (vars m)) ≡ true
       → Rows m kept holds after × Chosen m l
+
+-- the number of an answer by which nothing more is known of a file: that of 1 to 7, or 15
+abbrev pub Early : ℕ → Type 0
+Early n = (n ≡ 0 → ⊥) × (n ≡ 8 → ⊥) × (n ≡ 9 → ⊥)
+
+-- what was loaded, or a refusal by which nothing more is known
+unfoldable pub LoadsOr : List ℕ → Result Loaded Refusal → List ℕ → List ℕ → List ℕ → Type 0
+LoadsOr file (Ok l) kept holds after = Loads file l kept holds after
+LoadsOr file (Err r) kept holds after = Early (numbered r).number × (check file ≡ refused (numbered r))
+
+-- the number of the answer, either way
+abbrev pub number_of : Result Loaded Refusal → ℕ
+number_of (Ok l) = l.answer.number
+number_of (Err r) = (numbered r).number

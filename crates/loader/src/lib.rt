@@ -8,9 +8,9 @@ ghost use Rattle.syntax.specs.Token.{Token};
 ghost use Rattle.syntax.specs.Tree.{Monitor};
 ghost use Rattle.judging.specs.Judging.{Past7};
 ghost use Rattle.filling.specs.Filling.{Leaves};
-ghost use Rattle.loader.specs.Loading.{Loads};
+ghost use Rattle.loader.specs.Loading.{Loads, LoadsOr, number_of};
 
-use answers::Answer;
+use answers::{Answer, Refusal};
 use choice::Choice;
 use judging::Judged;
 use layout::Layout;
@@ -34,7 +34,7 @@ fn not_loaded(answer: Answer) -> Loaded
     ensures { result.answer ≡ answer }
 {
     Loaded {
-        answer: answer,
+        answer,
         bounds: variables::no_bounds(),
         layout: layout::empty(0),
         tries: 0,
@@ -42,13 +42,6 @@ fn not_loaded(answer: Answer) -> Loaded
         touched: [0u16; machine::REGIONS],
         pairs: 0,
     }
-}
-
-// A place as an index; as a call it asks no proof that it fits.
-fn wide(x: u16) -> usize
-    ensures { result ≡ x }
-{
-    x as usize
 }
 
 // 15, 8 and 9, over the tokens of a file that passed 3 to 7; into `operands` goes what the evaluator looks up at each.
@@ -62,23 +55,27 @@ fn load_judged(
     kept: &mut [u8],
     holds: &mut [u16],
     after: &mut [u16],
-) -> Loaded
+) -> Result<Loaded, Refusal>
     ensures loads { (ts : List Token) (m : Monitor)
         → Words file.now ts kinds.now values.now places.now
         → Past7 ts m judged → length operands.old ≡ length ts
         → most_states ≤ length kept.old → most_states ≤ length holds.old
         → most_after ≤ length after.old
-        → Loads file.now result kept.new holds.new after.new }
-    ensures leaves { Leaves result.answer.number kept.old holds.old after.old
+        → LoadsOr file.now result kept.new holds.new after.new }
+    ensures leaves { Leaves (number_of result) kept.old holds.old after.old
         kept.new holds.new after.new }
 {
-    let keep = judged.keep;
-    let bounds = judged.bounds;
+    let Judged { keep, bounds } = judged;
     names::resolve(file, kinds, values, places, operands);
     layout::link_braces(kinds, operands);
-    let lows = bounds.lows;
-    if let Some(k) = divisors::find_unvalued(kinds, operands, places, lows, bounds.count) {
-        return not_loaded(answers::say(15, wide(k), 0));
+    if let Some(place) = divisors::find_unvalued(
+        kinds,
+        operands,
+        places,
+        bounds.lows,
+        bounds.count,
+    ) {
+        return Err(Refusal::NoRemainder(usize::from(place)));
     }
     let tries = layout::tries_of(kinds, keep);
     let layout = layout::lay_out(file, kinds, values, places, keep, tries.next);
@@ -95,46 +92,44 @@ fn load_judged(
         holds,
         after,
     );
-    let answer = last.answer;
-    let choice = last.choice;
     let touched = mentions.touched;
-    Loaded {
-        answer: answer,
-        bounds: bounds,
-        layout: layout,
+    Ok(Loaded {
+        answer: last.answer,
+        bounds,
+        layout,
         tries: tries.count,
-        choice: choice,
-        touched: touched,
+        choice: last.choice,
+        touched,
         pairs: mentions::pairs_of(touched, layout.regions),
-    }
+    })
 }
 
-// 3 to 9 and 15, over a file's tokens. A file that passed 3 has no more tokens than `operands` has room for.
-fn load_tokens(
+// 1 to 9 and 15: an error where nothing more is known of the file, by 1 to 7 and 15. A file that passed 3 has no more
+// tokens than `operands` has room for.
+fn load_scanned(
     file: &[u8],
-    kinds: &[u8],
-    values: &[u16],
-    places: &[u16],
     kept: &mut [u8],
     holds: &mut [u16],
     after: &mut [u16],
-) -> Loaded
-    ensures loads { (ts : List Token)
-        → Words file.now ts kinds.now values.now places.now
-        → most_states ≤ length kept.old → most_states ≤ length holds.old
+) -> Result<Loaded, Refusal>
+    ensures loads { most_states ≤ length kept.old → most_states ≤ length holds.old
         → most_after ≤ length after.old
-        → Loads file.now result kept.new holds.new after.new }
-    ensures leaves { Leaves result.answer.number kept.old holds.old after.old
+        → LoadsOr file.now result kept.new holds.new after.new }
+    ensures leaves { Leaves (number_of result) kept.old holds.old after.old
         kept.new holds.new after.new }
 {
-    let judged = match judging::judge(file, kinds, values, places) {
-        Ok(judged) => judged,
-        Err(refusal) => return not_loaded(Answer::from(refusal)),
+    let mut kinds = [0u8; syntax::FILE_BYTES];
+    let mut values = [0u16; syntax::FILE_BYTES];
+    let mut places = [0u16; syntax::FILE_BYTES];
+    let n = match tokens::scan(file, &mut kinds, &mut values, &mut places) {
+        Ok(n) => n,
+        Err(ScanError::TooLong) => return Err(Refusal::TooLong),
+        Err(ScanError::NoToken(byte)) => return Err(Refusal::NoToken(byte)),
     };
-    let n = kinds.len();
-    if syntax::TOKENS < n {
-        return not_loaded(Answer::accepted());
-    }
+    let kinds = &kinds[..n];
+    let values = &values[..n];
+    let places = &places[..n];
+    let judged = judging::judge(file, kinds, values, places)?;
     let mut operands = [0u16; syntax::TOKENS];
     load_judged(
         file,
@@ -158,20 +153,34 @@ pub fn load(file: &[u8], kept: &mut [u8], holds: &mut [u16], after: &mut [u16]) 
     ensures leaves { Leaves result.answer.number kept.old holds.old after.old
         kept.new holds.new after.new }
 {
-    let mut kinds = [0u8; syntax::FILE_BYTES];
-    let mut values = [0u16; syntax::FILE_BYTES];
-    let mut places = [0u16; syntax::FILE_BYTES];
-    match tokens::scan(file, &mut kinds, &mut values, &mut places) {
-        Err(ScanError::TooLong) => not_loaded(answers::say(1, 0, 0)),
-        Err(ScanError::NoToken(k)) => not_loaded(answers::say(2, k, 0)),
-        Ok(n) => load_tokens(
-            file,
-            &kinds[..n],
-            &values[..n],
-            &places[..n],
-            kept,
-            holds,
-            after,
-        ),
+    match load_scanned(file, kept, holds, after) {
+        Ok(loaded) => loaded,
+        Err(refusal) => not_loaded(Answer::from(refusal)),
+    }
+}
+
+// What loading fills: of each state whether it is kept and which guards hold, and where each region leads from it.
+#[derive(Drop)]
+pub struct StateRows {
+    pub kept: [u8; machine::STATES],
+    pub holds: [u16; machine::STATES],
+    pub after: [u16; machine::AFTER],
+}
+
+impl StateRows {
+    // Rows that nothing was loaded into.
+    pub const EMPTY: StateRows = StateRows {
+        kept: [0u8; machine::STATES],
+        holds: [0u16; machine::STATES],
+        after: [0u16; machine::AFTER],
+    };
+
+    // Loads a file into the rows.
+    pub fn load(&mut self, file: &[u8]) -> Loaded
+        ensures loads { Loads file.now result self.new.kept self.new.holds self.new.after }
+        ensures leaves { Leaves result.answer.number self.old.kept self.old.holds self.old.after
+            self.new.kept self.new.holds self.new.after }
+    {
+        load(file, &mut self.kept, &mut self.holds, &mut self.after)
     }
 }

@@ -11,30 +11,26 @@ ghost use Rattle.meaning.specs.Points.{points_of};
 ghost use Rattle.meaning.specs.Decide.Load.{load_of};
 ghost use Rattle.calls.specs.Results.{Places, Points, PointsSay, Makes, LoadSays, Agrees, start_of, Starts};
 
-use answers::Answer;
+use answers::{Answer, Refusal};
 use calls::{Made, Placing, Pointing};
+use loader::StateRows;
 use run::{Both, Running};
 
 // The verdict of a file: 0, or a refusal from 1 to 9, or 15, with its places.
 pub fn check(file: &[u8]) -> Answer
     ensures { Is result (meaning.check file.now) }
 {
-    let mut kept = [0u8; machine::STATES];
-    let mut holds = [0u16; machine::STATES];
-    let mut after = [0u16; machine::AFTER];
-    let loaded = loader::load(file, &mut kept, &mut holds, &mut after);
-    loaded.answer
+    let mut rows = StateRows::EMPTY;
+    rows.load(file).answer
 }
 
 // The table of a file from byte 0 of a lent buffer; refused, not a byte of the buffer changes.
 pub fn place(file: &[u8], table: &mut [u8]) -> Placing
     ensures { Places (meant.place file.now table.old) result table.new }
 {
-    let mut kept = [0u8; machine::STATES];
-    let mut holds = [0u16; machine::STATES];
-    let mut after = [0u16; machine::AFTER];
-    let loaded = loader::load(file, &mut kept, &mut holds, &mut after);
-    calls::place_loaded(loaded, &kept, &holds, &after, table)
+    let mut rows = StateRows::EMPTY;
+    let loaded = rows.load(file);
+    calls::place_loaded(loaded, &rows, table)
 }
 
 // A run of a trace from a start state on the plain machine or, where `table` is true, on the table's.
@@ -49,11 +45,9 @@ pub fn run(file: &[u8], bytes: &[u8], start: usize, table: bool) -> Running
 pub fn run_both(file: &[u8], bytes: &[u8], start: usize) -> Both
     ensures { Agrees file.now bytes.now start result.plain result.table }
 {
-    let mut kept = [0u8; machine::STATES];
-    let mut holds = [0u16; machine::STATES];
-    let mut after = [0u16; machine::AFTER];
-    let loaded = loader::load(file, &mut kept, &mut holds, &mut after);
-    calls::both_loaded(loaded, bytes, start, &kept, &holds, &after)
+    let mut rows = StateRows::EMPTY;
+    let loaded = rows.load(file);
+    calls::both_loaded(loaded, bytes, start, &rows)
 }
 
 // Both machines on one trace, from the start values.
@@ -61,22 +55,18 @@ pub fn run_both_from_start(file: &[u8], bytes: &[u8]) -> Both
     ensures { Agrees file.now bytes.now (start_of (meaning.check file.now))
         result.plain result.table }
 {
-    let mut kept = [0u8; machine::STATES];
-    let mut holds = [0u16; machine::STATES];
-    let mut after = [0u16; machine::AFTER];
-    let loaded = loader::load(file, &mut kept, &mut holds, &mut after);
+    let mut rows = StateRows::EMPTY;
+    let loaded = rows.load(file);
     let start = calls::start_of(loaded);
-    calls::both_loaded(loaded, bytes, start, &kept, &holds, &after)
+    calls::both_loaded(loaded, bytes, start, &rows)
 }
 
 // The number of the state at the start values of an accepted file; 0 of a refused one.
 pub fn start_state(file: &[u8]) -> usize
     ensures { Starts file.now result }
 {
-    let mut kept = [0u8; machine::STATES];
-    let mut holds = [0u16; machine::STATES];
-    let mut after = [0u16; machine::AFTER];
-    let loaded = loader::load(file, &mut kept, &mut holds, &mut after);
+    let mut rows = StateRows::EMPTY;
+    let loaded = rows.load(file);
     calls::start_of(loaded)
 }
 
@@ -87,11 +77,9 @@ pub fn points(file: &[u8], bytes: &[u8], start: usize, out: &mut [u8]) -> Pointi
         out.new }
     ensures points_say { PointsSay file.now bytes.now start out.old }
 {
-    let mut kept = [0u8; machine::STATES];
-    let mut holds = [0u16; machine::STATES];
-    let mut after = [0u16; machine::AFTER];
-    let loaded = loader::load(file, &mut kept, &mut holds, &mut after);
-    calls::points_loaded(loaded, bytes, start, &kept, &holds, &after, out)
+    let mut rows = StateRows::EMPTY;
+    let loaded = rows.load(file);
+    calls::points_loaded(loaded, bytes, start, &rows, out)
 }
 
 // A repeatable load from the start values: up to so many frames that the plain machine allows to the first so many threads,
@@ -102,13 +90,11 @@ pub fn load(file: &[u8], seed: u32, threads: usize, wanted: usize, out: &mut [u8
 {
     if (threads == 0) | (machine::THREADS < threads) {
         return Made {
-            answer: answers::say(16, 0, 0),
+            answer: Answer::from(Refusal::ThreadCount),
             count: 0,
         };
     }
-    let mut kept = [0u8; machine::STATES];
-    let mut holds = [0u16; machine::STATES];
-    let mut after = [0u16; machine::AFTER];
-    let loaded = loader::load(file, &mut kept, &mut holds, &mut after);
-    calls::load_loaded(loaded, seed, threads as u8, wanted, &holds, &after, out)
+    let mut rows = StateRows::EMPTY;
+    let loaded = rows.load(file);
+    calls::load_loaded(loaded, seed, threads as u8, wanted, &rows, out)
 }

@@ -1,11 +1,12 @@
 -- What was read stands for what was handed in: by how much of an input decides.
-use Prim.Native.Nat.{ℕ, ◌<◌}
+use Prim.Native.Nat.{ℕ, ◌<◌, ◌≤◌}
 use native.Mathlib.Omega.{arith}
 use mathlib.Core.Path.{◌≡◌, sym, ap, subst, ◌∙◌}
 use mathlib.Core.List.{List}
 use lib.ListN.{length, take}
 use lib.Dec.{ltb}
-use lib.Seq.{length-take-le, take_all}
+use mathlib.Core.Logic.{◌⊎◌, inl, inr}
+use lib.Seq.{length-take-le, take_all, take-take}
 use borrow.Author.Tests.{ltb-true, ltb-false}
 use Rattle.logic.proofs.Bools.{split}
 use Rattle.syntax.specs.Limits.{most_bytes}
@@ -46,8 +47,11 @@ short_whole {frames} {buffer} {n} r h =
     absurd (omega arith))
     (λ x. sym r.bytes ∙ take_all most frames (ltb-false most (length frames) x))
 
--- a trace that is read as far as it is judged
-pub long_judged : {frames buffer : List ℕ} {n : ℕ} → Read frames n buffer → length buffer ≡ trace_bytes → (file : List ℕ)
-    → runner file (take n buffer) ≡ runner file frames
-long_judged {frames} r size file =
-    ap (runner file) (sym r.bytes ∙ ap (λ k. take k frames) size) ∙ runner_cut file frames
+-- a trace of which a buffer has all, since it is not full, or as much as it is judged by
+pub judged : {frames buffer : List ℕ} {n : ℕ} → Read frames n buffer → (n < length buffer) ⊎ (trace_bytes ≤ length buffer)
+    → (file : List ℕ) → runner file (take n buffer) ≡ runner file frames
+judged r (inl h) file = ap (runner file) (short_whole r h)
+judged {frames} {buffer} r (inr h) file =
+    let most = length buffer in
+    ap (runner file) (sym r.bytes) ∙ sym (runner_cut file (take most frames))
+    ∙ ap (runner file) (take-take trace_bytes most frames h) ∙ runner_cut file frames

@@ -5,10 +5,6 @@ use Rattle.std.specs.Prelude.{ℕ, ◌≤◌, ◌≡◌, List, ◌++◌, length,
 abbrev pub output_bytes : ℕ
 output_bytes = 4096
 
--- the bytes of a buffer that most traces fit
-abbrev pub short_bytes : ℕ
-short_bytes = 4096
-
 -- so many bytes at a buffer's start are what was handed in: all of it, or as many as the buffer has
 pub record Read (handed : List ℕ) (count : ℕ) (buffer : List ℕ) : Type 0 where
   pub bytes : take (length buffer) handed ≡ take count buffer

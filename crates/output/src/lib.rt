@@ -2,7 +2,7 @@
 // every input: `placer_lines` and `runner_lines` of whole slices, the others of what a program has read so far.
 #![tactic(auto)]
 
-ghost use Rattle.std.specs.Prelude.{ℕ, ◌+◌, ◌≤◌, ◌<◌, ◌≡◌, List, length, take};
+ghost use Rattle.std.specs.Prelude.{ℕ, ◌+◌, ◌≤◌, ◌<◌, ◌≡◌, ◌⊎◌, List, length, take};
 ghost use Rattle.io.specs.Counts.{IsPrefixLen};
 ghost use Rattle.meaning.specs.Calls as calls;
 ghost use Rattle.meaning.specs.Lines.{run_line, placer, runner, trace_bytes};
@@ -10,9 +10,9 @@ ghost use Rattle.demands.specs.Demand1.{NeverEleven};
 ghost use Rattle.demands.specs.Widths.{RunFits};
 ghost use Rattle.run.specs.Results.{Runs};
 ghost use Rattle.digits.specs.Written.{Writes};
-ghost use Rattle.output.specs.Printed.{Prints, Read, output_bytes, short_bytes};
+ghost use Rattle.output.specs.Printed.{Prints, Read, output_bytes};
 
-use run::Running;
+use run::{Both, Running};
 
 // The bytes of a buffer that has room for all that the programs print.
 pub const OUTPUT_BYTES: usize = 4096;
@@ -37,67 +37,46 @@ pub fn runner_lines(file: &[u8], trace: &[u8], out: &mut [u8; OUTPUT_BYTES]) -> 
     ensures prints { Prints (runner file.now trace.now) out.old result out.new }
     ensures never_eleven { NeverEleven file.now trace.now }
 {
-    if TRACE_BYTES < trace.len() {
-        return put_runs(file, &trace[..TRACE_BYTES], out);
-    }
-    put_runs(file, trace, out)
+    put_runs(file, front(trace, TRACE_BYTES), out)
 }
 
 // What placer prints of any file of which the first `count` bytes of the buffer were read: all that it has, or as many
 // as the buffer takes.
 pub fn placer_read(file: &[u8; FILE_BYTES], count: usize, out: &mut [u8; OUTPUT_BYTES]) -> usize
     ensures prefix_len { IsPrefixLen result out.new }
-    ensures by_index { (handed : List ℕ) → Read handed count file.now
+    ensures prints { (handed : List ℕ) → Read handed count file.now
         → Prints (placer handed) out.old result out.new }
 {
-    put_table(front(file, count), out)
+    placer_lines(front(file, count), out)
 }
 
-// What runner prints of any file and trace of which so many bytes were read, where that is all of the trace; where the
-// short buffer is full, nothing.
-pub fn runner_short(
-    file: &[u8; FILE_BYTES],
-    count: usize,
-    trace: &[u8; SHORT_BYTES],
-    begun: usize,
-    out: &mut [u8; OUTPUT_BYTES],
-) -> usize
-    ensures prefix_len { IsPrefixLen result out.new }
-    ensures by_index { (handed frames : List ℕ) → Read handed count file.now
-        → Read frames begun trace.now → begun < short_bytes
-        → Prints (runner handed frames) out.old result out.new }
-    ensures value { short_bytes ≤ begun → (result ≡ 0) × (out.new ≡ out.old) }
-{
-    if SHORT_BYTES <= begun {
-        return 0;
-    }
-    put_runs(front(file, count), front(trace, begun), out)
-}
-
-// The same where the trace is read into a buffer of as many bytes as it is judged by.
+// What runner prints of any file and trace of which so many bytes were read, where that is all of the trace, or as many
+// as it is judged by; where a buffer of fewer is full, nothing.
 pub fn runner_read(
     file: &[u8; FILE_BYTES],
     count: usize,
-    trace: &[u8; TRACE_BYTES],
+    trace: &[u8],
     end: usize,
     out: &mut [u8; OUTPUT_BYTES],
 ) -> usize
     ensures prefix_len { IsPrefixLen result out.new }
-    ensures by_index { (handed frames : List ℕ) → Read handed count file.now
-        → Read frames end trace.now
+    ensures prints { (handed frames : List ℕ) → Read handed count file.now
+        → Read frames end trace.now → (end < length trace.now) ⊎ (trace_bytes ≤ length trace.now)
         → Prints (runner handed frames) out.old result out.new }
+    ensures nothing { length trace.now ≤ end → length trace.now < trace_bytes
+        → (result ≡ 0) × (out.new ≡ out.old) }
 {
-    put_runs(front(file, count), front(trace, end), out)
+    if trace.len() <= end && trace.len() < TRACE_BYTES {
+        return 0;
+    }
+    runner_lines(front(file, count), front(trace, end), out)
 }
 
 // So many bytes of a buffer, or all.
 fn front(buffer: &[u8], count: usize) -> &[u8]
     ensures { result.now ≡ take count buffer.now }
 {
-    if count < buffer.len() {
-        return &buffer[..count];
-    }
-    buffer
+    buffer.get(..count).unwrap_or(buffer)
 }
 
 // The table, or the refusal's line, into a slice.
@@ -118,9 +97,7 @@ fn put_runs(file: &[u8], trace: &[u8], out: &mut [u8]) -> usize
     requires { (length trace.now ≤ trace_bytes) × (output_bytes ≤ length out.old) }
     ensures { Prints (runner file.now trace.now) out.old result out.new }
 {
-    let both = monitor::run_both_from_start(file, trace);
-    let plain = both.plain;
-    let table = both.table;
+    let Both { plain, table } = monitor::run_both_from_start(file, trace);
     let next = put_running(out, 0, plain);
     if plain.of_file {
         return next;
@@ -138,7 +115,5 @@ fn put_running(out: &mut [u8], at: usize, running: Running) -> usize
         return lines::put_answer(out, at, answer.number, answer.first, answer.second);
     }
     let record = running.record;
-    let values = record.values;
-    let threads = record.threads;
-    lines::put_record(out, at, record.vars, values, threads)
+    lines::put_record(out, at, record.vars, record.values, record.threads)
 }

@@ -11,15 +11,20 @@ use std::io;
 use std::io::Read;
 
 fn main(rt: HostRuntime) {
-    let mut out = [0u8; output::OUTPUT_BYTES];
-    match read_and_print(&mut rt.stdin(), &mut out) {
-        Ok(end) => {
-            if let Err(why) = rt.write_all(&out[..end]) {
-                input::fail(&rt, "placer: standard output", why);
-            }
-        }
-        Err(why) => input::fail(&rt, "placer: standard input", why),
+    if let Err((what, why)) = place(&rt) {
+        input::fail(&rt, what, why);
     }
+}
+
+// The whole program; an error comes with what failed.
+fn place(rt: &HostRuntime) -> Result<(), (&'static str, io::Error)> {
+    let mut out = [0u8; output::OUTPUT_BYTES];
+    let end = read_and_print(&mut rt.stdin(), &mut out).map_err(|why| (
+        "placer: standard input",
+        why,
+    ))?;
+    rt.write_all(&out[..end])
+        .map_err(|why| ("placer: standard output", why))
 }
 
 // What is printed of all that a reader has, into a lent buffer; where a read fails, nothing.
@@ -33,9 +38,6 @@ fn read_and_print<R: Read>(
     ensures nothing { OnErr result (out.new ≡ out.old) }
 {
     let mut file = [0u8; output::FILE_BYTES];
-    let got = input::read_on(reader, &mut file, 0);
-    if let Some(why) = got.failed {
-        return Err(why);
-    }
-    Ok(output::placer_read(&file, got.count, out))
+    let count = input::read_on(reader, &mut file, 0)?;
+    Ok(output::placer_read(&file, count, out))
 }

@@ -5,8 +5,9 @@
 #![tactic(auto)]
 
 ghost use Rattle.std.specs.Prelude.{◌<◌};
-ghost use Rattle.io.specs.Counts.{IsPrefixLen};
 
+use answers::Answer;
+use calls::Pointing;
 use std::fs::File;
 use survey::Fates;
 
@@ -21,57 +22,48 @@ const UNWRITTEN: u8 = 165;
 
 fn main(rt: HostRuntime) {
     if let Ok(mut data) = File::open(&rt, "cases.bin") {
-        replay_all(&rt, &mut data);
+        let _ = replay_all(&rt, &mut data);
     }
 }
 
-fn replay_all(rt: &HostRuntime, data: &mut File) {
-    let mut n: usize = 0;
-    while n < CASES {
-        if !replay(rt, data) {
-            return;
-        }
-        n += 1;
+// The cases, up to the first that cannot be read.
+fn replay_all(rt: &HostRuntime, data: &mut File) -> Option<()> {
+    for _ in 0..CASES {
+        replay(rt, data)?;
     }
+    Some(())
 }
 
-// A length of four bytes, and one that fits no buffer at the end of the data.
-fn read_length(data: &mut File) -> usize {
+// A length, of which three bytes count; none at the end of the data.
+fn read_length(data: &mut File) -> Option<usize> {
     let mut four = [0u8; 4];
-    if input::read_on(data, &mut four, 0).count < 4 {
-        return 65537;
-    }
-    small(four[0], four[1], four[2])
-}
-
-// The number of three bytes, the lowest first.
-fn small(a: u8, b: u8, c: u8) -> usize {
-    a as usize + b as usize * 256 + c as usize * 65536
+    input::read_on(data, &mut four, 0)
+        .ok()
+        .filter(|&count| count == 4)?;
+    let [a, b, c, _] = four;
+    Some(usize::from(a) + usize::from(b) * 256 + usize::from(c) * 65536)
 }
 
 // The next bytes of the data, into the first of a buffer; none where they do not fit.
-fn read_part(data: &mut File, into: &mut [u8], n: usize) -> usize
-    ensures { IsPrefixLen result into.new }
-{
-    if into.len() < n {
-        return 0;
-    }
-    input::read_on(data, &mut into[..n], 0).count
+fn read_part<'a>(data: &mut File, into: &'a mut [u8], n: usize) -> Option<&'a [u8]> {
+    let part = into.get_mut(..n)?;
+    let count = match input::read_on(data, part, 0) {
+        Ok(count) => count,
+        Err(stopped) => stopped.count,
+    };
+    part.get(..count)
 }
 
-// One case, read from the data: false where its lengths fit no buffer.
-fn replay(rt: &HostRuntime, data: &mut File) -> bool {
-    let n = read_length(data);
-    let k = read_length(data);
-    if 9000 < n || output::TRACE_BYTES < k {
-        return false;
-    }
+// One case, read from the data; none where it ends, or where a length fits no buffer.
+fn replay(rt: &HostRuntime, data: &mut File) -> Option<()> {
+    let n = read_length(data)?;
+    let k = read_length(data)?;
     let mut file = [0u8; 9000];
     let mut trace = [0u8; output::TRACE_BYTES];
-    let file_end = read_part(data, &mut file, n);
-    let trace_end = read_part(data, &mut trace, k);
-    show_case(rt, &file[..file_end], &trace[..trace_end]);
-    true
+    let file = read_part(data, &mut file, n)?;
+    let trace = read_part(data, &mut trace, k)?;
+    show_case(rt, file, trace);
+    Some(())
 }
 
 // The lines of one case: placer's and runner's, its points, its tries, and its touched pairs.
@@ -86,34 +78,26 @@ fn show_case(rt: &HostRuntime, file: &[u8], trace: &[u8]) {
     }
     let room = (trace.len() / trace::FRAME + 1) * point::POINT;
     let mut buffer = [UNWRITTEN; BUFFER];
-    show_points(rt, file, trace, &mut buffer, room + point::POINT, true);
+    if let Some(part) = buffer.get_mut(..room + point::POINT) {
+        let got = points_in(file, trace, part);
+        show_answer(rt, got.plain);
+        show_answer(rt, got.table);
+        show(rt, 0, got.count, sum_of(part));
+    }
     let mut short = [UNWRITTEN; BUFFER];
-    show_points(rt, file, trace, &mut short, room - 1, false);
+    if let Some(part) = short.get_mut(..room - 1) {
+        let got = points_in(file, trace, part);
+        show_answer(rt, got.plain);
+        show(rt, 0, got.count, sum_of(part));
+    }
     show_tries(rt, file);
     show_pairs(rt, file);
 }
 
-// The points of a case in so many bytes of a buffer.
-fn show_points(
-    rt: &HostRuntime,
-    file: &[u8],
-    trace: &[u8],
-    buffer: &mut [u8],
-    size: usize,
-    both: bool,
-) {
-    if buffer.len() < size {
-        return;
-    }
+// The points of a case from its start values.
+fn points_in(file: &[u8], trace: &[u8], out: &mut [u8]) -> Pointing {
     let start = monitor::start_state(file);
-    let got = monitor::points(file, trace, start, &mut buffer[..size]);
-    let plain = got.plain;
-    let table = got.table;
-    show(rt, plain.number, plain.first, plain.second);
-    if both {
-        show(rt, table.number, table.first, table.second);
-    }
-    show(rt, 0, got.count, sum_of(&buffer[..size]));
+    monitor::points(file, trace, start, out)
 }
 
 // The chosen tries and how many there are, or the file's refusal; then a line for each try: 00 where it is chosen, FF where
@@ -122,18 +106,13 @@ fn show_tries(rt: &HostRuntime, file: &[u8]) {
     let mut table = [0u8; output::OUTPUT_BYTES];
     let placed = monitor::place(file, &mut table);
     let told = survey::fates_of(file);
-    let answer = placed.answer;
-    if answer.number == 0 {
-        show(rt, 0, wide16(placed.chosen), told.tries);
+    if placed.answer.number == 0 {
+        show(rt, 0, usize::from(placed.chosen), told.tries);
     } else {
-        show(rt, answer.number, answer.first, answer.second);
+        show_answer(rt, placed.answer);
     }
-    let mut i: usize = 0;
-    while i < syntax::TRIES {
-        if i < told.tries {
-            show_fate(rt, told, i);
-        }
-        i += 1;
+    for i in 0..told.tries.min(syntax::TRIES) {
+        show_fate(rt, told, i);
     }
 }
 
@@ -141,15 +120,15 @@ fn show_tries(rt: &HostRuntime, file: &[u8]) {
 fn show_pairs(rt: &HostRuntime, file: &[u8]) {
     let mut table = [0u8; output::OUTPUT_BYTES];
     let placed = monitor::place(file, &mut table);
-    show(rt, 0, wide16(placed.pairs), placed.length);
+    show(rt, 0, usize::from(placed.pairs), placed.length);
 }
 
 // What becomes of one try.
 fn show_fate(rt: &HostRuntime, told: Fates, i: usize)
     requires { i < 16 }
 {
-    let state = wide16(told.states[i]);
-    let region = wide(told.regions[i]);
+    let state = usize::from(told.states[i]);
+    let region = usize::from(told.regions[i]);
     if sets::has(told.chosen, i as u32) {
         show(rt, 0, 0, 0);
     } else if told.passes[i] == 0 {
@@ -159,23 +138,17 @@ fn show_fate(rt: &HostRuntime, told: Fates, i: usize)
     }
 }
 
-fn wide16(x: u16) -> usize
-    ensures { result < 65536 }
-{
-    x as usize
+// An answer's line.
+fn show_answer(rt: &HostRuntime, answer: Answer) {
+    show(rt, answer.number, answer.first, answer.second);
 }
 
 // A line of ten digits.
 fn show(rt: &HostRuntime, number: u8, first: usize, second: usize) {
     let mut out = [0u8; 11];
     let end = lines::put_answer(&mut out, 0, number, first, second);
-    print(rt, &out, end);
-}
-
-// The first bytes of a buffer, where it has as many.
-fn print(rt: &HostRuntime, out: &[u8], end: usize) {
-    if end <= out.len() {
-        write(rt, &out[..end]);
+    if let Some(line) = out.get(..end) {
+        write(rt, line);
     }
 }
 
@@ -188,17 +161,9 @@ fn write(rt: &HostRuntime, bytes: &[u8]) {
 fn sum_of(bytes: &[u8]) -> usize
     ensures { result < 65521 }
 {
-    let mut sum: usize = 1;
-    let mut i: usize = 0;
-    while i < bytes.len() {
-        sum = (sum * 31 + wide(bytes[i])) % 65521;
-        i += 1;
+    let mut sum = 1;
+    for &byte in bytes {
+        sum = (sum * 31 + usize::from(byte)) % 65521;
     }
     sum
-}
-
-fn wide(b: u8) -> usize
-    ensures { result < 256 }
-{
-    b as usize
 }

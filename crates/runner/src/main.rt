@@ -3,45 +3,45 @@
 // otherwise it says so on standard error, and after a failed read prints nothing.
 #![tactic(auto)]
 
-ghost use Rattle.std.specs.Prelude.{ℕ, ◌≡◌, ◌≤◌, List, ◌++◌, Some, IfOk, OnErr, IsNone};
+ghost use Rattle.std.specs.Prelude.{ℕ, ◌≡◌, List, ◌++◌, Some, IfOk, OnErr};
 ghost use Rattle.io.specs.Counts.{IsPrefixLen};
 ghost use Rattle.meaning.specs.Lines.{runner};
 ghost use Rattle.input.specs.Opened.{Has};
-ghost use Rattle.output.specs.Printed.{Prints, Read, short_bytes};
+ghost use Rattle.output.specs.Printed.{Prints, Read};
 
-use input::Got;
+use input::Stopped;
 use std::fs::File;
 use std::io;
 use std::io::Read;
 
 fn main(rt: HostRuntime) {
+    if let Err((what, why)) = run_files(&rt) {
+        input::fail(&rt, what, why);
+    }
+}
+
+// The whole program; an error comes with what failed.
+fn run_files(rt: &HostRuntime) -> Result<(), (&'static str, io::Error)> {
     let mut file = [0u8; output::FILE_BYTES];
-    let monitor = read_monitor(&mut File::open(&rt, "monitor.txt"), &mut file);
-    if let Some(why) = monitor.failed {
-        input::fail(&rt, "runner: monitor.txt", why);
-        return;
-    }
+    let count = read_monitor(&mut File::open(rt, "monitor.txt"), &mut file).map_err(|stopped| (
+        "runner: monitor.txt",
+        stopped.why,
+    ))?;
     let mut out = [0u8; output::OUTPUT_BYTES];
-    match run(
-        &file,
-        monitor.count,
-        &mut File::open(&rt, "trace.txt"),
-        &mut out,
-    ) {
-        Ok(end) => print(&rt, &out[..end]),
-        Err(why) => input::fail(&rt, "runner: trace.txt", why),
-    }
+    let end = run(&file, count, &mut File::open(rt, "trace.txt"), &mut out).map_err(|why| (
+        "runner: trace.txt",
+        why,
+    ))?;
+    rt.write_all(&out[..end])
+        .map_err(|why| ("runner: standard output", why))
 }
 
-fn print(rt: &HostRuntime, lines: &[u8]) {
-    if let Err(why) = rt.write_all(lines) {
-        input::fail(rt, "runner: standard output", why);
-    }
-}
-
-fn read_monitor<R: Read>(opened: &mut io::Result<R>, file: &mut [u8; output::FILE_BYTES]) -> Got
-    ensures { (handed : List ℕ) → Has R.remaining opened.old handed → IsNone result.failed
-        → Read handed result.count file.new }
+fn read_monitor<R: Read>(
+    opened: &mut io::Result<R>,
+    file: &mut [u8; output::FILE_BYTES],
+) -> Result<usize, Stopped>
+    ensures { (handed : List ℕ) → Has R.remaining opened.old handed
+        → IfOk result (λ count. Read handed count file.new) }
 {
     input::read_opened(opened, file)
 }
@@ -59,12 +59,9 @@ fn run<R: Read>(
     ensures nothing { OnErr result (out.new ≡ out.old) }
 {
     let mut short = [0u8; output::SHORT_BYTES];
-    let begun = input::read_opened(opened, &mut short);
-    if let Some(why) = begun.failed {
-        return Err(why);
-    }
-    if begun.count < output::SHORT_BYTES {
-        return Ok(output::runner_short(file, count, &short, begun.count, out));
+    let begun = input::read_opened(opened, &mut short)?;
+    if begun < output::SHORT_BYTES {
+        return Ok(output::runner_read(file, count, &short, begun, out));
     }
     match opened {
         Ok(rest) => run_long(rest, file, count, &short, out),
@@ -88,9 +85,6 @@ fn run_long<R: Read>(
 {
     let mut trace = [0u8; output::TRACE_BYTES];
     let front = input::copy(short, &mut trace);
-    let got = input::read_on(rest, &mut trace, front);
-    if let Some(why) = got.failed {
-        return Err(why);
-    }
-    Ok(output::runner_read(file, count, &trace, got.count, out))
+    let end = input::read_on(rest, &mut trace, front)?;
+    Ok(output::runner_read(file, count, &trace, end, out))
 }

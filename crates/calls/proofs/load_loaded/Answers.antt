@@ -10,22 +10,21 @@ use Rattle.calls.proofs.Making.{no_monitor, too_short, made, zero_said, start_of
 use Rattle.calls.proofs.load_loaded.Goals as goal
 
 pub returns-then-verdict-ne0 : goal.returns-then-verdict-ne0
-returns-then-verdict-ne0 c file kept loads fits =
+returns-then-verdict-ne0 c file loads fits =
     let n = c.not_made.ensures in
     no_monitor file _ _ _ _ _ fits _ loads.verdict c.if-verdict-ne0.true n.0 n.1
 
 pub returns-then-out-wanted : goal.returns-then-out-wanted
-returns-then-out-wanted c file kept loads fits =
+returns-then-out-wanted c file loads fits =
     let d = c in
     let n = c.not_made-then-out-wanted.ensures in
-    let s = c.say.ensures in
     let (m, e) = monitor_of file _ loads.verdict d.if-verdict-ne0.false in
-    too_short file _ _ _ _ _ fits m e d.if-out-wanted.true _ (record { number = s.0; first = s.1; second = s.2 }) n.0
+    too_short file _ _ _ _ _ fits m e d.if-out-wanted.true _ c.from.ensures n.0
     n.1
 
 pub returns : goal.returns
 unfolding CountFits model
-returns c file kept loads fits =
+returns c file loads fits =
     let w = c in
     let q = w in
     let d = q in
@@ -34,7 +33,7 @@ returns c file kept loads fits =
     let state = start_at loads d.if-verdict-ne0.false _ q.number_of.ensures.is ∙ start_of_accepted file m e in
     let low = d.if-out-wanted.false in
     made file _ _ _ _ _ fits m e low (zero_said file _ m e loads.verdict) _ _ state
-    (w.make_frames-count.ensures (model m) kept
+    (w.make_frames-count.ensures (model m) _
     (record {
       count = sym l.region_count;
       held = l.held;

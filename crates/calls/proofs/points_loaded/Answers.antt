@@ -20,9 +20,8 @@ pub returns-then-out-bytes : goal.returns-then-out-bytes
 returns-then-out-bytes c file loads =
     let d = c in
     let n = c.no_points-then-out-bytes.ensures in
-    let s = c.say.ensures in
     let (m, e) = monitor_of file _ loads.verdict d.if-verdict-ne0.false in
-    too_short file _ _ _ _ m e d.if-out-bytes.true _ (record { number = s.0; first = s.1; second = s.2 }) n.0 n.1
+    too_short file _ _ _ _ m e d.if-out-bytes.true _ c.from.ensures n.0 n.1
     n.2
 
 pub returns-in-Err : goal.returns-in-Err
@@ -32,7 +31,7 @@ returns-in-Err c file loads =
     let l = loads.monitored m e in
     long_enough file _ _ _ _ m e c.if-out-bytes.false _
     (refused_early file _ _ _ _ m (c.admit.ensures.admits m _ _ _ l.bounded l.held) c.in-Err.refusal c.in-Err.is
-    _ c.from.ensures n.0 n.1 n.2)
+    _ c.from-in-Err.ensures n.0 n.1 n.2)
 
 pub returns : goal.returns
 unfolding EntriesOf model

@@ -1,5 +1,6 @@
 -- `calls::start_of` meets its contract: a refused file has no start, an accepted one that of the variables that were
 -- loaded.
+use mathlib.Core.Path.{◌∙◌}
 use Rattle.calls.proofs.Loaded.{no_start, start_at}
 use Rattle.calls.proofs.start_of.Goals as goal
 
@@ -8,4 +9,4 @@ returns-then-verdict-ne0 c file kept holds after loads = no_start loads c.if-ver
 
 pub returns : goal.returns
 returns c file kept holds after loads =
-    start_at loads c.if-verdict-ne0.false _ c.number_of.ensures.is
+    c.from.ensures ∙ start_at loads c.if-verdict-ne0.false _ c.number_of.ensures.is

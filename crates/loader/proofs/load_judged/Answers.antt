@@ -1,16 +1,10 @@
 -- `loader::load_judged` meets its contract: the file has a tree, what is resolved and linked is what 15 asks, and laid out
 -- what `survey` and `fill` ask.
 use native.Mathlib.Omega.{arith}
-use mathlib.Core.Path.{◌≡◌, sym, ◌∙◌}
-use mathlib.Core.List.{List}
-use lib.ListN.{length}
-use Rattle.syntax.specs.Token.{Token, lexemes}
-use Rattle.syntax.specs.Tree.{Monitor}
-use Rattle.syntax.specs.Held.Kind.{Words}
+use mathlib.Core.Path.{sym, ◌∙◌}
+use Rattle.syntax.specs.Token.{lexemes}
 use Rattle.meaning.specs.Model.{vars}
-use Rattle.judging.specs.Judging.{Past7}
 use Rattle.judging.proofs.Refusals.{found_at, found_nothing}
-use Rattle.divisors.specs.Coded.{Coded}
 use Rattle.filling.proofs.Fills.{left_all}
 use Rattle.loader.proofs.Loads.{sizes, few, is_keep, few_lexemes, kinds_held, resolved_long, filling, resolved}
 use Rattle.loader.proofs.Loads.{coded, loads_15, loads}
@@ -25,8 +19,7 @@ returns-in-Some c =
           let resolves = c.resolve.ensures ts w p.counts o in
           let x = coded w m j p _ _ resolves (c.link_braces.ensures (lexemes ts) (kinds_held w m j p)
           (resolved_long w m j p _ resolves) (few_lexemes w m j p)) in
-          loads_15 w m j p c.not_loaded.result _ _ _ c.not_loaded.ensures c.say.ensures c.wide.ensures
-          (found_at _ _ (sym c.in-Some.is ∙ c.find_unvalued.ensures _ ts _ (vars m) w x));
+          loads_15 w m j p _ _ _ c.from.ensures (found_at _ _ (sym c.in-Some.is ∙ c.find_unvalued.ensures _ ts _ (vars m) w x));
       leaves = left_all _ _ _ _;
     }
 

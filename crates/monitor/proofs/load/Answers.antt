@@ -1,7 +1,6 @@
 -- `monitor::load` meets its contract: 16, or what `load_loaded` says of what was loaded.
 use native.Mathlib.Omega.{arith}
 use mathlib.Core.Path.{refl}
-use Rattle.logic.proofs.Lists.{long}
 use Rattle.machine.specs.Monitor.{threads}
 use Rattle.meaning.specs.Decide.Load.{bad_count}
 use Rattle.demands.specs.Load.{CountFits}
@@ -13,10 +12,9 @@ pub returns-then-threads : goal.returns-then-threads
 unfolding bad_count threads
 returns-then-threads c =
     let a = c.args in
-    let s = c.say.ensures in
     record {
       makes = no_count a.file.now a.seed a.threads a.wanted a.out.now _ c.if-threads.true
-          (record { number = s.0; first = s.1; second = s.2 }) refl;
+          c.from.ensures refl;
       load_says = load_words a.file.now a.seed a.threads a.wanted a.out.now;
     }
 
@@ -32,7 +30,7 @@ unfolding bad_count threads
 returns c =
     let a = c.args in
     record {
-      makes = c.load_loaded.ensures _ _ (c.load-loaded.ensures.loads (long 4096 0) (long 4096 0) (long 65536 0))
+      makes = c.load_loaded.ensures _ (c.load-loaded.ensures.loads)
           ((count_fits a.threads).0 c.if-threads.false);
       load_says = load_words a.file.now a.seed a.threads a.wanted a.out.now;
     }

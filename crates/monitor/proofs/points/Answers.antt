@@ -1,5 +1,4 @@
 -- `monitor::points` meets its contract: what `points_loaded` says of what was loaded.
-use Rattle.logic.proofs.Lists.{long}
 use Rattle.calls.proofs.Pointed.{points_say}
 use Rattle.monitor.proofs.points.Goals as goal
 
@@ -7,6 +6,6 @@ pub returns : goal.returns
 returns c =
     let a = c.args in
     record {
-      points = c.points_loaded.ensures _ (c.load-loaded.ensures.loads (long 4096 0) (long 4096 0) (long 65536 0));
+      points = c.points_loaded.ensures _ (c.load-loaded.ensures.loads);
       points_say = points_say a.file.now a.bytes.now a.start a.out.now;
     }

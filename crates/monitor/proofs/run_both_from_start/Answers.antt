@@ -1,9 +1,8 @@
 -- `monitor::run_both_from_start` meets its contract: what `both_loaded` says of what was loaded, at the start state.
-use Rattle.logic.proofs.Lists.{long}
 use Rattle.monitor.proofs.run_both_from_start.Goals as goal
 
 pub returns : goal.returns
 returns c =
     let s = c in
-    let loads = s.load-loaded.ensures.loads (long 4096 0) (long 4096 0) (long 65536 0) in
+    let loads = s.load-loaded.ensures.loads in
     rw (s.start_of-start.ensures _ _ _ _ loads) at (c.both_loaded.ensures _ loads)

@@ -5,8 +5,8 @@ use Rattle.output.proofs.placer_read.Goals as goal
 
 pub returns : goal.returns
 returns c =
-    let p = c.put_table.ensures in
+    let p = c.placer_lines.ensures in
     record {
       prefix_len = counted p;
-      by_index = λ handed r. file_part r (omega arith) (rw c.front.ensures at p);
+      prints = λ handed r. file_part r (omega arith) (rw c.front.ensures at p);
     }

@@ -9,7 +9,7 @@ pub returns-then-plain : goal.returns-then-plain
 returns-then-plain c =
     let p = c in
     let s = p in
-    let both = p.run_both_from_start-both.ensures in
+    let both = p.run_both_from_start.ensures in
     let short = s.requires.0 in
     one_printed _ _ short _ both.plain_runs
     (p.put_running-next.ensures _ both.plain_runs (end_fits _ _ short plain_machine) (omega (arith, s.requires.1)))
@@ -20,7 +20,7 @@ returns c =
     let q = c in
     let p = q in
     let s = p in
-    let both = p.run_both_from_start-both.ensures in
+    let both = p.run_both_from_start.ensures in
     let short = s.requires.0 in
     let one = p.put_running-next.ensures _ both.plain_runs (end_fits _ _ short plain_machine) (omega (arith, s.requires.1))
     in

@@ -1,11 +1,13 @@
 use Rattle.std.proofs.Common.{rules}
+use mathlib.Core.Logic.{inr}
 use Rattle.runner.proofs.Traces.{two_parts}
 use Rattle.runner.proofs.run_long.Goals as goal
 
 pub returns-clause-prints : goal.returns-clause-prints
 returns-clause-prints g c handed behind file rest =
-    let r = c.read_on-got in
+    let r = c.in_ok-end.ensures in
     let e = c.copy-front.ensures in
-    c.runner_read.ensures.by_index handed _ file
-    (two_parts _ _ c.args.short.now _ c.copy-front.new.to r.new.buf behind c.copy-front.result r.result.count e.to_after (search rules)
-    (search rules) e.value r.ensures.keeps r.ensures.prefix_len.0 r.ensures.bytes (search rules) rest)
+    c.runner_read.ensures.prints handed _ file
+    (two_parts _ _ c.args.short.now _ c.copy-front.new.to c.read_on.new.buf behind c.copy-front.result c.in_ok-end.end e.pasted
+    (search rules) (search rules) e.count r.keeps r.prefix_len.0 r.bytes (search rules) rest)
+    (inr (search rules))
