@@ -31,7 +31,7 @@ returns-in-Err c file loads =
     let l = loads.monitored m e in
     long_enough file _ _ _ _ m e c.if-out-bytes.false _
     (refused_early file _ _ _ _ m (c.admit.ensures.admits m _ _ _ l.bounded l.held) c.in-Err.refusal c.in-Err.is
-    _ c.from.ensures n.0 n.1 n.2)
+    _ c.from-in-Err.ensures n.0 n.1 n.2)
 
 pub returns : goal.returns
 unfolding EntriesOf model
