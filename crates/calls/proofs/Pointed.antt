@@ -22,10 +22,14 @@ use Rattle.answers.specs.declared.Answer as code
 use Rattle.run.specs.Results.{machine_of}
 use Rattle.run.specs.Way.{run_of}
 use Rattle.run.specs.Ended.{Admits, not_kept, no_frame, all_frames}
-use Rattle.run.proofs.Records.{list_run}
+use Rattle.run.proofs.Records.{list_run, same_refusal, not_ok}
+use Rattle.std.specs.Prelude.{⊤, Result, Err}
+use Rattle.answers.specs.Numbered.{numbered}
+use Rattle.answers.specs.declared.Refusal.{Refusal}
 use Rattle.stepper.specs.Shown.{of_machine}
 use Rattle.points.specs.Written.{WritesPoints, StopSays}
 use Rattle.points.specs.declared.Written.{Written}
+use Rattle.run.specs.Way.{stop_number, stop_frame}
 use Rattle.calls.specs.Results.{Points, PointsSay}
 use Rattle.calls.specs.declared.Pointing as result
 use Rattle.calls.proofs.Loaded.{refusal_of}
@@ -64,16 +68,19 @@ module _ (file bytes : List ℕ) (start : ℕ) (buffer : List ℕ) (r : result.P
         rw (e, points_of, long) x
 
   module _ (m : Monitor) where
-    pub refused_early : (b : code.Answer) → Admits m start bytes b → (b.number ≡ 0 → ⊥) → r.plain ≡ b → r.table ≡ b
-        → r.count ≡ 0 → Points (points_from m start bytes buffer) r buffer
+    pub refused_early : {early : Result ⊤ Refusal} → Admits m start bytes early → (x : Refusal) → early ≡ Err x
+        → (b : code.Answer) → Says b (numbered x) → r.plain ≡ b → r.table ≡ b → r.count ≡ 0
+        → Points (points_from m start bytes buffer) r buffer
     unfolding points_from frame_points
-    refused_early b (not_kept k s) other p t n = rw (k, points_from) (nothing b r buffer p t n s)
-    refused_early b (no_frame j k f s) other p t n = rw (k, points_from, f) (nothing b r buffer p t n s)
-    refused_early b (all_frames fs k f s) other p t n = absurd (other s.number)
+    refused_early (not_kept k e) x is b s p t n =
+        rw (k, points_from) (nothing b r buffer p t n (subst (λ (y : Refusal). Says b (numbered y)) (same_refusal _ _ is e) s))
+    refused_early (no_frame j k f e) x is b s p t n =
+        rw (k, points_from, f) (nothing b r buffer p t n (subst (λ (y : Refusal). Says b (numbered y)) (same_refusal _ _ is e) s))
+    refused_early (all_frames fs k f e) x is b s p t n = not_ok x is e
 
     -- an answer that is said of a stop
     stop_says : {a : Answer} (w : Written) (v : Bool) (b : code.Answer) → StopSays (of_machine v w.plain w.table) a
-        → (b.number ≡ (of_machine v w.plain w.table).number) × (b.first ≡ (of_machine v w.plain w.table).frame)
+        → (b.number ≡ stop_number (of_machine v w.plain w.table)) × (b.first ≡ stop_frame (of_machine v w.plain w.table))
         × (b.second ≡ 0)
         → Says b a
     stop_says w v b s e = record {
@@ -84,8 +91,8 @@ module _ (file bytes : List ℕ) (start : ℕ) (buffer : List ℕ) (r : result.P
 
     pub listed : kept m start ≡ true → (fs : List Frame) → frames_of bytes ≡ frames fs → (w : Written) (out : List ℕ)
         → WritesPoints m start fs w buffer out
-        → (r.plain.number ≡ w.plain.number) × (r.plain.first ≡ w.plain.frame) × (r.plain.second ≡ 0)
-        → (r.table.number ≡ w.table.number) × (r.table.first ≡ w.table.frame) × (r.table.second ≡ 0)
+        → (r.plain.number ≡ stop_number w.plain) × (r.plain.first ≡ stop_frame w.plain) × (r.plain.second ≡ 0)
+        → (r.table.number ≡ stop_number w.table) × (r.table.first ≡ stop_frame w.table) × (r.table.second ≡ 0)
         → r.count ≡ w.count → Points (points_from m start bytes buffer) r out
     unfolding points_from frame_points list_points of_machine machine_of
     listed k fs f w out x p t n =

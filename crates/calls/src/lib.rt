@@ -17,6 +17,7 @@ use machine::StateNumber;
 use run::{Both, Running};
 use stepper::Slices;
 use table::TooShort;
+use waiters::PerMachine;
 
 // What placing answers, and where it is placed the table's length, the chosen tries, the first the lowest bit, and how
 // many pairs of region and guard are touched.
@@ -124,15 +125,11 @@ pub fn both_loaded(loaded: Loaded, bytes: &[u8], start: usize, rows: &StateRows)
 {
     let verdict = loaded.answer;
     if verdict.number != 0 {
-        let refused = Running {
+        return PerMachine::alike(Running {
             answer: verdict,
             record: run::no_record(),
             of_file: true,
-        };
-        return Both {
-            plain: refused,
-            table: refused,
-        };
+        });
     }
     let entries = entries_of(loaded, rows);
     let bounds = loaded.bounds;
@@ -180,9 +177,8 @@ pub fn points_loaded(
     }
     let bounds = loaded.bounds;
     let layout = loaded.layout;
-    let early = run::admit(bounds, bytes, start, &rows.kept);
-    if early.number != 0 {
-        return no_points(early);
+    if let Err(refusal) = run::admit(bounds, bytes, start, &rows.kept) {
+        return no_points(Answer::from(refusal));
     }
     let entries = entries_of(loaded, rows);
     let written = points::write_points(
@@ -195,11 +191,9 @@ pub fn points_loaded(
         &entries,
         out,
     );
-    let plain = written.plain;
-    let table = written.table;
     Pointing {
-        plain: answers::say(plain.number, plain.frame, 0),
-        table: answers::say(table.number, table.frame, 0),
+        plain: run::frames::answer_of(written.plain),
+        table: run::frames::answer_of(written.table),
         count: written.count,
     }
 }

@@ -49,23 +49,14 @@ pub part_over : (d : List ℕ) (at n : ℕ) (s : List ℕ) → n ≡ length s �
 unfolding over
 part_over d at n s e = rw (e, drop-drop) refl
 
--- stores from a place on are a writing of what they store
-pub one_store : (d : List ℕ) (at a : ℕ) → at + 1 ≤ length d → Writes (a ∷ []) d at (at + 1) (set d at a)
-unfolding over
-one_store d at a h =
-    record { bytes = sets-eq (a ∷ []) d at h ∙ append_assoc (take at d) _ _; behind = refl }
-
-pub two_stores :
-    (d : List ℕ) (at n a b : ℕ) → n < 256 → at + 2 ≤ length d → a ≡ hex_digit (n / 16 % 16) → b ≡ hex_digit (n % 16 % 16)
-    → Writes (hex2 n) d at (at + 2) (set (set d at a) (at + 1) b)
-unfolding over hex2
-two_stores d at n a b small h pa pb =
+-- the two digits of a number below 256
+pub two_digits :
+    (n a b : ℕ) → n < 256 → a ≡ hex_digit (n / 16 % 16) → b ≡ hex_digit (n % 16 % 16) → a ∷ b ∷ [] ≡ hex2 n
+unfolding hex2
+two_digits n a b small pa pb =
     let ea : a ≡ hex_digit (n / 16) = pa ∙ ap hex_digit (omega arith) in
     let eb : b ≡ hex_digit (n % 16) = pb ∙ ap hex_digit (omega arith) in
-    record {
-      bytes = rw (← ea, ← eb, add-one) (sets-eq (a ∷ b ∷ []) d at h ∙ append_assoc (take at d) _ _);
-      behind = refl;
-    }
+    rw (ea, eb)
 
 pub written_same : {s t d e : List ℕ} {at p : ℕ} → s ≡ t → Writes s d at p e → Writes t d at p e
 written_same {d = d} {e = e} {at = at} {p = p} q w = subst (λ (l : List ℕ). Writes l d at p e) q w

@@ -22,6 +22,8 @@ ghost use Rattle.evaluator.specs.Promises.{Remains, Near, Joined, TermRead, Expr
 ghost use Rattle.evaluator.specs.Promises.{CompareRead, CondRead, ConjRead, SimpleRead, Stored, BlockRun};
 ghost use Rattle.evaluator.specs.Promises.{StmtRun, BranchRun};
 
+use std::array;
+
 // What is added to an expression's value.
 const ZERO: u32 = 1073741824;
 
@@ -76,17 +78,13 @@ pub struct Ran {
 fn kind_at(kinds: &[u8], at: usize) -> u8
     ensures { result ≡ get_or kinds.now at no_kind }
 {
-    if at < kinds.len() {
-        kinds[at]
-    } else {
-        syntax::NO_KIND
-    }
+    kinds.get(at).copied().unwrap_or(syntax::NO_KIND)
 }
 
 fn value_at(values: &[u16], at: usize) -> u16
     ensures { result ≡ get_or values.now at 0 }
 {
-    if at < values.len() { values[at] } else { 0 }
+    values.get(at).copied().unwrap_or(0)
 }
 
 // The place of the next token, or the end.
@@ -97,12 +95,6 @@ fn after(kinds: &[u8], at: usize) -> usize
     if at < kinds.len() { at + 1 } else { at }
 }
 
-fn wide(x: u16) -> u32
-    ensures { (result ≡ x) × (result ≤ 65535) }
-{
-    x as u32
-}
-
 fn read_atom(kinds: &[u8], values: &[u16], at: usize) -> Atom
     requires { Placed kinds.now at }
     ensures { AtomRead kinds.now values.now at result.slot result.plus result.minus result.next }
@@ -110,7 +102,7 @@ fn read_atom(kinds: &[u8], values: &[u16], at: usize) -> Atom
     let kind = kind_at(kinds, at);
     let next = after(kinds, at);
     if kind == syntax::NAME {
-        let slot = value_at(values, at) as usize;
+        let slot = usize::from(value_at(values, at));
         return Atom {
             slot,
             plus: 128,
@@ -119,7 +111,7 @@ fn read_atom(kinds: &[u8], values: &[u16], at: usize) -> Atom
         };
     }
     if kind == syntax::MINUS {
-        let minus = value_at(values, next) as u32;
+        let minus = u32::from(value_at(values, next));
         return Atom {
             slot: syntax::VARIABLES,
             plus: 0,
@@ -127,7 +119,7 @@ fn read_atom(kinds: &[u8], values: &[u16], at: usize) -> Atom
             next: after(kinds, next),
         };
     }
-    let plus = value_at(values, at) as u32;
+    let plus = u32::from(value_at(values, at));
     Atom {
         slot: syntax::VARIABLES,
         plus,
@@ -140,15 +132,11 @@ fn read_atom(kinds: &[u8], values: &[u16], at: usize) -> Atom
 fn operands(vars: &[u16; 96], slot: usize, plus: u32) -> [u32; 16]
     ensures { Adds vars.now slot plus result }
 {
-    let mut lanes = [plus; 16];
     if slot < syntax::VARIABLES {
-        let mut j: usize = 0;
-        while j < 16 {
-            lanes[j] = wide(vars[slot * 16 + j]);
-            j += 1;
-        }
+        array::from_fn(|j| u32::from(vars[slot * 16 + j]))
+    } else {
+        [plus; 16]
     }
-    lanes
 }
 
 // Numbers with others added and others taken away, lane by lane.
@@ -157,13 +145,7 @@ fn moved(lanes: [u32; 16], plus: [u32; 16], minus: [u32; 16]) -> [u32; 16]
         → (get_or lanes j 0 + get_or plus j 0 < 4294967296) × (get_or minus j 0 ≤ get_or lanes j 0 + get_or plus j 0) }
     ensures { (j : ℕ) → j < 16 → get_or result j 0 ≡ get_or lanes j 0 + get_or plus j 0 - get_or minus j 0 }
 {
-    let mut sums = [0u32; 16];
-    let mut j: usize = 0;
-    while j < 16 {
-        sums[j] = lanes[j] + plus[j] - minus[j];
-        j += 1;
-    }
-    sums
+    array::from_fn(|j| lanes[j] + plus[j] - minus[j])
 }
 
 // Sums with what a term adds less what it takes away, added in each lane or taken away.
@@ -363,13 +345,7 @@ fn test(kind: u8, a: u32, b: u32) -> bool
 fn compare_each(kind: u8, a: [u32; 16], b: [u32; 16]) -> [bool; 16]
     ensures { (j : ℕ) → j < 16 → get_or result j false ≡ test_of kind (get_or a j 0) (get_or b j 0) }
 {
-    let mut set = [false; 16];
-    let mut j: usize = 0;
-    while j < 16 {
-        set[j] = test(kind, a[j], b[j]);
-        j += 1;
-    }
-    set
+    array::from_fn(|j| test(kind, a[j], b[j]))
 }
 
 // A comparison with `mod`.
@@ -554,13 +530,7 @@ fn merged(on: [bool; 16], new: [u32; 16], old: [u32; 16]) -> [u32; 16]
     requires { Near 8193 new }
     ensures { (j : ℕ) → j < 16 → get_or result j 0 ≡ cond (get_or on j false) (get_or new j 0 + 128) (get_or old j 0) }
 {
-    let mut lanes = [0u32; 16];
-    let mut j: usize = 0;
-    while j < 16 {
-        lanes[j] = if on[j] { new[j] + 128 } else { old[j] };
-        j += 1;
-    }
-    lanes
+    array::from_fn(|j| if on[j] { new[j] + 128 } else { old[j] })
 }
 
 // Stores a value in each lane.
@@ -569,10 +539,8 @@ fn put(vars: &mut [u16; 96], slot: usize, lanes: [u32; 16])
     ensures { (length vars.new ≡ 96) × ((j : ℕ) → j < 16
         → lane vars.new j ≡ set (lane vars.old j) slot (get_or lanes j 0 % 65536)) }
 {
-    let mut j: usize = 0;
-    while j < 16 {
+    for j in 0..16 {
         vars[slot * 16 + j] = (lanes[j] % 65536) as u16;
-        j += 1;
     }
 }
 
@@ -591,8 +559,8 @@ fn store(
     ensures { Stored lows highs vars.old on slot sums result vars.new }
 {
     if slot < syntax::VARIABLES {
-        let low = [wide(lows[slot]) + (ZERO - 128); 16];
-        let high = [wide(highs[slot]) + (ZERO - 128); 16];
+        let low = [u32::from(lows[slot]) + (ZERO - 128); 16];
+        let high = [u32::from(highs[slot]) + (ZERO - 128); 16];
         let out = sixteen::union(sixteen::below(sums, low), sixteen::below(high, sums));
         let ok = sixteen::other(sixteen::both(on, out));
         let old = operands(vars, slot, 0);
@@ -607,7 +575,7 @@ fn close_of(kinds: &[u8], values: &[u16], brace: usize) -> usize
     requires { brace ≤ length kinds.now }
     ensures { Closes kinds.now values.now brace result }
 {
-    let close = value_at(values, brace) as usize;
+    let close = usize::from(value_at(values, brace));
     if brace <= close {
         if close <= kinds.len() {
             return close;
@@ -637,7 +605,7 @@ fn assign_mod(
     let third = after(kinds, second);
     let sum = eval_expr(kinds, values, vars, third);
     let next = after(kinds, sum.next);
-    let assigned = value_at(values, at) as usize;
+    let assigned = usize::from(value_at(values, at));
     let lanes = sum.lanes;
     let stored = store(lows, highs, vars, on, assigned, lanes);
     let ok = sixteen::faulted(stored, on, sum.lacks);
@@ -712,7 +680,7 @@ fn run_stmt(
         return assign_mod(kinds, values, lows, highs, vars, on, at);
     }
     let next = after(kinds, sum.next);
-    let assigned = value_at(values, at) as usize;
+    let assigned = usize::from(value_at(values, at));
     let lanes = sum.lanes;
     let ok = store(lows, highs, vars, on, assigned, lanes);
     Step { ok, next }

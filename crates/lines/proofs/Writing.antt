@@ -1,11 +1,13 @@
 -- What is written of each value and each thread of a record: two digits each, and all of them together, which is the
 -- record's line; and a line that is put where there is room, or not put.
-use Prim.Native.Nat.{ℕ, suc, ◌+◌, ◌*◌, ◌%◌, ◌<◌}
+use Prim.Native.Nat.{ℕ, suc, ◌+◌, ◌*◌, ◌%◌, ◌<◌, ◌≤◌}
 use mathlib.Core.Path.{◌≡◌, refl, ap, sym, ◌∙◌}
 use mathlib.Core.List.{List, [], ◌∷◌, ◌++◌}
 use native.Mathlib.Nat.{add-zero, zero-add, mod-eq_of_lt}
 use native.Mathlib.Omega.{arith}
-use lib.ListN.{length, get_or, get_or-map}
+use lib.ListN.{length, get_or, get_or-map, take}
+use lib.Seq.{length-take-le}
+use Rattle.std.proofs.lemmas.List.{get_or-take}
 use lib.IntN.{ℤ, pos, ◌+ℤ◌, nat_abs, -ℤ-+ℤ_cancel}
 use Rattle.machine.specs.Monitor as machine
 use Rattle.meaning.specs.Held.{Offset}
@@ -16,8 +18,8 @@ use Rattle.meaning.specs.Lines.{place_byte, value_digits, place_digits, record_l
 use Rattle.threads.specs.Held.{place_of, idle_thread, places_of}
 use Rattle.threads.specs.declared.Thread.{Thread}
 use Rattle.digits.specs.Written.{Writes}
-use Rattle.digits.proofs.ForEach.{for_each_length}
-use Rattle.lines.specs.Written.{Fits, byte_of, value_at, place_at, values_at, places_at, held_line}
+use Rattle.digits.proofs.ForEach.{for_each_length, for_each_same}
+use Rattle.lines.specs.Written.{Fits, byte_of, value_at, place_at, each_at, values_at, places_at, held_line}
 use Rattle.lines.specs.Written.{PutsLine}
 
 pub value_two : (values : List ℕ) (k : ℕ) → length (value_at values k) ≡ 2
@@ -31,7 +33,7 @@ place_two threads t = refl
 -- what f gives for the places of a list is what h gives for its elements, joined
 module _ {A : Type 0} (h : A → List ℕ) (joined : List A → List ℕ) (none : joined [] ≡ [])
     (more : (a : A) (as' : List A) → joined (a ∷ as') ≡ h a ++ joined as') (d : A) where
-  each : (l : List A) (k : ℕ) (f : ℕ → List ℕ) → ((j : ℕ) → j < length l → f (k + j) ≡ h (get_or l j d))
+  pub each : (l : List A) (k : ℕ) (f : ℕ → List ℕ) → ((j : ℕ) → j < length l → f (k + j) ≡ h (get_or l j d))
       → for_each (length l) k f ≡ joined l
   unfolding for_each
   each [] k f e = sym none
@@ -83,6 +85,18 @@ module _ {rec : calls.Record} {vars : ℕ} {values : List ℕ} {threads : List T
     unfolding held_line record_line
     held_line_lem = rw (values_are, places_are)
 
+pub each_length : (bytes : List ℕ) (n : ℕ) → length (each_at bytes n) ≡ 2 * n
+unfolding each_at hex2
+each_length bytes n = for_each_length 2 n 0 (λ k. hex2 (get_or bytes k 0)) (λ k. refl)
+
+-- of a list's first bytes
+pub each_take : (bytes : List ℕ) (n : ℕ) → n ≤ length bytes
+    → each_at (take n bytes) (length (take n bytes)) ≡ each_at bytes n
+unfolding each_at
+each_take bytes n h =
+    rw (length-take-le n bytes h)
+    (for_each_same n 0 _ _ (λ k l. ap hex2 (get_or-take n bytes k 0 (omega arith))))
+
 pub values_length : (values : List ℕ) (n : ℕ) → length (values_at values n) ≡ 2 * n
 unfolding values_at
 values_length values n = for_each_length 2 n 0 (value_at values) (value_two values)
@@ -90,6 +104,19 @@ values_length values n = for_each_length 2 n 0 (value_at values) (value_two valu
 pub places_length : (threads : List Thread) (n : ℕ) → length (places_at threads n) ≡ 2 * n
 unfolding places_at
 places_length threads n = for_each_length 2 n 0 (place_at threads) (place_two threads)
+
+-- the digits of the bytes of values, and of places, are theirs
+pub values_each :
+    (values bytes : List ℕ) (n : ℕ) → ((k : ℕ) → k < n → get_or bytes k 0 ≡ get_or values k 0 % 256)
+    → each_at bytes n ≡ values_at values n
+unfolding each_at values_at value_at
+values_each values bytes n e = for_each_same n 0 _ _ (λ k h. ap hex2 (e k (omega arith)))
+
+pub places_each :
+    (threads : List Thread) (bytes : List ℕ) (n : ℕ) → ((t : ℕ) → t < n → get_or bytes t 0 ≡ byte_of (places_of threads t))
+    → each_at bytes n ≡ places_at threads n
+unfolding each_at places_at place_at
+places_each threads bytes n e = for_each_same n 0 _ _ (λ t h. ap hex2 (e t (omega arith)))
 
 pub put : {line before after : List ℕ} {room : Type 0} {at next : ℕ} → room → Writes line before at next after
     → PutsLine line room before at next after

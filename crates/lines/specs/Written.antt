@@ -17,7 +17,7 @@ pub record Fits (rec : calls.Record) (vars : ℕ) (values : List ℕ) (threads :
   pub places : map (λ t. place_of t.place) threads ≡ rec.places
   pub digits : RecordFits rec
 
--- what the code writes of a place, of the first values and of the first threads
+-- what the code writes of a place, of the first bytes, of the first values and of the first threads
 unfoldable pub byte_of : machine.Place → ℕ
 byte_of machine.idle = 255
 byte_of (machine.waiting r) = r
@@ -28,6 +28,9 @@ value_at values k = hex2 (get_or values k 0 % 256)
 
 unfoldable pub place_at : List Thread → ℕ → List ℕ
 place_at threads t = hex2 (byte_of (places_of threads t))
+
+unfoldable pub each_at : List ℕ → ℕ → List ℕ
+each_at bytes n = for_each n 0 (λ k. hex2 (get_or bytes k 0))
 
 unfoldable pub values_at : List ℕ → ℕ → List ℕ
 values_at values n = for_each n 0 (value_at values)

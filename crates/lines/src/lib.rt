@@ -1,16 +1,17 @@
 // Lines into a lent buffer: those that the programs print, a refusal and the record of a run, and a frame's.
 #![tactic(auto)]
 
-ghost use Rattle.std.specs.Prelude.{◌≡◌, [], ◌∷◌, ◌+◌, ◌*◌, ◌%◌, ◌≤◌, length};
+ghost use Rattle.std.specs.Prelude.{◌≡◌, [], ◌∷◌, ◌+◌, ◌*◌, ◌%◌, ◌≤◌, ◌<◌, ℕ, length, get_or};
 ghost use Rattle.syntax.specs.Limits.{most_vars};
 ghost use Rattle.meaning.specs.Answer as meaning;
 ghost use Rattle.meaning.specs.Hex.{hex2, hex_bool};
 ghost use Rattle.meaning.specs.Lines.{hex4, refusal_line};
 ghost use Rattle.meaning.specs.Trace.{frame_line};
-ghost use Rattle.threads.specs.Held.{place_of};
+ghost use Rattle.threads.specs.Held.{place_of, places_of};
 ghost use Rattle.digits.specs.Written.{Writes};
-ghost use Rattle.lines.specs.Written.{byte_of, values_at, places_at, held_line, PutsLine};
+ghost use Rattle.lines.specs.Written.{byte_of, each_at, held_line, PutsLine};
 
+use std::array;
 use threads::{Place, Thread};
 
 // Two digits.
@@ -18,9 +19,8 @@ fn put2(out: &mut [u8], at: usize, n: u8) -> usize
     requires { at + 2 ≤ length out.old }
     ensures { Writes (hex2 n) out.old at result out.new }
 {
-    out[at] = digits::hex_digit(n / 16);
-    out[at + 1] = digits::hex_digit(n % 16);
-    at + 2
+    let digits = [digits::hex_digit(n / 16), digits::hex_digit(n % 16)];
+    digits::put_bytes(out, at, &digits)
 }
 
 // Four digits.
@@ -38,8 +38,7 @@ fn put_end(out: &mut [u8], at: usize) -> usize
     requires { at + 1 ≤ length out.old }
     ensures { Writes (10 ∷ []) out.old at result out.new }
 {
-    out[at] = 10;
-    at + 1
+    digits::put_bytes(out, at, &[b'\n'])
 }
 
 // A refusal's line, at a place of the buffer; a place of an answer is below 65,536, where the remainder is the place
@@ -48,10 +47,7 @@ pub fn put_answer(out: &mut [u8], at: usize, number: u8, first: usize, second: u
     ensures { PutsLine (refusal_line (meaning.answer number (first % 65536) (second % 65536)))
         (at + 11 ≤ length out.old) out.old at result out.new }
 {
-    if out.len() < 11 {
-        return at;
-    }
-    if out.len() - 11 < at {
+    if !digits::has_room(out, at, 11) {
         return at;
     }
     let one = put2(out, at, number);
@@ -60,27 +56,17 @@ pub fn put_answer(out: &mut [u8], at: usize, number: u8, first: usize, second: u
     put_end(out, three)
 }
 
-// A flag as a byte.
-fn flag_byte(flag: bool) -> u8
-    ensures { hex2 result ≡ hex_bool flag }
-{
-    if flag { 1 } else { 0 }
-}
-
 // A frame's line, at a place of the buffer.
 pub fn put_frame(out: &mut [u8], at: usize, thread: u8, region: u8, flag: bool) -> usize
     ensures { PutsLine (frame_line (record { thread = thread; region = region; flag = flag }))
         (at + 7 ≤ length out.old) out.old at result out.new }
 {
-    if out.len() < 7 {
-        return at;
-    }
-    if out.len() - 7 < at {
+    if !digits::has_room(out, at, 7) {
         return at;
     }
     let one = put2(out, at, thread);
     let two = put2(out, one, region);
-    let three = put2(out, two, flag_byte(flag));
+    let three = put2(out, two, u8::from(flag));
     put_end(out, three)
 }
 
@@ -96,39 +82,36 @@ fn place_byte(place: Place) -> u8
 }
 
 // A value as a byte; it is below 256, where the remainder is the value itself.
-pub fn value_byte(value: u16) -> u8
+fn value_byte(value: u16) -> u8
     ensures { result ≡ value % 256 }
 {
     (value % 256) as u8
 }
 
-// The values of the variables, each with 128 added.
-fn put_values(out: &mut [u8], at: usize, vars: usize, values: [u16; syntax::VARIABLES]) -> usize
-    requires { (vars ≤ most_vars) × (at + 2 * vars ≤ length out.old) }
-    ensures { Writes (values_at values vars) out.old at result out.new }
+// The values of the variables, each with 128 added, a byte each.
+pub fn value_bytes(values: [u16; syntax::VARIABLES]) -> [u8; syntax::VARIABLES]
+    ensures long { length result ≡ most_vars }
+    ensures each { (k : ℕ) → k < most_vars → get_or result k 0 ≡ get_or values k 0 % 256 }
 {
-    let mut to = at;
-    let mut k = 0;
-    while k < vars {
-        let value = values[k];
-        to = put2(out, to, value_byte(value));
-        k += 1;
-    }
-    to
+    array::from_fn(|k| value_byte(values[k]))
 }
 
-// The places of the threads.
-fn put_places(out: &mut [u8], at: usize, threads: [Thread; machine::THREADS]) -> usize
-    requires { at + 32 ≤ length out.old }
-    ensures { Writes (places_at threads 16) out.old at result out.new }
+// The places of the threads, a byte each.
+fn place_bytes(threads: [Thread; machine::THREADS]) -> [u8; machine::THREADS]
+    ensures long { length result ≡ 16 }
+    ensures each { (t : ℕ) → t < 16 → get_or result t 0 ≡ byte_of (places_of threads t) }
+{
+    array::from_fn(|t| place_byte(threads[t].place))
+}
+
+// Two digits of each of some bytes.
+fn put_each(out: &mut [u8], at: usize, bytes: &[u8]) -> usize
+    requires { at + 2 * length bytes.now ≤ length out.old }
+    ensures { Writes (each_at bytes.now (length bytes.now)) out.old at result out.new }
 {
     let mut to = at;
-    let mut t = 0;
-    while t < machine::THREADS {
-        let thread = threads[t];
-        let place = thread.place;
-        to = put2(out, to, place_byte(place));
-        t += 1;
+    for b in bytes {
+        to = put2(out, to, *b);
     }
     to
 }
@@ -149,15 +132,13 @@ pub fn put_record(
     if vars > syntax::VARIABLES {
         return at;
     }
-    let size = 35 + 2 * vars;
-    if out.len() < size {
+    if !digits::has_room(out, at, 35 + 2 * vars) {
         return at;
     }
-    if out.len() - size < at {
-        return at;
-    }
+    let values = value_bytes(values);
+    let places = place_bytes(threads);
     let one = put2(out, at, 0);
-    let two = put_values(out, one, vars, values);
-    let three = put_places(out, two, threads);
+    let two = put_each(out, one, &values[..vars]);
+    let three = put_each(out, two, &places);
     put_end(out, three)
 }

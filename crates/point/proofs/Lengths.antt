@@ -1,13 +1,29 @@
 -- How long each part of a point is.
-use Prim.Native.Nat.{ℕ}
-use mathlib.Core.Path.{◌≡◌, refl}
-use mathlib.Core.List.{List}
+use Prim.Native.Nat.{ℕ, ◌%◌, ◌<◌}
+use mathlib.Core.Path.{◌≡◌, refl, sym, ap}
+use mathlib.Core.List.{List, [], ◌∷◌}
+use native.Mathlib.Nat.{zero-add}
 use native.Mathlib.Omega.{arith}
-use lib.ListN.{length, length-append}
+use lib.ListN.{length, get_or, length-append}
 use Rattle.syntax.specs.Limits.{most_vars}
 use Rattle.meaning.specs.Decide.Table.{for_each}
 use Rattle.digits.proofs.ForEach.{for_each_length}
-use Rattle.point.specs.Held.{held_set, held_value, held_each, held_shared, held_notices, held_table, held_point}
+use Rattle.std.specs.Prelude.{Option, Some, None}
+use Rattle.lines.proofs.Writing.{each}
+use Rattle.point.specs.declared.Notices.{Notices}
+use Rattle.point.specs.Held.{held_set, held_value, held_each, held_shared, held_notices, held_table, held_point, table_of}
+
+-- bytes one by one are the bytes
+pub each_byte : (bytes : List ℕ) → for_each (length bytes) 0 (held_each bytes) ≡ bytes
+unfolding held_each
+each_byte bytes = each (λ b. b ∷ []) (λ l. l) refl (λ b l. refl) 0 bytes 0 (held_each bytes) (λ j h. rw zero-add)
+
+pub each_value : (values bytes : List ℕ) → ((k : ℕ) → k < length bytes → get_or bytes k 0 ≡ get_or values k 0 % 256)
+    → for_each (length bytes) 0 (held_value values) ≡ bytes
+unfolding held_value
+each_value values bytes e =
+    each (λ b. b ∷ []) (λ l. l) refl (λ b l. refl) 0 bytes 0 (held_value values)
+    (λ j h. rw zero-add (ap (λ (b : ℕ). b ∷ []) (sym (e j h))))
 
 pub values_length : (values : List ℕ) → length (for_each most_vars 0 (held_value values)) ≡ 6
 unfolding held_value
@@ -23,6 +39,11 @@ shared_length values bytes guards =
     let v = values_length values in
     let p = places_length bytes in
     rw (length-append, length-append) (omega arith)
+
+pub table_length : (t : Option Notices) → length (table_of t) ≡ 5
+unfolding table_of held_table held_notices held_set
+table_length None = refl
+table_length (Some n) = refl
 
 pub point_length : (values bytes : List ℕ) (guards plain told there table woken : ℕ) (turns : List ℕ)
     → length (held_point values bytes guards plain told there table woken turns) ≡ 49

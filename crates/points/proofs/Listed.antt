@@ -21,13 +21,12 @@ use Rattle.digits.proofs.ForEach.{for_each_more}
 use Rattle.digits.proofs.Writing.{written_same, written_more}
 use Rattle.trace.proofs.FramesAt.{frames_end}
 use Rattle.stepper.specs.Shown.{of_machine, told_on}
-use Rattle.run.specs.Way.{run_of, At, TableAt, goes_on, has_stopped, Way, BothStop}
+use Rattle.run.specs.Way.{run_of, At, TableAt, goes_on, has_stopped, Way, BothStop, stop_number, stop_frame}
+use Rattle.std.specs.Prelude.{None}
 use Rattle.run.specs.declared.frames.Going.{Going}
-use Rattle.run.specs.declared.frames.Stop.{Stop}
-use Rattle.run.specs.declared.frames.Passed.{Passed}
+use Rattle.run.specs.declared.frames.Ended.{Ended}
 use Rattle.variables.specs.declared.Bounds.{Bounds}
 use Rattle.layout.specs.declared.Layout.{Layout}
-use Rattle.points.specs.declared.Written.{Written}
 use Rattle.points.specs.Written.{PointsAsked, PointStands, Listed, StopSays, WritesPoints}
 use Rattle.points.proofs.Shown.{at_notices}
 
@@ -49,7 +48,7 @@ module _ {bytes : List ℕ} {s : ℕ} {bounds : Bounds} {layout : Layout} {holds
   }
 
   -- the table's machine has every point before one that it has
-  still_there : {g g' : Going} (k : ℕ) → Way (model m) s fs g k → Way (model m) s fs g' (k + 1) → g'.lost.number ≡ 0
+  still_there : {g g' : Going} (k : ℕ) → Way (model m) s fs g k → Way (model m) s fs g' (k + 1) → stop_number g'.lost ≡ 0
       → At (model m) true s fs g.run k
   still_there {g} {g'} k way next z = go way.table next.table
     where
@@ -60,7 +59,7 @@ module _ {bytes : List ℕ} {s : ℕ} {bounds : Bounds} {layout : Layout} {holds
       go (has_stopped n e) (goes_on y i x) =
           let q =
           ap (run_of (model m) true s) (take-add k 1 fs)
-          ∙ run_stopped (model m) (told_on (model m) true) 0 (all_idle s) g.lost.number g.lost.frame (take k fs)
+          ∙ run_stopped (model m) (told_on (model m) true) 0 (all_idle s) (stop_number g.lost) (stop_frame g.lost) (take k fs)
           (take 1 (drop k fs)) e in
           let t = x.taken in
           let w : ◌≡◌ {A = ℕ} 0 1 = cc in
@@ -118,33 +117,29 @@ module _ {bytes : List ℕ} {s : ℕ} {bounds : Bounds} {layout : Layout} {holds
       ∙ ap (λ (i : ℕ). for_each n 0 (point_at m s fs) ++ drop i out) (zero-add _ ∙ x.long)
 
   -- the plain machine refuses frame k
-  pub ends_stopped : (g : Going) (p : Passed) (k : ℕ) → BothStop (model m) s fs p k → {to : ℕ} {e : List ℕ}
-      → Listed m s fs (k + 1) out to e → (r : Written) → r.plain.number ≡ p.number → r.plain.frame ≡ k
-      → r.table ≡ p.going.lost → r.count ≡ k + 1 → WritesPoints m s fs r out e
+  pub ends_stopped : (g : Going) (e' : Ended) (k : ℕ) → BothStop (model m) s fs g e' k → {to : ℕ} {e : List ℕ}
+      → Listed m s fs (k + 1) out to e
+      → WritesPoints m s fs (record { plain = e'.plain; table = e'.table; count = k + 1 }) out e
   unfolding stop_answer point_count of_machine
-  ends_stopped g p k stop x r number frame lost many = record {
+  ends_stopped g e' k stop x = record {
     stops = each;
-    count = many ∙ sym (ap (λ (y : Run). point_count y fs) stop.plain);
-    bytes = rw many (ended x);
+    count = sym (ap (λ (y : Run). point_count y fs) stop.plain);
+    bytes = ended x;
   }
     where
-      each : (w : Bool) → StopSays (of_machine w r.plain r.table) (stop_answer (run_of (model m) w s fs))
+      each : (w : Bool) → StopSays (of_machine w e'.plain e'.table) (stop_answer (run_of (model m) w s fs))
       each false =
-          subst (λ (y : Run). StopSays r.plain (stop_answer y)) (sym stop.plain)
-          (record { number = number; frame = frame; no_second = refl })
+          subst (λ (y : Run). StopSays e'.plain (stop_answer y)) (sym stop.plain)
+          (record { number = refl; frame = stop.frame; no_second = refl })
       each true =
-          subst (λ (y : Run). StopSays r.table (stop_answer y)) (sym stop.table)
-          (record {
-            number = ap (λ (y : Stop). y.number) lost;
-            frame = ap (λ (y : Stop). y.frame) lost;
-            no_second = refl;
-          })
+          subst (λ (y : Run). StopSays e'.table (stop_answer y)) (sym stop.table)
+          (record { number = refl; frame = refl; no_second = refl })
 
   pub ends_all : (g : Going) (k : ℕ) → Way (model m) s fs g k → length bytes ≤ 7 * k → {to : ℕ} {e : List ℕ}
-      → Listed m s fs (k + 1) out to e → (r : Written) → r.plain.number ≡ 0 → r.plain.frame ≡ 0
-      → r.table ≡ g.lost → r.count ≡ k + 1 → WritesPoints m s fs r out e
-  unfolding stop_answer point_count of_machine
-  ends_all g k way l x r number frame lost many = record {
+      → Listed m s fs (k + 1) out to e → (n : ℕ) → n ≡ k + 1
+      → WritesPoints m s fs (record { plain = None; table = g.lost; count = n }) out e
+  unfolding stop_answer point_count of_machine stop_number stop_frame
+  ends_all g k way l x n many = record {
     stops = each;
     count = many ∙ ap (λ (n : ℕ). n + 1) last ∙ sym (ap (λ (y : Run). point_count y fs) plain_all);
     bytes = rw many (ended x);
@@ -159,20 +154,16 @@ module _ {bytes : List ℕ} {s : ℕ} {bounds : Bounds} {layout : Layout} {holds
       plain_all : run_of (model m) false s fs ≡ accepted way.plain.point
       plain_all = sym (ap (run_of (model m) false s) all) ∙ way.plain.taken
 
-      each : (w : Bool) → StopSays (of_machine w r.plain r.table) (stop_answer (run_of (model m) w s fs))
+      each : (w : Bool) → StopSays (of_machine w None g.lost) (stop_answer (run_of (model m) w s fs))
       each false =
-          subst (λ (y : Run). StopSays r.plain (stop_answer y)) (sym plain_all)
-          (record { number = number; frame = frame; no_second = refl })
+          subst (λ (y : Run). StopSays None (stop_answer y)) (sym plain_all)
+          (record { number = refl; frame = refl; no_second = refl })
       each true = go way.table
         where
-          go : TableAt (model m) s fs g.run g.lost k → StopSays r.table (stop_answer (run_of (model m) true s fs))
+          go : TableAt (model m) s fs g.run g.lost k → StopSays g.lost (stop_answer (run_of (model m) true s fs))
           go (goes_on z i y) =
-              subst (λ (q : Run). StopSays r.table (stop_answer q)) (sym y.taken ∙ ap (run_of (model m) true s) all)
-              (record { number = rw lost z; frame = rw lost i; no_second = refl })
+              subst (λ (q : Run). StopSays g.lost (stop_answer q)) (sym y.taken ∙ ap (run_of (model m) true s) all)
+              (record { number = z; frame = i; no_second = refl })
           go (has_stopped n q) =
-              subst (λ (y : Run). StopSays r.table (stop_answer y)) (sym q ∙ ap (run_of (model m) true s) all)
-              (record {
-                number = ap (λ (y : Stop). y.number) lost;
-                frame = ap (λ (y : Stop). y.frame) lost;
-                no_second = refl;
-              })
+              subst (λ (y : Run). StopSays g.lost (stop_answer y)) (sym q ∙ ap (run_of (model m) true s) all)
+              (record { number = refl; frame = refl; no_second = refl })

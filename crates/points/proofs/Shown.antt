@@ -35,7 +35,7 @@ use Rattle.stepper.specs.Shown.{of_machine, notices_in}
 use Rattle.threads.specs.declared.Threads as held
 use Rattle.stepper.specs.declared.Run as code
 use Rattle.run.specs.Results.{machine_of}
-use Rattle.run.specs.Way.{run_of, At, TableAt, goes_on, has_stopped}
+use Rattle.run.specs.Way.{stop_number, run_of, At, TableAt, goes_on, has_stopped}
 use Rattle.run.specs.declared.frames.Going.{Going}
 use Rattle.run.proofs.Records.{set_shown, list_run}
 use Rattle.variables.specs.declared.Bounds.{Bounds}
@@ -216,7 +216,7 @@ module _ {m : Monitor} {s : ℕ} {fs : List Frame} {k : ℕ} {bounds : Bounds} {
         (turns_last ∙ ap turn_part (sym (list_run m false s (take k fs)))))
 
     -- the table's machine has stopped
-    pub point_absent : (g.lost.number ≡ 0 → ⊥)
+    pub point_absent : (stop_number g.lost ≡ 0 → ⊥)
         → held_point values bytes holding g.run.plain told 0 0 0 turns ≡ point_at m s fs k
     unfolding held_table held_notices held_set table_part
     point_absent other = joined 0 0 0 (go x.way.table)
@@ -228,7 +228,7 @@ module _ {m : Monitor} {s : ℕ} {fs : List Frame} {k : ℕ} {bounds : Bounds} {
         go (has_stopped n e) = sym (ap (table_part (run_of (model m) true s (take (k - 1) fs))) e)
 
     -- it is there
-    pub point_there : g.lost.number ≡ 0 → (woken : ℕ) → g.run.table < 2 ^ 16 → woken < 2 ^ 16
+    pub point_there : stop_number g.lost ≡ 0 → (woken : ℕ) → g.run.table < 2 ^ 16 → woken < 2 ^ 16
         → ((u : ℕ) → member woken u ≡ member g.run.table u && not (member table_before u))
         → held_point values bytes holding g.run.plain told 1 g.run.table woken turns ≡ point_at m s fs k
     unfolding held_table held_notices notice_bytes table_part of_machine

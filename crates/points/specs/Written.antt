@@ -1,5 +1,5 @@
 -- What writing the points of a list says: each machine's end, how many points there are, and every byte of the buffer.
-use Rattle.std.specs.Prelude.{ℕ, ◌+◌, ◌-◌, ◌*◌, ◌<◌, ◌≤◌, ◌≡◌, Bool, true, false, List, ◌++◌, length, take, drop}
+use Rattle.std.specs.Prelude.{ℕ, ◌+◌, ◌-◌, ◌*◌, ◌<◌, ◌≤◌, ◌≡◌, Bool, true, false, List, ◌++◌, length, take, drop, Option}
 use Rattle.syntax.specs.Tree.{Monitor}
 use Rattle.sets.specs.Set.{member}
 use Rattle.machine.specs.Monitor.{Frame}
@@ -13,7 +13,7 @@ use Rattle.variables.specs.Bounded.{Bounded}
 use Rattle.variables.specs.declared.Bounds.{Bounds}
 use Rattle.layout.specs.declared.Layout.{Layout}
 use Rattle.stepper.specs.Shown.{of_machine}
-use Rattle.run.specs.Way.{Asked, run_of, Way}
+use Rattle.run.specs.Way.{Asked, run_of, Way, stop_number, stop_frame}
 use Rattle.run.specs.declared.frames.Going.{Going}
 use Rattle.run.specs.declared.frames.Stop.{Stop}
 use Rattle.points.specs.declared.Written.{Written}
@@ -41,7 +41,7 @@ pub record PointStands (m : Monitor) (s : ℕ) (fs : List Frame) (k : ℕ) (boun
   pub guard_count : count_of_guards ≡ length (guards m)
   pub plain_before : (u : ℕ) → u < 16 → member plain u ≡ notices_at (run_of (model m) false s (take (k - 1) fs)) u
   pub table_before :
-      g.lost.number ≡ 0 → (u : ℕ) → u < 16 → member table u
+      stop_number g.lost ≡ 0 → (u : ℕ) → u < 16 → member table u
       ≡ notices_at (run_of (model m) true s (take (k - 1) fs)) u
 
 -- what is written up to a point: the points so far, of 49 bytes each
@@ -50,9 +50,9 @@ pub record Listed (m : Monitor) (s : ℕ) (fs : List Frame) (n : ℕ) (before : 
   pub long : length (for_each n 0 (point_at m s fs)) ≡ 49 * n
 
 -- a stop of the code says an answer
-pub record StopSays (stop : Stop) (a : Answer) : Type 0 where
-  pub number : stop.number ≡ a.number
-  pub frame : stop.frame ≡ a.first
+pub record StopSays (stop : Option Stop) (a : Answer) : Type 0 where
+  pub number : stop_number stop ≡ a.number
+  pub frame : stop_frame stop ≡ a.first
   pub no_second : a.second ≡ 0
 
 pub record WritesPoints (m : Monitor) (s : ℕ) (fs : List Frame) (r : Written) (before after : List ℕ) : Type 0 where

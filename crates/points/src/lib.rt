@@ -13,6 +13,7 @@ ghost use Rattle.meaning.specs.Model.{model};
 
 use layout::Layout;
 use machine::StateNumber;
+use point::{Notices, Point};
 use run::frames::{Going, Stop};
 use stepper::Slices;
 use variables::Bounds;
@@ -20,8 +21,8 @@ use variables::Bounds;
 // Where each machine stops, and how many points are written.
 #[derive(Clone, Copy)]
 pub struct Written {
-    pub plain: Stop,
-    pub table: Stop,
+    pub plain: Option<Stop>,
+    pub table: Option<Stop>,
     pub count: usize,
 }
 
@@ -41,23 +42,32 @@ fn write_point(
         → at + 49 ≤ length out.old
         → Writes (point_at m s fs k) out.old at result out.new × (length (point_at m s fs k) ≡ 49) }
 {
-    let run = going.run;
-    let lost = going.lost;
-    let threads = run.threads;
-    let each = threads.each;
+    let Going { run, lost } = going;
     let values = variables::values_of(bounds, run.state);
-    let bytes = point::place_bytes(each);
-    let turns = point::turn_bytes(each);
+    let places = point::place_bytes(run.threads.each);
+    let turns = point::turn_bytes(run.threads.each);
     let holding = sets::below(holds[(run.state % machine::STATE_END) as usize], guards);
     let now = run.plain;
     let told = sets::minus(now, plain);
-    if lost.number != 0 {
-        return point::put_point(out, at, values, bytes, holding, now, told, 0, 0, 0, turns);
-    }
-    let woken = sets::minus(run.table, table);
-    point::put_point(
-        out, at, values, bytes, holding, now, told, 1, run.table, woken, turns,
-    )
+    let notices = match lost {
+        Some(_) => None,
+        None => {
+            let woken = sets::minus(run.table, table);
+            Some(Notices {
+                now: run.table,
+                told: woken,
+            })
+        }
+    };
+    let point = Point {
+        values,
+        places,
+        guards: holding,
+        plain: Notices { now, told },
+        table: notices,
+        turns,
+    };
+    point::put_point(out, at, &point)
 }
 
 // The points behind the first one, from a place of the buffer on.
@@ -92,19 +102,17 @@ fn write_rest(
     let mut to = next;
     let lines = bytes.len().div_ceil(trace::FRAME);
     for k in 0..lines {
-        let passed = run::frames::pass(going, bytes, k * trace::FRAME, k, &slices);
-        let then = passed.going;
-        if passed.number != 0 {
-            let taken = k + 1;
-            return Written {
-                plain: Stop {
-                    number: passed.number,
-                    frame: k,
-                },
-                table: then.lost,
-                count: taken,
-            };
-        }
+        let then = match run::frames::pass(going, bytes, k * trace::FRAME, k, &slices) {
+            Ok(then) => then,
+            Err(ended) => {
+                let count = k + 1;
+                return Written {
+                    plain: ended.plain,
+                    table: ended.table,
+                    count,
+                };
+            }
+        };
         to = write_point(
             out,
             to,
@@ -119,10 +127,7 @@ fn write_rest(
     }
     let count = lines + 1;
     Written {
-        plain: Stop {
-            number: 0,
-            frame: 0,
-        },
+        plain: None,
         table: going.lost,
         count,
     }
@@ -146,10 +151,7 @@ pub fn write_points(
 {
     let first = Going {
         run: stepper::start(state),
-        lost: Stop {
-            number: 0,
-            frame: 0,
-        },
+        lost: None,
     };
     let next = write_point(out, 0, bounds, layout.guards, holds, first, 0, 0);
     write_rest(

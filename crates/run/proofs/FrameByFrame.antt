@@ -1,9 +1,10 @@
 -- A run of a list, frame by frame: what the code's record shows on the way. That the table's machine has stopped where
 -- the plain one does is demand 3.
-use Prim.Native.Nat.{ℕ, zero, suc, ◌+◌, ◌*◌, ◌<◌, ◌≤◌}
+use Prim.Native.Nat.{ℕ, suc, ◌+◌, ◌*◌, ◌<◌, ◌≤◌}
 use native.Mathlib.Omega.{arith}
 use native.Mathlib.Numerals.{add-one}
-use mathlib.Core.Path.{◌≡◌, refl, sym, ap, ◌∙◌, subst}
+use mathlib.Core.Path.{◌≡◌, refl, sym, ap, ap₂, ◌∙◌, subst}
+use Rattle.std.specs.Prelude.{⊤, Option, Some, None, Result, Ok, Err}
 use mathlib.Core.Bool.{Bool, true, false, true≢false}
 use mathlib.Core.List.{List, [], ◌∷◌, ◌++◌}
 use lib.ListN.{length, take, drop, get_or, length-take, take-append-drop}
@@ -18,6 +19,9 @@ use Rattle.machine.proofs.RulesDecided.{run_on, run_stop, refused_number, told_d
 use Rattle.machine.proofs.Reached.{start_reached, step_reached}
 use Rattle.meaning.specs.Decide.Frames.{frames_of, frames}
 use Rattle.demands.proofs.Prefixes.{run_append, run_stopped}
+use Rattle.stepper.specs.Answered.{answered, number_of}
+use Rattle.stepper.specs.declared.Refusal.{Refusal}
+use Rattle.stepper.specs.declared.Refusal.TheVariants.{Misplaced, NotAllowed}
 use Rattle.stepper.specs.declared.Run as code
 use Rattle.stepper.specs.declared.Frame.{Frame}
 use Rattle.stepper.specs.declared.Outcome as coded
@@ -25,11 +29,10 @@ use Rattle.stepper.specs.Shown.{of_machine, Shows, Steps, step_by, told_on, fram
 use Rattle.trace.specs.Decoded.{numbers_at}
 use Rattle.trace.proofs.FramesAt.{frame_at, frames_end}
 use Rattle.trace.specs.declared.Numbers.{Numbers}
-use Rattle.run.specs.Way.{run_of, At, TableAt, goes_on, has_stopped, lost_by, Way, BothStop, Passes}
+use Rattle.run.specs.Way.{run_of, At, TableAt, goes_on, has_stopped, lost_by, stop_number, stop_frame, Way, BothStop}
 use Rattle.run.specs.Ended.{EndsAs}
 use Rattle.run.specs.declared.frames.Stop.{Stop}
 use Rattle.run.specs.declared.frames.Going.{Going}
-use Rattle.run.specs.declared.frames.Passed.{Passed}
 use Rattle.run.specs.declared.frames.Ended.{Ended}
 
 -- ---- the frame that is next
@@ -128,30 +131,42 @@ not_alone m ok s kept fs k l d e a j q =
     let z : ◌≡◌ {A = ℕ} 0 1 = cc in
     omega arith
 
--- ---- the table's refusal
+-- ---- where the table's machine has stopped
 
-pub lost_first : (lost : Stop) (n k : ℕ) → lost.number ≡ 0 → (n ≡ 0 → ⊥) → lost_by lost n k ≡ record { number = n; frame = k }
-unfolding lost_by
-lost_first lost zero k e h = absurd (h refl)
-lost_first lost (suc n) k e h = rw (lost_by, e)
+pub some_number : (r : Refusal) → number_of r ≡ 0 → ⊥
+unfolding number_of
+some_number Misplaced z = absurd (omega arith)
+some_number NotAllowed z = absurd (omega arith)
 
-pub lost_kept : (lost : Stop) (n k : ℕ) → (lost.number ≡ 0 → ⊥) → lost_by lost n k ≡ lost
-unfolding lost_by
-lost_kept lost zero k h = refl
-lost_kept lost (suc n) k h = go lost.number h
-  where
-    go : (j : ℕ) → (j ≡ 0 → ⊥)
-        → ◌≡◌ {A = Stop} (elim j [ zero ↦ record { number = suc n; frame = k } | suc i ↦ lost ]) lost
-    go zero e = absurd (e refl)
-    go (suc j) e = refl
+-- nothing has stopped it before
+lost_first : (lost : Option Stop) (a : Result ⊤ Refusal) (k : ℕ) → stop_number lost ≡ 0 → (answered a ≡ 0 → ⊥)
+    → (stop_number (lost_by lost a k) ≡ answered a) × (stop_frame (lost_by lost a k) ≡ k)
+unfolding lost_by stop_number stop_frame answered
+lost_first (Some stop) a k z h = absurd (some_number stop.refusal z)
+lost_first None (Ok u) k z h = absurd (h refl)
+lost_first None (Err r) k z h = (refl, refl)
+
+-- it has stopped before, or takes the frame
+lost_kept : (lost : Option Stop) (a : Result ⊤ Refusal) (k : ℕ) → (stop_number lost ≡ 0 → ⊥) → lost_by lost a k ≡ lost
+unfolding lost_by stop_number
+lost_kept (Some stop) a k h = refl
+lost_kept None a k h = absurd (h refl)
+
+lost_taken : (lost : Option Stop) (a : Result ⊤ Refusal) (k : ℕ) → answered a ≡ 0 → lost_by lost a k ≡ lost
+unfolding lost_by answered
+lost_taken (Some stop) a k z = refl
+lost_taken None (Ok u) k z = refl
+lost_taken None (Err r) k z = absurd (some_number r z)
 
 -- ---- one frame more on both machines
 
 module _ (m : Monitor) (ok : Checked m) (s : ℕ) (kept : m.kept s ≡ true) (fs : List machine.Frame) (g : Going) (k : ℕ)
     (way : Way m s fs g k) {bytes : List ℕ} (f : Frame) (h : Here bytes fs k (frame_of f)) (o : coded.Outcome)
-    (steps : (w : Bool) (x : At m w s fs g.run k) → Steps w o (step_by m w x.point f)) (p : Passed)
-    (number : p.number ≡ o.plain) (same_run : p.going.run ≡ o.run)
-    (same_lost : p.going.lost ≡ lost_by g.lost o.table k) where
+    (steps : (w : Bool) (x : At m w s fs g.run k) → Steps w o (step_by m w x.point f)) where
+  -- where the table's machine has stopped behind the frame
+  abbrev lost : Option Stop
+  lost = lost_by g.lost o.answers.table k
+
   -- what a machine makes of the frame
   data Took (w : Bool) (x : At m w s fs g.run k) : Type 0 where
     took : number_in w o ≡ 0 → (d : Config) → step m (told_on m w) x.point (frame_of f) ≡ moved d → Shows w o.run d
@@ -169,80 +184,92 @@ module _ (m : Monitor) (ok : Checked m) (s : ℕ) (kept : m.kept s ≡ true) (fs
           stops (λ z. omega arith) (e ∙ ap refused (sym q))
 
   -- the table's machine behind the frame
-  table_next : TableAt m s fs g.run g.lost k → TableAt m s fs o.run (lost_by g.lost o.table k) (suc k)
-  unfolding of_machine lost_by
+  table_next : TableAt m s fs g.run g.lost k → TableAt m s fs o.run lost (suc k)
+  unfolding of_machine
   table_next (goes_on z i x) = go (took_by true x)
     where
-      go : Took true x → TableAt m s fs o.run (lost_by g.lost o.table k) (suc k)
+      go : Took true x → TableAt m s fs o.run lost (suc k)
       go (took n d e q) =
-          subst (λ (j : ℕ). TableAt m s fs o.run (lost_by g.lost j k) (suc k)) (sym n)
+          subst (λ (l : Option Stop). TableAt m s fs o.run l (suc k)) (sym (lost_taken g.lost o.answers.table k n))
           (goes_on z i (at_next m true s fs x way.below h ok d e o.run q))
       go (stops n e) =
-          subst (λ (l : Stop). TableAt m s fs o.run l (suc k)) (sym (lost_first g.lost o.table k z n))
-          (has_stopped n (next_stops m true s fs x way.below h o.table e))
+          let l = lost_first g.lost o.answers.table k z n in
+          has_stopped (λ q. n (sym l.0 ∙ q))
+          (next_stops m true s fs x way.below h (answered o.answers.table) e ∙ sym (ap₂ stopped l.0 l.1))
   table_next (has_stopped n e) =
-      subst (λ (l : Stop). TableAt m s fs o.run l (suc k)) (sym (lost_kept g.lost o.table k n))
+      subst (λ (l : Option Stop). TableAt m s fs o.run l (suc k)) (sym (lost_kept g.lost o.answers.table k n))
       (has_stopped n
       (ap (run_of m true s) h.front
-      ∙ run_stopped m (told_on m true) 0 (all_idle s) g.lost.number g.lost.frame (take k fs) (frame_of f ∷ []) e))
+      ∙ run_stopped m (told_on m true) 0 (all_idle s) (stop_number g.lost) (stop_frame g.lost) (take k fs) (frame_of f ∷ []) e))
 
-  way_next : o.plain ≡ 0 → Way m s fs p.going (suc k)
+  way_next : answered o.answers.plain ≡ 0 → Way m s fs (record { run = o.run; lost = lost }) (suc k)
   unfolding of_machine
   way_next zero_number = go (took_by false way.plain)
     where
-      go : Took false way.plain → Way m s fs p.going (suc k)
+      go : Took false way.plain → Way m s fs (record { run = o.run; lost = lost }) (suc k)
       go (took n d e q) = record {
         below = let l = h.more in omega arith;
-        plain = rw same_run (at_next m false s fs way.plain way.below h ok d e o.run q);
-        table = rw (same_run, same_lost) (table_next way.table);
+        plain = at_next m false s fs way.plain way.below h ok d e o.run q;
+        table = table_next way.table;
       }
       go (stops n e) = absurd (n zero_number)
 
   -- the plain machine refuses the frame, and the table's has stopped
-  table_stops : (o.plain ≡ 0 → ⊥) → run_of m false s (take (suc k) fs) ≡ stopped o.plain k
+  table_stops : (answered o.answers.plain ≡ 0 → ⊥) → run_of m false s (take (suc k) fs) ≡ stopped (answered o.answers.plain) k
       → TableAt m s fs g.run g.lost k
-      → (run_of m true s fs ≡ stopped (lost_by g.lost o.table k).number (lost_by g.lost o.table k).frame)
-      × ((lost_by g.lost o.table k).number ≡ 0 → ⊥)
+      → (run_of m true s fs ≡ stopped (stop_number lost) (stop_frame lost)) × (stop_number lost ≡ 0 → ⊥)
   unfolding of_machine
   table_stops other ends (goes_on z i x) = go (took_by true x)
     where
-      go : Took true x
-          → (run_of m true s fs ≡ stopped (lost_by g.lost o.table k).number (lost_by g.lost o.table k).frame)
-          × ((lost_by g.lost o.table k).number ≡ 0 → ⊥)
+      go : Took true x → (run_of m true s fs ≡ stopped (stop_number lost) (stop_frame lost)) × (stop_number lost ≡ 0 → ⊥)
       go (took n d e q) =
           absurd
-          (not_alone m ok s kept fs k h.more d (next_taken m true s fs x way.below h d e) o.plain k ends)
+          (not_alone m ok s kept fs k h.more d (next_taken m true s fs x way.below h d e) (answered o.answers.plain) k ends)
       go (stops n e) =
-          subst (λ (l : Stop). (run_of m true s fs ≡ stopped l.number l.frame) × (l.number ≡ 0 → ⊥))
-          (sym (lost_first g.lost o.table k z n)) (all_stop m true s fs x way.below h o.table e, n)
+          let l = lost_first g.lost o.answers.table k z n in (
+            all_stop m true s fs x way.below h (answered o.answers.table) e ∙ sym (ap₂ stopped l.0 l.1),
+            λ q. n (sym l.0 ∙ q),
+          )
   table_stops other ends (has_stopped n e) =
-      subst (λ (l : Stop). (run_of m true s fs ≡ stopped l.number l.frame) × (l.number ≡ 0 → ⊥))
-      (sym (lost_kept g.lost o.table k n)) (
+      subst (λ (l : Option Stop). (run_of m true s fs ≡ stopped (stop_number l) (stop_frame l)) × (stop_number l ≡ 0 → ⊥))
+      (sym (lost_kept g.lost o.answers.table k n)) (
         ap (run_of m true s) h.whole
-            ∙ run_stopped m (told_on m true) 0 (all_idle s) g.lost.number g.lost.frame (take k fs)
+            ∙ run_stopped m (told_on m true) 0 (all_idle s) (stop_number g.lost) (stop_frame g.lost) (take k fs)
             (frame_of f ∷ drop (suc k) fs) e,
         n,
       )
 
-  both_stop : (o.plain ≡ 0 → ⊥) → BothStop m s fs p k
-  unfolding of_machine
-  both_stop other = go (took_by false way.plain)
+  both_stop : (r : Refusal) → o.answers.plain ≡ Err r
+      → BothStop m s fs g (record { plain = Some (record { refusal = r; frame = k }); table = lost; run = g.run }) k
+  unfolding of_machine stop_number stop_frame answered
+  both_stop r refuses = go (took_by false way.plain)
     where
-      go : Took false way.plain → BothStop m s fs p k
+      same : answered o.answers.plain ≡ number_of r
+      same = ap answered refuses
+
+      other : answered o.answers.plain ≡ 0 → ⊥
+      other z = some_number r (sym same ∙ z)
+
+      go : Took false way.plain
+          → BothStop m s fs g (record { plain = Some (record { refusal = r; frame = k }); table = lost; run = g.run }) k
       go (took n d e q) = absurd (other n)
       go (stops n e) =
-          let t = table_stops other (next_stops m false s fs way.plain way.below h o.plain e) way.table in
+          let t = table_stops other (next_stops m false s fs way.plain way.below h (answered o.answers.plain) e) way.table in
           record {
-            plain = rw number (all_stop m false s fs way.plain way.below h o.plain e);
-            table = rw same_lost t.0;
-            refused = rw same_lost t.1;
+            plain = all_stop m false s fs way.plain way.below h (answered o.answers.plain) e ∙ ap (λ (a : ℕ). stopped a k) same;
+            table = t.0;
+            refused = t.1;
+            frame = refl;
+            before = refl;
           }
 
-  pub passed : Passes m s fs p k
-  passed = record {
-    taken = λ z. rw add-one (way_next (sym number ∙ z));
-    refused = λ z. both_stop (λ n. z (number ∙ n));
-  }
+  pub passed_on : o.answers.plain ≡ Ok tt → Way m s fs (record { run = o.run; lost = lost }) (k + 1)
+  unfolding answered
+  passed_on takes = rw add-one (way_next (ap answered takes))
+
+  pub passed_stop : (r : Refusal) → o.answers.plain ≡ Err r
+      → BothStop m s fs g (record { plain = Some (record { refusal = r; frame = k }); table = lost; run = g.run }) k
+  passed_stop = both_stop
 
 -- ---- the end
 
@@ -250,11 +277,13 @@ module _ (m : Monitor) (s : ℕ) (fs : List machine.Frame) where
   -- past the last frame every machine that goes on has taken all
   pub ends_all : (bytes : List ℕ) (g : Going) (k : ℕ) → Way m s fs g k → frames_of bytes ≡ frames fs
       → length bytes ≤ 7 * k
-      → (e : Ended) → e.plain.number ≡ 0 → e.plain.frame ≡ 0 → e.table ≡ g.lost → e.run ≡ g.run
-      → (w : Bool) → EndsAs w (run_of m w s) fs e (run_of m w s fs)
-  unfolding of_machine EndsAs
-  ends_all bytes g k way read l e number frame lost same = each
+      → (w : Bool) → EndsAs w (run_of m w s) fs (record { plain = None; table = g.lost; run = g.run }) (run_of m w s fs)
+  unfolding of_machine EndsAs stop_number stop_frame
+  ends_all bytes g k way read l = each
     where
+      e : Ended
+      e = record { plain = None; table = g.lost; run = g.run }
+
       all : take k fs ≡ fs
       all = let w = (frames_end read).whole in take_all k fs (omega arith)
 
@@ -262,34 +291,33 @@ module _ (m : Monitor) (s : ℕ) (fs : List machine.Frame) where
       each false =
           let x = way.plain in
           subst (EndsAs false (run_of m false s) fs e) (sym x.taken ∙ ap (run_of m false s) all)
-          (record { number = number; frame = frame; shows = rw same x.shows })
+          (record { number = refl; frame = refl; shows = x.shows })
       each true = go way.table
         where
           go : TableAt m s fs g.run g.lost k → EndsAs true (run_of m true s) fs e (run_of m true s fs)
           go (goes_on z i x) =
               subst (EndsAs true (run_of m true s) fs e) (sym x.taken ∙ ap (run_of m true s) all)
-              (record { number = rw lost z; frame = rw lost i; shows = rw same x.shows })
+              (record { number = z; frame = i; shows = x.shows })
           go (has_stopped n q) =
               subst (EndsAs true (run_of m true s) fs e) (sym q ∙ ap (run_of m true s) all)
               (record {
-                number = ap (λ (x : Stop). x.number) lost;
-                frame = ap (λ (x : Stop). x.frame) lost;
+                number = refl;
+                frame = refl;
                 last = λ z. absurd (true≢false z);
               })
 
   -- the plain machine refuses frame k
-  pub ends_stopped : (g : Going) (p : Passed) (k : ℕ) → Way m s fs g k → BothStop m s fs p k
-      → (e : Ended) → e.plain.number ≡ p.number → e.plain.frame ≡ k → e.table ≡ p.going.lost → e.run ≡ g.run
+  pub ends_stopped : (g : Going) (e : Ended) (k : ℕ) → Way m s fs g k → BothStop m s fs g e k
       → (w : Bool) → EndsAs w (run_of m w s) fs e (run_of m w s fs)
   unfolding of_machine EndsAs
-  ends_stopped g p k way stop e number frame lost same false =
+  ends_stopped g e k way stop false =
       let x = way.plain in
       subst (EndsAs false (run_of m false s) fs e) (sym stop.plain)
-      (record { number = number; frame = frame; last = λ z. (x.point, x.taken, rw same x.shows) })
-  ends_stopped g p k way stop e number frame lost same true =
+      (record { number = refl; frame = stop.frame; last = λ z. (x.point, x.taken, rw stop.before x.shows) })
+  ends_stopped g e k way stop true =
       subst (EndsAs true (run_of m true s) fs e) (sym stop.table)
       (record {
-        number = ap (λ (x : Stop). x.number) lost;
-        frame = ap (λ (x : Stop). x.frame) lost;
+        number = refl;
+        frame = refl;
         last = λ z. absurd (true≢false z);
       })

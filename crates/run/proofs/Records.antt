@@ -22,10 +22,13 @@ use Rattle.machine.specs.Monitor as machine
 use Rattle.machine.specs.Agreement.{Checked}
 use Rattle.machine.specs.Held.{Held}
 use Rattle.logic.specs.Tests.{bit}
-use Rattle.logic.proofs.Bools.{split}
-use Rattle.meaning.specs.Answer.{Answer, answer}
-use Rattle.answers.specs.Says.{Says}
-use Rattle.answers.specs.declared.Answer as code_answer
+use Rattle.logic.proofs.Bools.{split, clash}
+use Rattle.meaning.specs.Answer.{answer}
+use Rattle.answers.specs.Numbered.{numbered}
+use Rattle.answers.specs.declared.Refusal.{Refusal}
+use Rattle.answers.specs.declared.Refusal.TheVariants.{NoStart, NoFrame}
+use Rattle.std.specs.Prelude.{⊤, Result, Ok, Err}
+use Rattle.std.specs.Result.{is_err}
 use Rattle.meaning.specs.Held.{Biased}
 use Rattle.meaning.specs.State.{state_at}
 use Rattle.meaning.specs.State as state
@@ -159,12 +162,6 @@ from_kept : (m : Monitor) (w : Machine) (s : ℕ) (bytes : List ℕ) → kept m 
 unfolding run_from
 from_kept m w s bytes k = rw (run_from, k)
 
--- what an answer of the code says, in its parts
-says_subst : {r : code_answer.Answer} {a : Answer} → Says r a → (q : Running)
-    → Runs (not_run (answer r.number r.first r.second)) q → Runs (not_run a) q
-says_subst e q h =
-    subst (λ x. Runs (not_run x) q) (λ i. answer (e.number i) (e.first i) (e.second i)) h
-
 -- a run of a list, as the meaning has it and as the code's promises do
 pub list_run : (m : Monitor) (w : Bool) (s : ℕ) (fs : List machine.Frame)
     → run_list m (machine_of w) s fs ≡ run_of (model m) w s fs
@@ -193,20 +190,39 @@ module _ (m : Monitor) (w : Bool) (s : ℕ) (bytes : List ℕ) (r : Running) whe
 
 -- ---- before the first frame
 
-module _ {m : Monitor} {s : ℕ} {bytes : List ℕ} {r : code_answer.Answer} where
-  -- a number other than 0 is the answer of either machine
-  pub refused_early : Admits m s bytes r → (r.number ≡ 0 → ⊥) → (q : Running)
-      → Runs (not_run (answer r.number r.first r.second)) q → (w : Bool) → Runs (run_from m (machine_of w) s bytes) q
-  refused_early (not_kept k e) other q h w = not_started m w s bytes q k (says_subst e q h)
-  refused_early (no_frame j k f e) other q h w = not_framed m w s bytes q j k f (says_subst e q h)
-  refused_early (all_frames fs k f e) other q h w = absurd (other e.number)
+-- the refusal of a result, by another of it
+refusal_in : Refusal → Result ⊤ Refusal → Refusal
+refusal_in x (Ok u) = x
+refusal_in x (Err y) = y
 
-  -- with 0 there are the frames
-  pub admitted : Admits m s bytes r → r.number ≡ 0
+pub same_refusal : {r : Result ⊤ Refusal} (x y : Refusal) → r ≡ Err x → r ≡ Err y → x ≡ y
+unfolding refusal_in
+same_refusal x y e f = ap (refusal_in x) (sym e ∙ f)
+
+-- a refusal is no acceptance
+pub not_ok : {C : Type 0} {r : Result ⊤ Refusal} (x : Refusal) → r ≡ Err x → r ≡ Ok tt → C
+not_ok x e o = clash (ap is_err e) (ap is_err o)
+
+pub ok_of : (r : Result ⊤ Refusal) → ((x : Refusal) → r ≡ Err x → ⊥) → r ≡ Ok tt
+ok_of (Ok u) h = refl
+ok_of (Err x) h = absurd (h x refl)
+
+module _ {m : Monitor} {s : ℕ} {bytes : List ℕ} {r : Result ⊤ Refusal} where
+  -- a refusal is the answer of either machine
+  pub refused_early : Admits m s bytes r → (x : Refusal) → r ≡ Err x → (q : Running)
+      → Runs (not_run (numbered x)) q → (w : Bool) → Runs (run_from m (machine_of w) s bytes) q
+  refused_early (not_kept k e) x is q h w =
+      not_started m w s bytes q k (subst (λ y. Runs (not_run (numbered y)) q) (same_refusal _ _ is e) h)
+  refused_early (no_frame j k f e) x is q h w =
+      not_framed m w s bytes q j k f (subst (λ y. Runs (not_run (numbered y)) q) (same_refusal _ _ is e) h)
+  refused_early (all_frames fs k f e) x is q h w = not_ok x is e
+
+  -- else there are the frames
+  pub admitted : Admits m s bytes r → r ≡ Ok tt
       → (fs : List machine.Frame) × (kept m s ≡ true) × (frames_of bytes ≡ frames fs)
-  admitted (not_kept k e) z = absurd (omega (arith, e.number))
-  admitted (no_frame j k f e) z = absurd (omega (arith, e.number))
-  admitted (all_frames fs k f e) z = (fs, k, f)
+  admitted (not_kept k e) o = not_ok NoStart e o
+  admitted (no_frame j k f e) o = not_ok (NoFrame j) e o
+  admitted (all_frames fs k f e) o = (fs, k, f)
 
 -- the end of the code's run by its parts: the state is one of the file's, and a refusal has a number
 pub stops_as : (m : Monitor) → Checked (model m) → (w : Bool) (s : ℕ) → kept m s ≡ true → (fs : List machine.Frame) (e : Ended)

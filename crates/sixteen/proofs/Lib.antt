@@ -1,2 +1,3 @@
 pub mod Fill
 pub mod Division
+pub mod Arrays

@@ -7,6 +7,7 @@ use Rattle.machine.specs.Decide.Step.{Outcome, moved, refused, step, plain_told,
 use Rattle.machine.specs.Monitor as machine
 use Rattle.machine.specs.Decide.Table.{entry_of, table_told}
 use Rattle.threads.specs.Held.{threads_of, Turned}
+use Rattle.stepper.specs.Answered.{answered}
 use Rattle.stepper.specs.declared.Run.{Run}
 use Rattle.stepper.specs.declared.Frame.{Frame}
 use Rattle.stepper.specs.declared.Outcome as code
@@ -37,7 +38,7 @@ told_on m false = plain_told m
 
 -- a machine's number in an outcome of the code
 abbrev pub number_in : Bool → code.Outcome → ℕ
-number_in w o = of_machine w o.plain o.table
+number_in w o = answered (of_machine w o.answers.plain o.answers.table)
 
 -- the code's outcome against the machine's: a refusal's number, or 0 and a record that shows the next point
 unfoldable pub Steps : Bool → code.Outcome → Outcome → Type 0
@@ -46,7 +47,7 @@ Steps w o (refused a) = number_in w o ≡ a
 
 -- where neither machine takes the frame the record is as it was
 unfoldable pub Stays : Run → code.Outcome → Type 0
-Stays before o = (o.plain ≡ 0 → ⊥) → (o.table ≡ 0 → ⊥) → o.run ≡ before
+Stays before o = (answered o.answers.plain ≡ 0 → ⊥) → (answered o.answers.table ≡ 0 → ⊥) → o.run ≡ before
 
 unfoldable pub step_by : Monitor → Bool → Config → Frame → Outcome
 step_by m w c f = step m (told_on m w) c (frame_of f)

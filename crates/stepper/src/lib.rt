@@ -13,6 +13,7 @@ ghost use Rattle.machine.specs.Agreement.{Checked};
 ghost use Rattle.machine.proofs.Reached.{Reached};
 ghost use Rattle.machine.proofs.Points.{ToldAt};
 ghost use Rattle.threads.specs.Held.{place_of, places_of, Turned, Queued};
+ghost use Rattle.stepper.specs.Answered.{answered};
 ghost use Rattle.stepper.specs.Shown.{of_machine, Shows, Steps, Stays, step_by, frame_of};
 ghost use Rattle.waiters.specs.Slices.{holds_at, follows_at, slices};
 ghost use Rattle.stepper.specs.Slices.{newly_at, config_of};
@@ -20,6 +21,7 @@ ghost use Rattle.stepper.specs.Parts.{verdict, verdict_of, next_by, AheadOf};
 
 use machine::StateNumber;
 use threads::{Place, Thread, Threads};
+use waiters::PerMachine;
 
 // The record of both machines' runs: the state's number, all threads, and each machine's notified set.
 #[derive(Clone, Copy)]
@@ -37,27 +39,22 @@ pub struct Frame {
     pub flag: bool,
 }
 
-// Of each machine the refusal's number, or 0 where it takes the frame; and the record afterwards, which shows the next
-// point of a machine that takes it, and is as it was where neither does.
+// Why a machine does not take a frame.
+#[derive(Clone, Copy, Debug, PartialEq, Eq)]
+pub enum Refusal {
+    // 13: the thread may not be at the region.
+    Misplaced,
+    // 14: the rules do not allow the frame.
+    NotAllowed,
+}
+
+// Of each machine whether it takes the frame, or why not; and the record afterwards, which shows the next point of a machine
+// that takes it, and is as it was where neither does.
 #[derive(Clone, Copy)]
 pub struct Outcome {
-    pub plain: u8,
-    pub table: u8,
+    pub answers: PerMachine<Result<(), Refusal>>,
     pub run: Run,
 }
-
-// What answers a frame on each machine.
-#[derive(Clone, Copy)]
-struct Numbers {
-    plain: u8,
-    table: u8,
-}
-
-const ACCEPTED: u8 = 0;
-
-const MISPLACED: u8 = 13;
-
-const NOT_ALLOWED: u8 = 14;
 
 // A run at its start: all idle, none notified.
 pub fn start(state: StateNumber) -> Run
@@ -89,39 +86,33 @@ fn other_due(each: [Thread; machine::THREADS], t: usize) -> bool
     found
 }
 
-// What answers a waiting thread t whose flag is 00, by a machine's notices: it must have one.
-fn rechecks(notified: u16, t: u8) -> u8
-    ensures { result ≡ verdict true true true false (member notified t) true }
+// A frame is taken where the rules allow it.
+#[tactic(auto, unfolding(crate::specs::Parts::verdict, crate::specs::Answered::answered, crate::specs::Answered::number_of))]
+fn taken_if(allowed: bool) -> Result<(), Refusal>
+    ensures { answered result ≡ verdict true true true false allowed true }
 {
-    if sets::has(notified, t as u32) {
-        return ACCEPTED;
+    if allowed {
+        Ok(())
+    } else {
+        Err(Refusal::NotAllowed)
     }
-    NOT_ALLOWED
+}
+
+// What answers a waiting thread t whose flag is 00, by a machine's notices: it must have one.
+fn rechecks(notified: u16, t: u8) -> Result<(), Refusal>
+    ensures { answered result ≡ verdict true true true false (member notified t) true }
+{
+    taken_if(sets::has(notified, t as u32))
 }
 
 // What answers a waiting thread t whose flag is 01: it must have a notice, and none of those ahead of it in its guard's line
 // may have one.
-fn resumes(notified: u16, ahead: u16, t: u8) -> u8
+fn resumes(notified: u16, ahead: u16, t: u8) -> Result<(), Refusal>
     ensures { (line : List ℕ) → AheadOf line t ahead
-        → result ≡ verdict true true true true (member notified t) (first_in line (member notified) t) }
+        → answered result ≡ verdict true true true true (member notified t) (first_in line (member notified) t) }
 {
-    if !sets::has(notified, t as u32) {
-        return NOT_ALLOWED;
-    }
-    if sets::lowest(sets::both(ahead, notified)) == machine::THREAD_END as u32 {
-        return ACCEPTED;
-    }
-    NOT_ALLOWED
-}
-
-// One number for both machines.
-fn alike(number: u8) -> Numbers
-    ensures { (w : Bool) → of_machine w result.plain result.table ≡ number }
-{
-    Numbers {
-        plain: number,
-        table: number,
-    }
+    let first = sets::lowest(sets::both(ahead, notified)) == machine::THREAD_END as u32;
+    taken_if(sets::has(notified, t as u32) & first)
 }
 
 // The record after a frame with 00 that is taken: a recheck, or a thread that begins to wait. No monitor is asked.
@@ -183,11 +174,10 @@ impl Slices<'_> {
         }
     }
 
-    // What answers a frame on each machine: 0 where it is taken, 13 where the thread may not be at the region, 14 where the
-    // rules do not allow it. Only what a waiting thread's notice asks is asked of each machine.
-    fn judge(&self, run: Run, frame: Frame) -> Numbers
+    // What answers a frame on each machine. Only what a waiting thread's notice asks is asked of each machine.
+    fn judge(&self, run: Run, frame: Frame) -> PerMachine<Result<(), Refusal>>
         requires { frame.thread < 16 }
-        ensures { Queued run.threads → Turned run.threads → (w : Bool) → of_machine w result.plain result.table
+        ensures { Queued run.threads → Turned run.threads → (w : Bool) → answered (of_machine w result.plain result.table)
             ≡ verdict_of (slices self.now.holds.now [] self.now.guard_of.now self.now.begins.now [] self.now.regions)
             (config_of w run) (frame_of frame) }
     {
@@ -198,27 +188,27 @@ impl Slices<'_> {
         } = frame;
         let threads = run.threads;
         if other_due(threads.each, t as usize) {
-            return alike(MISPLACED);
+            return PerMachine::alike(Err(Refusal::Misplaced));
         }
         let Thread { place, turn } = threads.each[t as usize];
         if !self.may_be_at(place, region) {
-            return alike(MISPLACED);
+            return PerMachine::alike(Err(Refusal::Misplaced));
         }
         let guard = waiters::guard_at(self.guard_of, region);
         if flag != holds_at(self.holds, guard, run.state) {
-            return alike(NOT_ALLOWED);
+            return PerMachine::alike(Err(Refusal::NotAllowed));
         }
         if !place.is_waiting() {
-            return alike(ACCEPTED);
+            return PerMachine::alike(Ok(()));
         }
         if flag {
             let ahead = waiters::line_ahead(threads, turn, self.guard_of, guard);
-            return Numbers {
+            return PerMachine {
                 plain: resumes(run.plain, ahead, t),
                 table: resumes(run.table, ahead, t),
             };
         }
-        Numbers {
+        PerMachine {
             plain: rechecks(run.plain, t),
             table: rechecks(run.table, t),
         }
@@ -262,25 +252,15 @@ impl Slices<'_> {
             thread: frame.thread % machine::THREAD_END,
             ..frame
         };
-        let number = self.judge(run, known);
-        if number.plain != ACCEPTED {
-            if number.table != ACCEPTED {
-                return Outcome {
-                    plain: number.plain,
-                    table: number.table,
-                    run,
-                };
-            }
+        let answers = self.judge(run, known);
+        if answers.plain.is_err() && answers.table.is_err() {
+            return Outcome { answers, run };
         }
-        let next = if known.flag {
+        let run = if known.flag {
             self.ran(run, known)
         } else {
             paused(run, known)
         };
-        Outcome {
-            plain: number.plain,
-            table: number.table,
-            run: next,
-        }
+        Outcome { answers, run }
     }
 }

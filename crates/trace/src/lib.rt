@@ -33,10 +33,11 @@ fn digit(b: u8) -> u8
 }
 
 // The numbers of the frame at a byte, where that is known to be one: no test of its digits is made again.
+// Stays (interface): numbers and not an Option, zeros past the end: it cannot fail, and `proofs/FramesAt` speaks of what it gives.
 pub fn numbers_at(trace: &[u8], at: usize) -> Numbers
     ensures { result ≡ numbers_at trace.now at }
 {
-    if trace.len() <= at || trace.len() - at < FRAME {
+    if trace.len().saturating_sub(at) < FRAME {
         return Numbers {
             thread: 0,
             region: 0,
@@ -46,7 +47,7 @@ pub fn numbers_at(trace: &[u8], at: usize) -> Numbers
     Numbers {
         thread: digit(trace[at + 1]),
         region: digit(trace[at + 2]) * 16 + digit(trace[at + 3]),
-        flag: trace[at + 5] == 49,
+        flag: trace[at + 5] == b'1',
     }
 }
 
@@ -54,25 +55,22 @@ pub fn numbers_at(trace: &[u8], at: usize) -> Numbers
 fn is_digit(b: u8) -> bool
     ensures { result ≡ is_hex b }
 {
-    (48 <= b) & (b <= 57) | (65 <= b) & (b <= 70)
+    (b'0' <= b) & (b <= b'9') | (b'A' <= b) & (b <= b'F')
 }
 
 // Whether the line that begins at a byte is a frame, without a branch but for the length. A thread is 00 to 0F, a flag
-// is 00 or 01, and 48 and 49 are the bytes whose half is 24.
+// is 00 or 01, and 0 and 1 are the bytes whose half is that of 0.
 fn is_frame(trace: &[u8], at: usize) -> bool
     ensures { Tells trace.now at result }
 {
-    if trace.len() <= at {
-        return false;
-    }
-    if trace.len() - at < FRAME {
+    if trace.len().saturating_sub(at) < FRAME {
         return false;
     }
     let digits = is_digit(trace[at + 1]) & is_digit(trace[at + 2]) & is_digit(trace[at + 3]);
-    let marks = (trace[at] == 48)
-        & (trace[at + 4] == 48)
-        & (trace[at + 5] / 2 == 24)
-        & (trace[at + 6] == 10);
+    let marks = (trace[at] == b'0')
+        & (trace[at + 4] == b'0')
+        & (trace[at + 5] / 2 == b'0' / 2)
+        & (trace[at + 6] == b'\n');
     digits & marks
 }
 

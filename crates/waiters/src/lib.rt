@@ -13,11 +13,23 @@ ghost use Rattle.waiters.specs.Told.{becomes_at, on_one, told_behind, new_first}
 use machine::StateNumber;
 use threads::{Place, Threads};
 
-// A set of threads for each machine.
+// What is held of each machine: of the plain one, and of the table's.
 #[derive(Clone, Copy, PartialEq, Eq)]
-pub struct Notices {
-    pub plain: u16,
-    pub table: u16,
+pub struct PerMachine<T> {
+    pub plain: T,
+    pub table: T,
+}
+
+impl<T: Copy> PerMachine<T> {
+    // The same of both.
+    pub fn alike(of: T) -> Self
+        ensures { (result.plain ≡ of) × (result.table ≡ of) }
+    {
+        PerMachine {
+            plain: of,
+            table: of,
+        }
+    }
 }
 
 // The guard of a region.
@@ -113,7 +125,7 @@ pub fn told(
     newly: u16,
     entries: &[u8; machine::ENTRIES],
     region: u8,
-) -> Notices
+) -> PerMachine<u16>
     ensures { Queued threads → (u : ℕ) → u < 16
         → (member result.plain u ≡ on_one guard_of.now (member newly) (places_of threads.each u))
         × (member result.table u ≡ new_first guard_of.now entries.now (member newly)
@@ -122,7 +134,7 @@ pub fn told(
     let mut plain: u16 = 0;
     let mut table: u16 = 0;
     if newly == 0 {
-        return Notices { plain, table };
+        return PerMachine { plain, table };
     }
     let mut met: u16 = 0;
     let mut rest = threads.order;
@@ -138,5 +150,5 @@ pub fn told(
         }
         rest /= 16;
     }
-    Notices { plain, table }
+    PerMachine { plain, table }
 }

@@ -13,9 +13,9 @@ use Rattle.calls.proofs.both_loaded.Goals as goal
 
 pub returns-then-verdict-ne0 : goal.returns-then-verdict-ne0
 returns-then-verdict-ne0 c file loads =
-    both_agree file _ _ _ _
+    rw (c.alike.ensures.0, c.alike.ensures.1) (both_agree file _ _ _ _
     (not_loaded file _ _ _ _ loads.verdict c.if-verdict-ne0.true c.no_record.ensures refl)
-    (not_loaded file _ _ _ _ loads.verdict c.if-verdict-ne0.true c.no_record.ensures refl)
+    (not_loaded file _ _ _ _ loads.verdict c.if-verdict-ne0.true c.no_record.ensures refl))
 
 pub returns : goal.returns
 unfolding EntriesOf machine_of of_machine

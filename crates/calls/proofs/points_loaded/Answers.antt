@@ -5,7 +5,7 @@ use mathlib.Core.Path.{refl, sym}
 use Rattle.meaning.specs.Model.{model}
 use Rattle.demands.proofs.Demand2.{checked}
 use Rattle.trace.proofs.FramesAt.{frames_end}
-use Rattle.run.proofs.Records.{admitted}
+use Rattle.run.proofs.Records.{admitted, ok_of}
 use Rattle.calls.specs.Results.{EntriesOf}
 use Rattle.calls.proofs.Loaded.{monitor_of}
 use Rattle.calls.proofs.Pointed.{no_monitor, too_short, long_enough, refused_early, listed}
@@ -24,17 +24,14 @@ returns-then-out-bytes c file loads =
     too_short file _ _ _ _ m e d.if-out-bytes.true _ c.from.ensures n.0 n.1
     n.2
 
-pub returns-then-early-ne0 : goal.returns-then-early-ne0
-returns-then-early-ne0 c file loads =
-    let t = c in
-    let x = t in
-    let d = x in
-    let n = c.no_points-then-early-ne0.ensures in
-    let (m, e) = monitor_of file _ loads.verdict d.if-verdict-ne0.false in
+pub returns-in-Err : goal.returns-in-Err
+returns-in-Err c file loads =
+    let n = c.no_points-in-Err.ensures in
+    let (m, e) = monitor_of file _ loads.verdict c.if-verdict-ne0.false in
     let l = loads.monitored m e in
-    long_enough file _ _ _ _ m e d.if-out-bytes.false _
-    (refused_early file _ _ _ _ m _ (x.admit-early.ensures.admits m _ _ _ l.bounded l.held) t.if-early-ne0.true n.0 n.1
-    n.2)
+    long_enough file _ _ _ _ m e c.if-out-bytes.false _
+    (refused_early file _ _ _ _ m (c.admit.ensures.admits m _ _ _ l.bounded l.held) c.in-Err.refusal c.in-Err.is
+    _ c.from-in-Err.ensures n.0 n.1 n.2)
 
 pub returns : goal.returns
 unfolding EntriesOf model
@@ -46,7 +43,7 @@ returns c file loads =
     let d = x in
     let (m, e) = monitor_of file _ loads.verdict d.if-verdict-ne0.false in
     let l = loads.monitored m e in
-    let a = admitted (x.admit-early.ensures.admits m _ _ _ l.bounded l.held) t.if-early-ne0.false in
+    let a = admitted (x.admit.ensures.admits m _ _ _ l.bounded l.held) (ok_of _ c.in_default.not-Err) in
     let whole = (frames_end a.2).whole in
     let low = d.if-out-bytes.false in
     long_enough file _ _ _ _ m e low _
@@ -66,8 +63,8 @@ returns c file loads =
       guard_count = l.guard_count;
       room = omega arith;
     }))
-    c.say.ensures c.say-2.ensures refl)
+    c.answer_of.ensures c.answer_of-2.ensures refl)
 
 pub overflow_cast-start : goal.overflow_cast-start
-overflow_cast-start = λ c. let low = c.admit-early.ensures.start_lt_most_states c.if-early-ne0.false in
+overflow_cast-start = λ c. let low = c.admit.ensures.start_lt_most_states (ok_of _ c.in_default.not-Err) in
     record { fits = omega arith }

@@ -120,5 +120,5 @@ unfolding kind_of mark_number keyword_number
 run_stmt-returns t c =
     stmt_assign (λ e. c.if-kind_at-eq-KEY_IF.false (c.kind_at.ensures ∙ e)) c.requires.at_in_bounds
     c.after-second.ensures c.after-third.ensures (c.eval_plain-sum.ensures.alone c.if-sum-eq-KEY_MOD.false)
-    c.after-next.ensures c.value_at-assigned.ensures c.store-ok.ensures
+    c.after-next.ensures (c.from-assigned.ensures ∙ c.value_at.ensures) c.store-ok.ensures
     (λ j l. none_lack c.args.on c.store-ok.result j)

@@ -1,13 +1,8 @@
--- `evaluator::compare_each` meets its contract: each turn stores the test of its lane.
+-- `evaluator::compare_each` meets its contract: each call gives the test of its lane.
 use mathlib.Core.Bool.{false}
-use Rattle.sixteen.proofs.Fill.{fill_none, fill_more, all_filled}
+use Rattle.std.proofs.Common.{of_calls}
+use Rattle.sixteen.proofs.Arrays.{made_each}
 use Rattle.evaluator.proofs.compare_each.Goals as goal
 
-pub loop-j-init : goal.loop-j-init
-loop-j-init = λ c. fill_none false
-
-pub loop-j-preserved : goal.loop-j-preserved
-loop-j-preserved = λ c. fill_more _ c.loop-j.invariant c.loop-j-test.true c.test.ensures
-
 pub returns : goal.returns
-returns = λ c. all_filled c.loop-j.invariant c.loop-j-test.false
+returns c = made_each _ (λ k y q called. search of_calls) false c.from_fn.ensures.items

@@ -11,7 +11,7 @@ pub returns-then-slot-lt-VARIABLES : goal.returns-then-slot-lt-VARIABLES
 unfolding operand
 returns-then-slot-lt-VARIABLES c =
     let slot = c.if-slot-lt-VARIABLES.true in
-    let high = c.wide-then-slot-lt-VARIABLES in
+    let high = c.from-then-slot-lt-VARIABLES in
     in_slot slot c.put.ensures.0
     (λ j l. rw (
       c.other-ok.ensures j l,
@@ -19,10 +19,10 @@ returns-then-slot-lt-VARIABLES c =
       c.union-out.ensures j l,
       c.below.ensures j l,
       c.below-then-slot-lt-VARIABLES.ensures j l,
-      get_or-replicate 16 j (c.wide.result + 1073741696) 0 l,
+      get_or-replicate 16 j (c.from.result + 1073741696) 0 l,
       get_or-replicate 16 j (high.result + 1073741696) 0 l,
-      c.wide.ensures.0,
-      high.ensures.0,
+      c.from.ensures,
+      high.ensures,
     ))
     (λ j l. rw (c.put.ensures.1 j l, c.merged.ensures j l, c.operands-old.ensures.is j l, lt-ltb _ _ slot))
 

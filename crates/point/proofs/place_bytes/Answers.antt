@@ -1,30 +1,9 @@
--- `point::place_bytes` meets its contract. The invariant: the bytes of the threads passed are there.
-use Prim.Native.Nat.{◌<◌}
-use native.Mathlib.Omega.{arith}
-use mathlib.Core.Path.{◌≡◌, refl, ◌∙◌}
-use lib.ListN.{length, get_or, set, length-set}
-use lib.Seq.{get_or-set_same, get_or-set_other}
-use borrow.Author.Count.{below_more}
+-- `point::place_bytes` meets its contract: each call gives the byte of its thread's place.
+use Rattle.std.proofs.Common.{of_calls}
 use Rattle.threads.specs.Held.{places_of, idle_thread}
-use Rattle.point.specs.Held.{held_byte}
+use Rattle.sixteen.proofs.Arrays.{made_each}
 use Rattle.point.proofs.place_bytes.Goals as goal
 
-pub loop-t-preserved : goal.loop-t-preserved
-unfolding places_of idle_thread
-loop-t-preserved c =
-    let l = c.loop-t in
-    let a = c.args in
-    let b = c.place_byte.result in
-    let room : l.t < length l.bytes = omega arith in (
-      omega arith,
-      simp length-set l.invariant.1,
-      below_more (λ u. get_or (set l.bytes l.t b) u 0 ≡ held_byte (places_of a.threads u)) l.t
-          (λ u h. get_or-set_other l.bytes l.t u b 0 (λ z. omega arith) ∙ l.invariant.2 u h)
-          (get_or-set_same l.bytes l.t b 0 room ∙ c.place_byte.ensures),
-    )
-
 pub returns : goal.returns
-returns c u h = c.loop-t.invariant.2 u (omega arith)
-
-pub loop-t-init : goal.loop-t-init
-loop-t-init = λ c. (omega arith, refl, λ u h. absurd (omega arith))
+unfolding places_of idle_thread
+returns c = made_each _ (λ k y q called. search of_calls) 0 c.from_fn.ensures.items

@@ -1,16 +1,13 @@
--- `point::put_set` meets its contract: two bytes, one behind the other.
+-- `point::put_set` meets its contract: the two bytes of a number of sixteen bits.
 use native.Mathlib.Omega.{arith}
-use Rattle.digits.proofs.Writing.{written_more, written_length}
+use mathlib.Core.Path.{◌≡◌}
+use Prim.Native.Nat.{◌/◌, ◌%◌}
+use Rattle.digits.proofs.Writing.{written_same}
 use Rattle.point.specs.Held.{held_set}
 use Rattle.point.proofs.put_set.Goals as goal
-
-pub put_byte-requires : goal.put_byte-requires
-unfolding held_set
-put_byte-requires c =
-    let l = written_length c.put_byte-next.ensures (omega arith) in
-    omega (arith, l, c.put_byte-next.ensures.behind)
 
 pub returns : goal.returns
 unfolding held_set
 returns c =
-    written_more c.put_byte-next.ensures (omega arith) c.put_byte.ensures
+    let high : c.args.set / 256 % 256 ≡ c.args.set / 256 = omega arith in
+    written_same (rw c.to_le_bytes.ensures (rw high)) c.put_bytes.ensures

@@ -6,27 +6,30 @@ use Rattle.meaning.specs.Model.{vars, model}
 use Rattle.digits.proofs.Writing.{written_same}
 use Rattle.point.proofs.Lengths.{point_length}
 use Rattle.points.proofs.Shown.{state_below, point_absent, point_there}
+use Rattle.run.specs.Way.{stop_number}
+use Rattle.run.proofs.FrameByFrame.{some_number}
+use Rattle.point.specs.Held.{bytes_of, table_of, held_point}
 use Rattle.points.proofs.write_point.Goals as goal
-
-pub returns-then-lost-ne0 : goal.returns-then-lost-ne0
-unfolding model
-returns-then-lost-ne0 c m s fs k x room =
-    let low = state_below x in
-    let e = point_absent x c.values_of-values.result c.place_bytes-bytes.result c.turn_bytes-turns.result
-    c.below-holding.result c.minus-told.result
-    (c.values_of-values.ensures.are (vars m) x.bounded low) c.place_bytes-bytes.ensures
-    c.turn_bytes-turns.ensures (omega arith)
-    c.below-holding.ensures (omega arith) (omega arith) c.minus-told.ensures (λ z. omega (arith, c.if-lost-ne0.true)) in
-    (written_same e (c.put_point.ensures.written room), sym (ap length e) ∙ point_length _ _ _ _ _ _ _ _ _)
+use Rattle.points.proofs.write_point.Goals.{in-Some, in-None}
 
 pub returns : goal.returns
-unfolding model
+unfolding model stop_number bytes_of table_of held_point
 returns c m s fs k x room =
     let low = state_below x in
-    let e = point_there x c.values_of-values.result c.place_bytes-bytes.result c.turn_bytes-turns.result
-    c.below-holding.result c.minus-told.result
-    (c.values_of-values.ensures.are (vars m) x.bounded low) c.place_bytes-bytes.ensures
-    c.turn_bytes-turns.ensures (omega arith)
-    c.below-holding.ensures (omega arith) (omega arith) c.minus-told.ensures (omega (arith, c.if-lost-ne0.false))
-    c.minus-woken.result (omega arith) (omega arith) c.minus-woken.ensures in
-    (written_same e (c.put_point-2.ensures.written room), sym (ap length e) ∙ point_length _ _ _ _ _ _ _ _ _)
+    let written = c.put_point.ensures.written room in
+    elim c.match-lost.branch [
+      | in-Some w ↦ let e = point_absent x c.values_of-values.result c.place_bytes-places.result c.turn_bytes-turns.result
+          c.below-holding.result c.minus-told.result
+          (c.values_of-values.ensures.are (vars m) x.bounded low) c.place_bytes-places.ensures
+          c.turn_bytes-turns.ensures (omega arith)
+          c.below-holding.ensures (omega arith) (omega arith) c.minus-told.ensures
+          (λ z. some_number _ (sym (ap stop_number w.in-Some.is) ∙ z)) in
+          (written_same e (rw w.notices-is at written), sym (ap length e) ∙ point_length _ _ _ _ _ _ _ _ _)
+      | in-None w ↦ let e = point_there x c.values_of-values.result c.place_bytes-places.result c.turn_bytes-turns.result
+          c.below-holding.result c.minus-told.result
+          (c.values_of-values.ensures.are (vars m) x.bounded low) c.place_bytes-places.ensures
+          c.turn_bytes-turns.ensures (omega arith)
+          c.below-holding.ensures (omega arith) (omega arith) c.minus-told.ensures (ap stop_number w.in-None.is)
+          w.minus-woken.result (omega arith) (omega arith) w.minus-woken.ensures in
+          (written_same e (rw w.notices-is at written), sym (ap length e) ∙ point_length _ _ _ _ _ _ _ _ _)
+    ]

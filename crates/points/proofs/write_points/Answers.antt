@@ -3,12 +3,13 @@ use native.Mathlib.Omega.{arith}
 use mathlib.Core.Path.{refl}
 use mathlib.Core.Bool.{true, false}
 use Rattle.meaning.specs.Model.{model}
-use Rattle.run.specs.Way.{Way, goes_on}
+use Rattle.run.specs.Way.{Way, goes_on, stop_number, stop_frame}
 use Rattle.run.proofs.FrameByFrame.{at_start}
 use Rattle.points.proofs.Listed.{stands_first, room, listed_first}
 use Rattle.points.proofs.write_points.Goals as goal
 
 pub returns : goal.returns
+unfolding stop_number stop_frame
 returns c m kept fs a =
     let g = a.asked.start in
     let way : Way (model m) _ fs _ 0 = record {

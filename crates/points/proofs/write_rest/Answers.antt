@@ -2,7 +2,11 @@
 -- on their way behind them, and the points up to there are written. The measure is what is left of the length.
 
 use native.Mathlib.Omega.{arith}
-use mathlib.Core.Path.{refl}
+use mathlib.Core.Path.{refl, subst}
+use Rattle.std.specs.Prelude.{Result}
+use Rattle.run.specs.Way.{Passes}
+use Rattle.run.specs.declared.frames.Going.{Going}
+use Rattle.run.specs.declared.frames.Ended.{Ended}
 use Rattle.meaning.specs.Model.{model}
 use Rattle.points.proofs.Listed.{stands_next, room, listed_next, ends_stopped, ends_all}
 use Rattle.points.proofs.write_rest.Goals as goal
@@ -18,21 +22,23 @@ line_below bytes k h = omega (arith, (div_ceil_times (length bytes) 7 (omega ari
 pub loop-k-init : goal.loop-k-init
 loop-k-init c = (refl, λ m kept fs s before a l way x. (way, x))
 
-pub returns-then-passed-ne0 : goal.returns-then-passed-ne0
-returns-then-passed-ne0 c m kept fs s before a l way x =
+pub returns-in-Err : goal.returns-in-Err
+unfolding Passes
+returns-in-Err c m kept fs s before a l way x =
     let at = c.loop-k in
     let w = at.invariant.1 m kept fs s before a l way x in
-    let now = c.pass-passed.ensures (model m) kept s fs a.asked (omega arith) (line_below c.args.bytes.now at.k (omega (arith, c.loop-k-test.true))) w.0 in
-    ends_stopped a at.going c.pass-passed.result at.k (now.refused (λ z. omega (arith, c.if-passed-ne0.true))) w.1 _ refl refl refl refl
+    let passes = c.pass.ensures (model m) kept s fs a.asked (omega arith) (line_below c.args.bytes.now at.k (omega (arith, c.loop-k-test.true))) w.0 in
+    ends_stopped a at.going _ at.k (subst (λ (r : Result Going Ended). Passes (model m) s fs at.going r at.k) c.in-Err.is passes) w.1
 
 pub loop-k-preserved : goal.loop-k-preserved
+unfolding Passes
 loop-k-preserved c =
     let at = c.loop-k in (
       omega arith,
       λ m kept fs s before a l way x.
           let w = at.invariant.1 m kept fs s before a l way x in
-          let now = (c.pass-passed.ensures (model m) kept s fs a.asked (omega arith) (line_below c.args.bytes.now at.k (omega (arith, c.loop-k-test.true))) w.0).taken
-          (omega (arith, c.if-passed-ne0.false)) in
+          let passes = c.pass.ensures (model m) kept s fs a.asked (omega arith) (line_below c.args.bytes.now at.k (omega (arith, c.loop-k-test.true))) w.0 in
+          let now = subst (λ (r : Result Going Ended). Passes (model m) s fs at.going r at.k) c.in-Ok.is passes in
           let below = now.below in
           let fits = room a (at.k + 1) (omega arith) in
           let n = w.1.long in
@@ -46,4 +52,5 @@ pub returns : goal.returns
 returns c m kept fs s before a l way x =
     let at = c.loop-k in
     let w = at.invariant.1 m kept fs s before a l way x in
-    ends_all a at.going at.k w.0 (omega arith) w.1 _ refl refl refl (omega arith)
+    let ends = (div_ceil_times (length c.args.bytes.now) 7 (omega arith)).0 in
+    ends_all a at.going at.k w.0 (omega arith) w.1 _ (omega arith)

@@ -1,6 +1,6 @@
 -- `run::admit` meets its contract: a start that is no kept state, a line that is no frame, or neither.
 use native.Mathlib.Omega.{arith}
-use mathlib.Core.Path.{◌≡◌, sym, ◌∙◌}
+use mathlib.Core.Path.{◌≡◌, refl, sym, ◌∙◌}
 use mathlib.Core.Bool.{true}
 use mathlib.Core.List.{List}
 use lib.ListN.{get_or}
@@ -13,7 +13,8 @@ use Rattle.variables.specs.Bounded.{Bounded}
 use Rattle.variables.specs.declared.Bounds.{Bounds}
 use Rattle.trace.proofs.FramesAt.{counted_frames, counted_bad}
 use Rattle.run.specs.Ended.{not_kept, no_frame, all_frames}
-use Rattle.run.proofs.Records.{past_states, kept_by, kept_one, kept_other}
+use Rattle.run.proofs.Records.{past_states, kept_by, kept_one, kept_other, not_ok}
+use Rattle.answers.specs.declared.Refusal.TheVariants.{NoStart, NoFrame}
 use Rattle.run.proofs.admit.Goals as goal
 use Rattle.run.proofs.admit.Goals.{then-start-ge-STATES-via-then-start-ge-STATES, then-start-ge-STATES-via-else-start-ge-STATES+then-bounds-start}
 
@@ -30,8 +31,8 @@ returns-then-start-ge-STATES c =
             | then-start-ge-STATES-via-then-start-ge-STATES w ↦ omega arith
             | then-start-ge-STATES-via-else-start-ge-STATES+then-bounds-start w ↦ omega arith
           ]))
-          c.no_start.ensures;
-      start_lt_most_states = λ z. absurd (omega (arith, c.no_start.ensures.number));
+          refl;
+      start_lt_most_states = not_ok NoStart refl;
     }
 
 pub returns-then-kept-start-ne1 : goal.returns-then-kept-start-ne1
@@ -41,8 +42,8 @@ returns-then-kept-start-ne1 c =
           let a = c.args in
           let low : a.start < count (vars m) = omega (arith, b.states) in
           not_kept (kept_other (kept m a.start) _ (kept_by m _ _ _ _ h a.start low) c.if-kept-start-ne1.true)
-          c.no_start-then-kept-start-ne1.ensures;
-      start_lt_most_states = λ z. absurd (omega (arith, c.no_start-then-kept-start-ne1.ensures.number));
+          refl;
+      start_lt_most_states = not_ok NoStart refl;
     }
 
 -- past the tests the start is a kept state
@@ -57,21 +58,19 @@ pub returns-in-Err : goal.returns-in-Err
 returns-in-Err c =
     record {
       admits = λ m holds after guards b h.
-          let s = c.say.ensures in
           no_frame _ (started _ _ _ c.if-bounds-start.false c.if-kept-start-ne1.false m holds after guards b h)
           (counted_bad _ _ (sym c.count.ensures ∙ c.in-Err.is))
-          (record { number = s.0; first = s.1; second = s.2 });
-      start_lt_most_states = λ z. absurd (omega arith);
+          refl;
+      start_lt_most_states = not_ok (NoFrame _) refl;
     }
 
 pub returns-in-Ok : goal.returns-in-Ok
 returns-in-Ok c =
     record {
       admits = λ m holds after guards b h.
-          let s = c.say-in-Ok.ensures in
           let f = counted_frames _ _ (sym c.count.ensures ∙ c.in-Ok.is) in
           all_frames f.all (started _ _ _ c.if-bounds-start.false c.if-kept-start-ne1.false m holds after guards b h) f.read
-          (record { number = s.0; first = s.1; second = s.2 });
+          refl;
       start_lt_most_states = λ z.
           omega arith;
     }

@@ -5,6 +5,4 @@ use Rattle.run.proofs.not_run.Goals as goal
 
 pub returns : goal.returns
 unfolding Runs
-returns c =
-    let s = c.say.ensures in
-    (record { number = s.0; first = s.1; second = s.2 }, c.no_record.ensures, refl)
+returns c = (c.from.ensures, c.no_record.ensures, refl)

@@ -18,14 +18,17 @@ use Rattle.stepper.proofs.Machines.{each_machine}
 use Rattle.run.specs.Way.{run_of}
 use Rattle.run.specs.Ended.{StopsAs, stop_in}
 use Rattle.run.specs.Results.{Runs, machine_of}
-use Rattle.run.proofs.Records.{refused_early, admitted, by_end, stops_as}
+use Rattle.run.proofs.Records.{refused_early, admitted, ok_of, by_end, stops_as}
 use Rattle.run.proofs.run_from.Goals as goal
 
-pub returns-then-early-ne0 : goal.returns-then-early-ne0
-returns-then-early-ne0 c m b n h p t ok w =
+pub returns-in-Err : goal.returns-in-Err
+unfolding of_machine
+returns-in-Err c m b n h p t ok w =
     let a = c.args in
-    subst (Runs (run_from m (machine_of w) a.start a.bytes.now)) (sym (c.alike.ensures w))
-    (refused_early (c.admit-early.ensures.admits m _ _ _ b h) c.if-early-ne0.true _ c.not_run.ensures w)
+    let refused = refused_early (c.admit.ensures.admits m _ _ _ b h) c.in-Err.refusal c.in-Err.is _ c.not_run.ensures in
+    each_machine (λ v r. Runs (run_from m (machine_of v) a.start a.bytes.now) r)
+    (subst (Runs (run_from m (machine_of false) a.start a.bytes.now)) (sym c.alike.ensures.0) (refused false))
+    (subst (Runs (run_from m (machine_of true) a.start a.bytes.now)) (sym c.alike.ensures.1) (refused true)) w
 
 -- the frames, and the end of each machine's run of them
 facts : (c : goal.After-running_of-2) →
@@ -40,7 +43,7 @@ facts : (c : goal.After-running_of-2) →
 unfolding model
 facts c m b n h p t ok =
     let a = c.args in
-    let f = admitted (c.admit-early.ensures.admits m _ _ _ b h) c.if-early-ne0.false in (
+    let f = admitted (c.admit.ensures.admits m _ _ _ b h) (ok_of _ c.in_default.not-Err) in (
       f.0,
       f.1,
       f.2,
@@ -68,5 +71,5 @@ returns c m b n h p t ok w =
 
 pub overflow_cast-start : goal.overflow_cast-start
 overflow_cast-start c =
-    let low = c.admit-early.ensures.start_lt_most_states c.if-early-ne0.false in
+    let low = c.admit.ensures.start_lt_most_states (ok_of _ c.in_default.not-Err) in
     omega arith

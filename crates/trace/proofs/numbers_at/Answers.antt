@@ -4,8 +4,8 @@ use native.Mathlib.Omega.{arith}
 use Rattle.trace.proofs.Decoding.{numbers_none, numbers_there}
 use Rattle.trace.proofs.numbers_at.Goals as goal
 
-pub returns-then-trace-at : goal.returns-then-trace-at
-returns-then-trace-at c = numbers_none _ _ (omega arith)
+pub returns-then-saturating_sub-lt-FRAME : goal.returns-then-saturating_sub-lt-FRAME
+returns-then-saturating_sub-lt-FRAME c = numbers_none _ _ (omega (arith, c.saturating_sub.ensures))
 
 pub bounds-trace-at : goal.bounds-trace-at
 bounds-trace-at c = omega arith

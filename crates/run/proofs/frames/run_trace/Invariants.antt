@@ -1,7 +1,5 @@
-use Prim.Native.Nat.{ℕ, ◌*◌, ◌-◌}
-use mathlib.Core.Path.{◌≡◌}
+use Prim.Native.Nat.{ℕ}
 use mathlib.Core.List.{List}
-use lib.ListN.{length}
 use Rattle.machine.specs.Monitor.{Monitor, Frame}
 use Rattle.run.specs.Way.{Asked, Way}
 use Rattle.run.proofs.frames.run_trace.Given as goal

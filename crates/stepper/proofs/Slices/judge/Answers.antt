@@ -18,7 +18,10 @@ use Rattle.stepper.specs.Shown.{of_machine, notices_in, frame_of}
 use Rattle.waiters.specs.Slices.{guard_at, holds_at, slices, guards_only}
 use Rattle.stepper.specs.Slices.{config_of}
 use Rattle.stepper.specs.Parts.{verdict, verdict_of, AheadOf}
-use Rattle.stepper.proofs.Machines.{each_machine}
+use Rattle.std.specs.Prelude.{Ok, Err}
+use Rattle.stepper.specs.declared.Refusal.TheVariants.{Misplaced, NotAllowed}
+use Rattle.stepper.specs.Answered.{answered, number_of}
+use Rattle.stepper.proofs.Machines.{each_machine, answered_alike}
 use Rattle.stepper.proofs.Loops.{guards_alone}
 use Rattle.stepper.proofs.Front.{ahead_of}
 use Rattle.stepper.proofs.Judged.{begins_alone, may_be, other_is_due, not_there, other_flag, not_waiting}
@@ -70,39 +73,39 @@ module _ (w : Bool) where
       waits_here (slices s.self.now.holds.now [] s.self.now.guard_of.now s.self.now.begins.now [] s.self.now.regions) (config_of w s.run) (frame_of s.frame) there same (sym c.is_waiting.ensures ∙ c.if-not-is_waiting.false)
 
 pub returns-then-other_due : goal.returns-then-other_due
-unfolding config_of frame_of
+unfolding config_of frame_of answered number_of
 returns-then-other_due c queued turned w =
     let s = c.args in
-    c.alike.ensures w
+    answered_alike w (Err Misplaced) c.alike.ensures
     ∙ sym
     (other_is_due (slices s.self.now.holds.now [] s.self.now.guard_of.now s.self.now.begins.now [] s.self.now.regions) (config_of w s.run) (frame_of s.frame)
     (sym c.other_due.ensures ∙ c.if-other_due.true))
 
 pub returns-then-not-may_be_at : goal.returns-then-not-may_be_at
-unfolding config_of frame_of places_of idle_thread
+unfolding config_of frame_of places_of idle_thread answered number_of
 returns-then-not-may_be_at c queued turned w =
     let d = c in
     let s = d.args in
-    c.alike-then-not-may_be_at.ensures w
+    answered_alike w (Err Misplaced) c.alike-then-not-may_be_at.ensures
     ∙ sym
     (not_there (slices s.self.now.holds.now [] s.self.now.guard_of.now s.self.now.begins.now [] s.self.now.regions) (config_of w s.run) (frame_of s.frame) (sym (at_region w s.self.now.holds.now s.self.now.guard_of.now s.self.now.begins.now s.self.now.regions s.run s.frame c.may_be_at.ensures) ∙ c.if-not-may_be_at.true))
 
 pub returns-then-flag-holds_at : goal.returns-then-flag-holds_at
-unfolding config_of frame_of places_of idle_thread
+unfolding config_of frame_of places_of idle_thread answered number_of
 returns-then-flag-holds_at c queued turned w =
     let d = c in
     let s = d.args in
-    c.alike-then-flag-holds_at.ensures w
+    answered_alike w (Err NotAllowed) c.alike-then-flag-holds_at.ensures
     ∙ sym
     (other_flag (slices s.self.now.holds.now [] s.self.now.guard_of.now s.self.now.begins.now [] s.self.now.regions) (config_of w s.run) (frame_of s.frame) (is_there w (goal.at.returns-then-flag-holds_at c).Else-not-may_be_at)
     (sym (ap (beq s.frame.flag) (truth w s.self.now.holds.now s.self.now.guard_of.now s.self.now.begins.now s.self.now.regions s.run s.frame c.holds_at.ensures c.guard_at-guard.ensures)) ∙ not-true _ c.if-flag-holds_at.true))
 
 pub returns-then-not-is_waiting : goal.returns-then-not-is_waiting
-unfolding config_of frame_of places_of idle_thread
+unfolding config_of frame_of places_of idle_thread answered number_of
 returns-then-not-is_waiting c queued turned w =
     let d = c in
     let s = d.args in
-    c.alike-then-not-is_waiting.ensures w
+    answered_alike w (Ok tt) c.alike-then-not-is_waiting.ensures
     ∙ sym
     (not_waiting (slices s.self.now.holds.now [] s.self.now.guard_of.now s.self.now.begins.now [] s.self.now.regions) (config_of w s.run) (frame_of s.frame) (is_there w (goal.at.returns-then-not-is_waiting c).Else-not-may_be_at)
     (is_same w (goal.at.returns-then-not-is_waiting c).Else-flag-holds_at)
@@ -152,7 +155,7 @@ returns-then-flag c queued turned w =
     let p = threads_of a.run.threads in
     let g = guard_at a.self.now.guard_of.now a.frame.region in
     each_machine
-    (λ v n. n ≡ verdict true true true true (member (notices_in v a.run) a.frame.thread)
+    (λ v r. answered r ≡ verdict true true true true (member (notices_in v a.run) a.frame.thread)
     (first_notified (slices s.self.now.holds.now [] s.self.now.guard_of.now s.self.now.begins.now [] s.self.now.regions) p (member (notices_in v a.run)) g a.frame.thread))
     (c.resumes.ensures (line (slices s.self.now.holds.now [] s.self.now.guard_of.now s.self.now.begins.now [] s.self.now.regions) p g) (ahead_here (goal.at.returns-then-flag c).After-line_ahead-ahead (in_line (goal.at.returns-then-flag c).Else-not-is_waiting) queued turned))
     (c.resumes-then-flag.ensures (line (slices s.self.now.holds.now [] s.self.now.guard_of.now s.self.now.begins.now [] s.self.now.regions) p g) (ahead_here (goal.at.returns-then-flag c).After-line_ahead-ahead (in_line (goal.at.returns-then-flag c).Else-not-is_waiting) queued turned)) w
@@ -169,7 +172,7 @@ returns c queued turned w =
     let a = s in
     let first = first_notified (slices s.self.now.holds.now [] s.self.now.guard_of.now s.self.now.begins.now [] s.self.now.regions) (threads_of a.run.threads) (member (notices_in w a.run))
     (guard_at a.self.now.guard_of.now a.frame.region) a.frame.thread in
-    each_machine (λ v n. n ≡ verdict true true true false (member (notices_in v a.run) a.frame.thread) true)
+    each_machine (λ v r. answered r ≡ verdict true true true false (member (notices_in v a.run) a.frame.thread) true)
     c.rechecks.ensures c.rechecks-2.ensures w
     ∙ none_ahead (member (notices_in w a.run) a.frame.thread) first
     ∙ ap (λ (f : Bool). verdict true true true f (member (notices_in w a.run) a.frame.thread) first)

@@ -10,14 +10,15 @@ use Rattle.machine.specs.Decide.Step.{Told, is_waiting, ran}
 use Rattle.threads.specs.Held.{Turned, Queued}
 use Rattle.stepper.specs.declared.Frame as code
 use Rattle.stepper.specs.declared.Run.{Run}
+use Rattle.stepper.specs.Answered.{answered}
 use Rattle.stepper.specs.Shown.{of_machine, Shows, Stays, step_by, frame_of}
 use Rattle.waiters.specs.Slices.{slices}
 use Rattle.stepper.specs.Slices.{newly_at, config_of}
 use Rattle.stepper.specs.Parts.{verdict_of, next_by, next_of}
-use Rattle.stepper.proofs.Machines.{each_machine}
+use Rattle.stepper.proofs.Machines.{each_machine, refused_number, taken_number}
 use Rattle.stepper.proofs.ByHeld.{steps_held, shows_queued}
 use Rattle.stepper.proofs.Slices.step.Goals as goal
-use Rattle.stepper.proofs.Slices.step.Goals.{Start, After-judge-number, Joined-number-ne-ACCEPTED, then-number-ne-ACCEPTED+else-number-ne-ACCEPTED-2, else-number-ne-ACCEPTED}
+use Rattle.stepper.proofs.Slices.step.Goals.{Start, After-judge-answers, Joined-else-is_err, else-is_err-via-else-is_err, else-is_err-via-then-is_err+else-is_err-2}
 
 -- a thread below 16 is its remainder
 abbrev known : code.Frame → code.Frame
@@ -27,14 +28,14 @@ same_frame : (f : code.Frame) → f.thread < 16 → frame_of (known f) ≡ frame
 unfolding frame_of
 same_frame f h = ap (λ (t : ℕ). frame_of (record { thread = t; region = f.region; flag = f.flag })) (mod-eq_of_lt h)
 
-number : (c : After-judge-number) (w : Bool) → let a = c.args in
+number : (c : After-judge-answers) (w : Bool) → let a = c.args in
     Queued a.run.threads → Turned a.run.threads → a.frame.thread < 16
-    → of_machine w c.judge-number.result.plain c.judge-number.result.table
+    → answered (of_machine w c.judge-answers.result.plain c.judge-answers.result.table)
     ≡ verdict_of (slices a.self.now.holds.now [] a.self.now.guard_of.now a.self.now.begins.now [] a.self.now.regions) (config_of w a.run)
     (frame_of a.frame)
 number c w queued turned h =
     let a = c.args in
-    c.judge-number.ensures queued turned w
+    c.judge-answers.ensures queued turned w
     ∙ ap
     (verdict_of (slices a.self.now.holds.now [] a.self.now.guard_of.now a.self.now.begins.now [] a.self.now.regions) (config_of w a.run))
     (same_frame a.frame h)
@@ -67,26 +68,27 @@ shown s w next e h thread =
     (e ∙ ap (next_of (moves s) (telling s w) (config_of w s.args.run)) (same_frame s.args.frame thread)) h
 
 -- a machine that takes the frame is known at the test whether both refuse
-goes_on : (c : Joined-number-ne-ACCEPTED) → let n = c.judge-number.result in
-    (n.plain ≡ 0 → ⊥) → (n.table ≡ 0 → ⊥) → ⊥
-goes_on c p t = elim c.if-number-ne-ACCEPTED.branch [
-  | then-number-ne-ACCEPTED+else-number-ne-ACCEPTED-2 x ↦ t x.if-number-ne-ACCEPTED-2.false
-  | else-number-ne-ACCEPTED x ↦ p x.if-number-ne-ACCEPTED.false
+goes_on : (c : Joined-else-is_err) → let n = c.judge-answers.result in
+    (answered n.plain ≡ 0 → ⊥) → (answered n.table ≡ 0 → ⊥) → ⊥
+goes_on c p t = elim c.else-is_err.branch [
+  | else-is_err-via-else-is_err x ↦ p (taken_number _ (sym c.is_err.ensures.value ∙ x.if-is_err.false))
+  | else-is_err-via-then-is_err+else-is_err-2 x ↦ t (taken_number _ (sym x.is_err-then-is_err.ensures.value ∙ x.if-is_err-2.false))
 ]
 
-pub returns-then-number-ne-ACCEPTED-2 : goal.returns-then-number-ne-ACCEPTED-2
+pub returns-then-is_err-2 : goal.returns-then-is_err-2
 unfolding step_by frame_of config_of Stays
-returns-then-number-ne-ACCEPTED-2 c =
+returns-then-is_err-2 c =
     record {
       steps = λ w m d kept e held places entries thread ok reached told shows.
           let x = c in
           let a = x.args in
-          let n = x.judge-number.result in
+          let n = x.judge-answers.result in
           steps_held m kept a.self.now.holds.now a.self.now.after.now a.self.now.guard_of.now held a.self.now.begins.now a.self.now.goes_on.now places
           w d (frame_of a.frame) a.run thread reached shows ok told a.self.now.regions e a.self.now.entries.now entries _
-          (number (goal.at.returns-then-number-ne-ACCEPTED-2 c).After-judge-number w (shows_queued m w a.run d reached.lined shows) shows.turns thread)
-          (λ z. absurd (each_machine (λ _ k. k ≡ 0 → ⊥) {plain = n.plain} {table = n.table} c.if-number-ne-ACCEPTED.true c.if-number-ne-ACCEPTED-2.true
-          w z));
+          (number (goal.at.returns-then-is_err-2 c).After-judge-answers w (shows_queued m w a.run d reached.lined shows) shows.turns thread)
+          (λ z. absurd (each_machine (λ _ r. answered r ≡ 0 → ⊥)
+          (refused_number n.plain (sym c.is_err.ensures.value ∙ c.if-is_err.true))
+          (refused_number n.table (sym c.is_err-then-is_err.ensures.value ∙ c.if-is_err-2.true)) w z));
       stays = λ p t. refl;
     }
 
@@ -102,8 +104,8 @@ returns-then-known c =
           in
           steps_held m kept a.self.now.holds.now a.self.now.after.now a.self.now.guard_of.now held a.self.now.begins.now a.self.now.goes_on.now places
           w d (frame_of a.frame) a.run thread reached shows ok told a.self.now.regions e a.self.now.entries.now entries _
-          (number (goal.at.returns-then-known c).After-judge-number w (shows_queued m w a.run d reached.lined shows) shows.turns thread) (λ z. shown s w c.ran-next.result next (c.ran-next.ensures (shows_queued m w a.run d reached.lined shows) shows.turns w) thread);
-      stays = λ p t. absurd (goes_on (goal.at.returns-then-known c).Joined-number-ne-ACCEPTED p t);
+          (number (goal.at.returns-then-known c).After-judge-answers w (shows_queued m w a.run d reached.lined shows) shows.turns thread) (λ z. shown s w c.ran-run.result next (c.ran-run.ensures (shows_queued m w a.run d reached.lined shows) shows.turns w) thread);
+      stays = λ p t. absurd (goes_on (goal.at.returns-then-known c).Joined-else-is_err p t);
     }
 
 pub returns-else-known : goal.returns-else-known
@@ -118,6 +120,6 @@ returns-else-known c =
           in
           steps_held m kept a.self.now.holds.now a.self.now.after.now a.self.now.guard_of.now held a.self.now.begins.now a.self.now.goes_on.now places
           w d (frame_of a.frame) a.run thread reached shows ok told a.self.now.regions e a.self.now.entries.now entries _
-          (number (goal.at.returns-else-known c).After-judge-number w (shows_queued m w a.run d reached.lined shows) shows.turns thread) (λ z. shown s w c.paused-next.result next (c.paused-next.ensures (shows_queued m w a.run d reached.lined shows) shows.turns w (moves s) (telling s w)) thread);
-      stays = λ p t. absurd (goes_on (goal.at.returns-else-known c).Joined-number-ne-ACCEPTED p t);
+          (number (goal.at.returns-else-known c).After-judge-answers w (shows_queued m w a.run d reached.lined shows) shows.turns thread) (λ z. shown s w c.paused-run.result next (c.paused-run.ensures (shows_queued m w a.run d reached.lined shows) shows.turns w (moves s) (telling s w)) thread);
+      stays = λ p t. absurd (goes_on (goal.at.returns-else-known c).Joined-else-is_err p t);
     }

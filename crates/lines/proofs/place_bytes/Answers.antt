@@ -1,0 +1,9 @@
+-- `lines::place_bytes` meets its contract: each call gives the byte of its thread's place.
+use Rattle.std.proofs.Common.{of_calls}
+use Rattle.threads.specs.Held.{places_of, idle_thread}
+use Rattle.sixteen.proofs.Arrays.{made_each}
+use Rattle.lines.proofs.place_bytes.Goals as goal
+
+pub returns-clause-each : goal.returns-clause-each
+unfolding places_of idle_thread
+returns-clause-each c = made_each _ (λ k y q called. search of_calls) 0 c.from_fn.ensures.items
