@@ -21,11 +21,14 @@ pub fn has_room(out: &[u8], at: usize, size: usize) -> bool
     size <= out.len() && at <= out.len() - size
 }
 
-// Bytes put into a buffer from a place on; the place behind them.
+// Bytes put into a buffer from a place on, where there is room for them; the place behind them.
 pub fn put_bytes(out: &mut [u8], at: usize, bytes: &[u8]) -> usize
-    requires { at + length bytes.now ≤ length out.old }
-    ensures { Writes bytes.now out.old at result out.new }
+    ensures written { at + length bytes.now ≤ length out.old → Writes bytes.now out.old at result out.new }
+    ensures kept { length out.old < at + length bytes.now → (result ≡ at) × (out.new ≡ out.old) }
 {
+    if !has_room(out, at, bytes.len()) {
+        return at;
+    }
     let next = at + bytes.len();
     out[at..next].copy_from_slice(bytes);
     next

@@ -8,10 +8,8 @@ use lib.ListN.{length, get_or, length-append}
 use Rattle.syntax.specs.Limits.{most_vars}
 use Rattle.meaning.specs.Decide.Table.{for_each}
 use Rattle.digits.proofs.ForEach.{for_each_length}
-use Rattle.std.specs.Prelude.{Option, Some, None}
 use Rattle.lines.proofs.Writing.{each}
-use Rattle.point.specs.declared.Notices.{Notices}
-use Rattle.point.specs.Held.{held_set, held_value, held_each, held_shared, held_notices, held_table, held_point, table_of}
+use Rattle.point.specs.Held.{held_set, held_value, held_each, held_shared, held_notices, held_table, held_point}
 
 -- bytes one by one are the bytes
 pub each_byte : (bytes : List ℕ) → for_each (length bytes) 0 (held_each bytes) ≡ bytes
@@ -39,11 +37,6 @@ shared_length values bytes guards =
     let v = values_length values in
     let p = places_length bytes in
     rw (length-append, length-append) (omega arith)
-
-pub table_length : (t : Option Notices) → length (table_of t) ≡ 5
-unfolding table_of held_table held_notices held_set
-table_length None = refl
-table_length (Some n) = refl
 
 pub point_length : (values bytes : List ℕ) (guards plain told there table woken : ℕ) (turns : List ℕ)
     → length (held_point values bytes guards plain told there table woken turns) ≡ 49

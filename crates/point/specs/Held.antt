@@ -1,10 +1,9 @@
 -- A point as the code holds it, and the bytes that it writes of it.
-use Rattle.std.specs.Prelude.{ℕ, ◌%◌, ◌/◌, List, [], ◌∷◌, ◌++◌, get_or, Option, Some, None}
+use Rattle.std.specs.Prelude.{ℕ, ◌%◌, ◌/◌, List, [], ◌∷◌, ◌++◌, get_or}
 use Rattle.std.specs.Int.Bits.{bit_or}
 use Rattle.syntax.specs.Limits.{most_vars}
 use Rattle.machine.specs.Monitor.{Place, idle, waiting, due}
 use Rattle.meaning.specs.Decide.Table.{for_each}
-use Rattle.point.specs.declared.Notices.{Notices}
 use Rattle.point.specs.declared.Point.{Point}
 
 -- a place as three numbers that have no bit in common
@@ -52,12 +51,6 @@ held_point values bytes guards plain told there table woken turns =
     (held_shared values bytes guards ++ held_notices plain told)
     ++ (held_table there table woken ++ for_each 16 0 (held_each turns))
 
--- the table's part and all of a point, as it is handed over
-unfoldable pub table_of : Option Notices → List ℕ
-table_of None = held_table 0 0 0
-table_of (Some n) = held_table 1 n.now n.told
-
-unfoldable pub bytes_of : Point → List ℕ
-bytes_of p =
-    (held_shared p.values p.places p.guards ++ held_notices p.plain.now p.plain.told)
-    ++ (table_of p.table ++ for_each 16 0 (held_each p.turns))
+-- all of a point, as it is handed over
+abbrev pub bytes_of : Point → List ℕ
+bytes_of p = held_point p.values p.places p.guards p.plain.now p.plain.told p.there p.table.now p.table.told p.turns

@@ -8,7 +8,7 @@ ghost use Rattle.threads.specs.Held.{place_of, places_of, turns_of};
 ghost use Rattle.digits.specs.Written.{Writes};
 ghost use Rattle.lines.specs.Written.{PutsLine};
 ghost use Rattle.point.specs.Held.{region_part, due_part, idle_part, held_byte, held_set, held_value, held_each};
-ghost use Rattle.point.specs.Held.{held_shared, held_notices, table_of, bytes_of};
+ghost use Rattle.point.specs.Held.{held_shared, held_notices, held_table, bytes_of};
 
 use std::array;
 use threads::{Place, Thread};
@@ -24,14 +24,16 @@ pub struct Notices {
 }
 
 // What is written of a point: the values, the places and the guards that hold, which both machines have in common; each
-// machine's notices, the table's none where it has stopped; and the turns.
+// machine's notices, and whether the table's is there; and the turns.
 #[derive(Clone, Copy)]
 pub struct Point {
     pub values: [u16; syntax::VARIABLES],
     pub places: [u8; machine::THREADS],
     pub guards: u16,
     pub plain: Notices,
-    pub table: Option<Notices>,
+    // Stays (interface): `put_point` promises what it writes for every byte here and all notices beside it.
+    pub there: u8,
+    pub table: Notices,
     pub turns: [u8; machine::THREADS],
 }
 
@@ -136,17 +138,12 @@ fn put_notices(out: &mut [u8], at: usize, notices: Notices) -> usize
 }
 
 // The table's part: whether it is there, and its notices.
-fn put_table(out: &mut [u8], at: usize, table: Option<Notices>) -> usize
+fn put_table(out: &mut [u8], at: usize, there: u8, notices: Notices) -> usize
     requires { at + 5 ≤ length out.old }
-    ensures { Writes (table_of table) out.old at result out.new }
+    ensures { Writes (held_table there notices.now notices.told) out.old at result out.new }
 {
-    match table {
-        Some(notices) => {
-            let next = digits::put_bytes(out, at, &[1]);
-            put_notices(out, next, notices)
-        }
-        None => digits::put_bytes(out, at, &[0; 5]),
-    }
+    let next = digits::put_bytes(out, at, &[there]);
+    put_notices(out, next, notices)
 }
 
 // A point where there is room for it; else all is as it was.
@@ -158,6 +155,6 @@ pub fn put_point(out: &mut [u8], at: usize, point: &Point) -> usize
     }
     let one = put_shared(out, at, point.values, point.places, point.guards);
     let two = put_notices(out, one, point.plain);
-    let three = put_table(out, two, point.table);
+    let three = put_table(out, two, point.there, point.table);
     put_each(out, three, point.turns)
 }

@@ -49,14 +49,17 @@ fn write_point(
     let holding = sets::below(holds[(run.state % machine::STATE_END) as usize], guards);
     let now = run.plain;
     let told = sets::minus(now, plain);
-    let notices = match lost {
-        Some(_) => None,
+    let (there, table) = match lost {
+        Some(_) => (0, Notices { now: 0, told: 0 }),
         None => {
-            let woken = sets::minus(run.table, table);
-            Some(Notices {
-                now: run.table,
-                told: woken,
-            })
+            let told = sets::minus(run.table, table);
+            (
+                1,
+                Notices {
+                    now: run.table,
+                    told,
+                },
+            )
         }
     };
     let point = Point {
@@ -64,7 +67,8 @@ fn write_point(
         places,
         guards: holding,
         plain: Notices { now, told },
-        table: notices,
+        there,
+        table,
         turns,
     };
     point::put_point(out, at, &point)

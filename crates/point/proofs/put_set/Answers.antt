@@ -10,4 +10,4 @@ pub returns : goal.returns
 unfolding held_set
 returns c =
     let high : c.args.set / 256 % 256 ≡ c.args.set / 256 = omega arith in
-    written_same (rw c.to_le_bytes.ensures (rw high)) c.put_bytes.ensures
+    written_same (rw c.to_le_bytes.ensures (rw high)) (c.put_bytes.ensures.written (omega arith))

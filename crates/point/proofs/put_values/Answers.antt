@@ -9,4 +9,4 @@ pub returns : goal.returns
 returns c =
     let long = c.value_bytes.ensures.long in
     let e = each_value c.args.values c.value_bytes.result (λ k h. c.value_bytes.ensures.each k (omega arith)) in
-    written_same (sym (rw long at e)) c.put_bytes.ensures
+    written_same (sym (rw long at e)) (c.put_bytes.ensures.written (omega (arith, long)))
