@@ -38,12 +38,46 @@ pub struct Ran {
     pub turns: [u8; machine::THREADS],
 }
 
+// A run's results with no enum in them.
+impl From<Running> for Ran {
+    ghost from_gives = { Flattens };
+
+    fn from(running: Running) -> Ran {
+        let record = running.record;
+        let values = record.values;
+        let threads = record.threads;
+        Ran {
+            answer: running.answer,
+            vars: record.vars,
+            values,
+            places: point::place_bytes(threads),
+            notified: record.notified,
+            how_many: record.how_many,
+            of_file: running.of_file,
+            turns: point::turn_bytes(threads),
+        }
+    }
+}
+
 // The results of both machines on one trace.
 #[repr(C)]
 #[derive(Clone, Copy)]
 pub struct BothRan {
     pub plain: Ran,
     pub table: Ran,
+}
+
+// Both machines' results with no enum in them.
+impl From<Both> for BothRan {
+    ghost from_gives = { λ both ran. (file bytes : List ℕ) (s : ℕ) → Agrees file bytes s both.plain both.table
+        → BothAgree file bytes s ran };
+
+    fn from(both: Both) -> BothRan {
+        BothRan {
+            plain: Ran::from(both.plain),
+            table: Ran::from(both.table),
+        }
+    }
 }
 
 // The values of a state, each with 128 added.
@@ -69,45 +103,12 @@ pub extern "C" fn damsonyet_place(file: &[u8], table: &mut [u8]) -> Placing
     monitor::place(file, table)
 }
 
-// A run's results with no enum in them, and both machines'.
-fn flat(running: Running) -> Ran
-    ensures { Flattens running result }
-{
-    let answer = running.answer;
-    let record = running.record;
-    let values = record.values;
-    let threads = record.threads;
-    Ran {
-        answer: answer,
-        vars: record.vars,
-        values: values,
-        places: point::place_bytes(threads),
-        notified: record.notified,
-        how_many: record.how_many,
-        of_file: running.of_file,
-        turns: point::turn_bytes(threads),
-    }
-}
-
-fn flat_both(both: Both) -> BothRan
-    ensures { (file bytes : List ℕ) (s : ℕ) → Agrees file bytes s both.plain both.table
-        → BothAgree file bytes s result }
-{
-    let plain = both.plain;
-    let table = both.table;
-    BothRan {
-        plain: flat(plain),
-        table: flat(table),
-    }
-}
-
 // A run of a trace from a start state on the plain machine or, where `table` is true, on the table's.
 #[unsafe(no_mangle)]
 pub extern "C" fn damsonyet_run(file: &[u8], trace: &[u8], start: usize, table: bool) -> Ran
     ensures { RanAs (calls.running file.now trace.now start (machine_of table)) result }
 {
-    let running = monitor::run(file, trace, start, table);
-    flat(running)
+    Ran::from(monitor::run(file, trace, start, table))
 }
 
 // Both machines on one trace, from the same start state.
@@ -115,8 +116,7 @@ pub extern "C" fn damsonyet_run(file: &[u8], trace: &[u8], start: usize, table: 
 pub extern "C" fn damsonyet_run_both(file: &[u8], trace: &[u8], start: usize) -> BothRan
     ensures { BothAgree file.now trace.now start result }
 {
-    let both = monitor::run_both(file, trace, start);
-    flat_both(both)
+    BothRan::from(monitor::run_both(file, trace, start))
 }
 
 // Both machines on one trace, from the start values.
@@ -125,8 +125,7 @@ pub extern "C" fn damsonyet_run_both_from_start(file: &[u8], trace: &[u8]) -> Bo
     ensures { BothAgree file.now trace.now
         (start_of (meaning.check file.now)) result }
 {
-    let both = monitor::run_both_from_start(file, trace);
-    flat_both(both)
+    BothRan::from(monitor::run_both_from_start(file, trace))
 }
 
 // The number of the state at the start values of an accepted file; 0 of a refused one.
@@ -208,8 +207,7 @@ pub extern "C" fn damsonyet_state_at(file: &[u8], number: usize) -> State
 pub extern "C" fn damsonyet_number_of(file: &[u8], values: Values) -> Numbered
     ensures { NumberTold file.now values.held result }
 {
-    let held = values.held;
-    survey::number_of(file, held)
+    survey::number_of(file, values.held)
 }
 
 // What becomes of each try of a file, told beside 0 and 9.

@@ -3,4 +3,4 @@ use Rattle.damsonyet.proofs.Flattened.{ran_as}
 use Rattle.damsonyet.proofs.damsonyet_run.Goals as goal
 
 pub returns : goal.returns
-returns c = ran_as _ _ c.flat.ensures _ _ _ _ c.run-running.ensures
+returns c = ran_as _ _ c.from.ensures _ _ _ _ c.run.ensures

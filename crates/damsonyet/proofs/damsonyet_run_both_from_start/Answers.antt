@@ -2,4 +2,4 @@
 use Rattle.damsonyet.proofs.damsonyet_run_both_from_start.Goals as goal
 
 pub returns : goal.returns
-returns c = c.flat_both.ensures _ _ _ c.run_both_from_start-both.ensures
+returns c = c.from.ensures _ _ _ c.run_both_from_start.ensures
