@@ -15,7 +15,6 @@ use answers::{Answer, Refusal};
 use loader::{Loaded, StateRows};
 use machine::StateNumber;
 use run::{Both, Running};
-use stepper::Slices;
 use table::TooShort;
 use waiters::PerMachine;
 
@@ -134,16 +133,8 @@ pub fn both_loaded(loaded: Loaded, bytes: &[u8], start: usize, rows: &StateRows)
     let entries = entries_of(loaded, rows);
     let bounds = loaded.bounds;
     let layout = loaded.layout;
-    run::run_from(
-        bounds,
-        layout,
-        bytes,
-        start,
-        &rows.kept,
-        &rows.holds,
-        &rows.after,
-        &entries,
-    )
+    let slices = run::slices_of(&layout, &rows.holds, &rows.after, &entries);
+    run::run_from(bounds, bytes, start, &rows.kept, &slices)
 }
 
 // One answer for both machines, and no point.
@@ -181,14 +172,13 @@ pub fn points_loaded(
         return no_points(Answer::from(refusal));
     }
     let entries = entries_of(loaded, rows);
+    let slices = run::slices_of(&layout, &rows.holds, &rows.after, &entries);
     let written = points::write_points(
         bounds,
-        layout,
+        layout.guards,
         bytes,
         start as StateNumber,
-        &rows.holds,
-        &rows.after,
-        &entries,
+        &slices,
         out,
     );
     Pointing {
@@ -227,15 +217,8 @@ pub fn load_loaded(
     }
     let bounds = loaded.bounds;
     let layout = loaded.layout;
-    let slices = Slices {
-        holds: &rows.holds,
-        after: &rows.after,
-        guard_of: &layout.guard_of,
-        begins: &layout.begins,
-        goes_on: &layout.goes_on,
-        entries: &[0u8; machine::ENTRIES],
-        regions: layout.regions,
-    };
+    let no_entries = [0u8; machine::ENTRIES];
+    let slices = run::slices_of(&layout, &rows.holds, &rows.after, &no_entries);
     let count = generator::make_frames(
         seed,
         threads,

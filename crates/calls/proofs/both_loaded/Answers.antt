@@ -1,6 +1,6 @@
 -- `calls::both_loaded` meets its contract: a number that is not 0 is a refusal, else the file's monitor runs over the
 -- slices that hold it; and demand 3 of the two results.
-use mathlib.Core.Path.{refl}
+use mathlib.Core.Path.{refl, ◌∙◌}
 use mathlib.Core.Bool.{Bool, true, false}
 use Rattle.stepper.specs.Shown.{of_machine}
 use Rattle.run.specs.Results.{Runs, machine_of}
@@ -28,5 +28,8 @@ returns c file loads =
     λ w. ran_loaded file _ _ _ _ _ loads.verdict e.if-verdict-ne0.false
     (λ m h.
     let x = loads.monitored m h in
-    c.run_from.ensures m x.bounded x.region_count x.held x.held_places (entries m h) (checked file m h) w) in
+    let laid = c.slices_of-slices.ensures.laid in
+    let swept = c.slices_of-slices.ensures.swept in
+    c.run_from.ensures m x.bounded (laid.3 ∙ x.region_count) (rw (swept.0, swept.1, laid.0) x.held)
+    (rw (laid.1, laid.2) x.held_places) (rw swept.2 (entries m h)) (checked file m h) w) in
     both_agree file _ _ _ _ (ran false) (ran true)

@@ -32,12 +32,14 @@ returns c file kept loads fits =
     let l = loads.monitored m e in
     let state = start_at loads d.if-verdict-ne0.false _ q.number_of.ensures.is ∙ start_of_accepted file m e in
     let low = d.if-out-wanted.false in
+    let laid = c.slices_of-slices.ensures.laid in
+    let swept = c.slices_of-slices.ensures.swept in
     made file _ _ _ _ _ fits m e low (zero_said file _ m e loads.verdict) _ _ state
-    (w.make_frames-count.ensures (model m) _
+    (w.make_frames-count.ensures (model m) kept
     (record {
-      count = sym l.region_count;
-      held = l.held;
-      places = l.held_places;
+      count = sym (laid.3 ∙ l.region_count);
+      held = rw (swept.0, swept.1, laid.0) l.held;
+      places = rw (laid.1, laid.2) l.held_places;
       checked = checked file m e;
       start = ap (model m).kept state ∙ start_kept file m e;
       some = fits.0;

@@ -1,7 +1,7 @@
 -- `calls::points_loaded` meets its contract: the file's refusal, 10, 11 or 12 with nothing written, or the points over the
 -- slices that hold the file's monitor.
 use native.Mathlib.Omega.{arith}
-use mathlib.Core.Path.{refl, sym}
+use mathlib.Core.Path.{refl, sym, ◌∙◌}
 use Rattle.meaning.specs.Model.{model}
 use Rattle.demands.proofs.Demand2.{checked}
 use Rattle.trace.proofs.FramesAt.{frames_end}
@@ -46,15 +46,17 @@ returns c file loads =
     let a = admitted (x.admit.ensures.admits m _ _ _ l.bounded l.held) (ok_of _ c.in_default.not-Err) in
     let whole = (frames_end a.2).whole in
     let low = d.if-out-bytes.false in
+    let laid = c.slices_of-slices.ensures.laid in
+    let swept = c.slices_of-slices.ensures.swept in
     long_enough file _ _ _ _ m e low _
     (listed file _ _ _ _ m a.1 a.0 a.2 w.write_points-written.result _
-    (w.write_points-written.ensures m _ a.0
+    (w.write_points-written.ensures m c.args.rows.now.kept a.0
     (record {
       asked = record {
-        count = sym l.region_count;
-        held = l.held;
-        places = l.held_places;
-        table = f.entries_of-entries.ensures file loads m e;
+        count = sym (laid.3 ∙ l.region_count);
+        held = rw (swept.0, swept.1, laid.0) l.held;
+        places = rw (laid.1, laid.2) l.held_places;
+        table = rw swept.2 (f.entries_of-entries.ensures file loads m e);
         checked = checked file m e;
         start = a.1;
         read = a.2;
