@@ -79,19 +79,6 @@ fn offered(place: Place, front: bool, methods: u8) -> u8
     }
 }
 
-// How many the first n threads have.
-fn count(each: [Thread; machine::THREADS], n: u8, methods: u8, fronts: u16) -> usize
-    requires { n ≤ 16 }
-    ensures { result ≡ sum_each n (offered_at each methods fronts) }
-{
-    let mut sum: usize = 0;
-    for t in 0..n {
-        let place = each[usize::from(t)].place;
-        sum += usize::from(offered(place, sets::has(fronts, u32::from(t)), methods));
-    }
-    sum
-}
-
 // The region of a thread's frame at an index.
 fn region_at(place: Place, index: usize, first: [u8; machine::REGIONS]) -> u8
     ensures { result ≡ region_by (place_of place) index first }
@@ -103,32 +90,62 @@ fn region_at(place: Place, index: usize, first: [u8; machine::REGIONS]) -> u8
     }
 }
 
-// The frame at an index, of the first n threads': those of the threads before are passed over.
-fn pick(
+// What threads may do where nobody is due: the first n of them, the methods that an idle one may enter, and the waiters that
+// may resume.
+#[derive(Clone, Copy)]
+struct Offers {
     each: [Thread; machine::THREADS],
     n: u8,
-    methods: u8,
-    first: [u8; machine::REGIONS],
+    methods: Methods,
     fronts: u16,
-    index: usize,
-) -> Option<Spot>
-    requires { n ≤ 16 }
-    ensures { index < sum_each n (offered_at each methods fronts)
-        → Picks each n methods first fronts index result }
-{
-    let mut left = index;
-    for t in 0..n {
-        let place = each[usize::from(t)].place;
-        let here = usize::from(offered(place, sets::has(fronts, u32::from(t)), methods));
-        if left < here {
-            return Some(Spot {
-                thread: t,
-                region: region_at(place, left, first),
-            });
-        }
-        left -= here;
+    ghost few: { n ≤ 16 },
+}
+
+impl Offers {
+    // How many frames a thread has.
+    fn of(&self, t: u8) -> usize
+        requires { t < 16 }
+        ensures offers { result ≡ offered_at self.now.each self.now.methods.count self.now.fronts t }
+        ensures small { result < 256 }
+    {
+        let place = self.each[usize::from(t)].place;
+        usize::from(offered(
+            place,
+            sets::has(self.fronts, u32::from(t)),
+            self.methods.count,
+        ))
     }
-    None
+
+    // How many all have.
+    fn count(&self) -> usize
+        ensures { result ≡ sum_each self.now.n (offered_at self.now.each self.now.methods.count self.now.fronts) }
+    {
+        let mut sum: usize = 0;
+        for t in 0..self.n {
+            sum += self.of(t);
+        }
+        sum
+    }
+
+    // The frame at an index: those of the threads before are passed over.
+    fn pick(&self, index: usize) -> Option<Spot>
+        ensures { index < sum_each self.now.n (offered_at self.now.each self.now.methods.count self.now.fronts)
+            → Picks self.now.each self.now.n self.now.methods.count self.now.methods.first self.now.fronts index result }
+    {
+        let mut left = index;
+        for t in 0..self.n {
+            let here = self.of(t);
+            if left < here {
+                let place = self.each[usize::from(t)].place;
+                return Some(Spot {
+                    thread: t,
+                    region: region_at(place, left, self.methods.first),
+                });
+            }
+            left -= here;
+        }
+        None
+    }
 }
 
 // The waiters that may resume: the first on each guard that holds.
@@ -177,17 +194,16 @@ pub fn choose(
     }
     let fronts = fronts_of(run, holds, guard_of, no_entries);
     let known = n.min(machine::THREAD_END);
-    let all = count(each, known, methods.count, fronts);
+    let offers = Offers {
+        each,
+        n: known,
+        methods,
+        fronts,
+    };
+    let all = offers.count();
     if all == 0 {
         return None;
     }
-    let spot = pick(
-        each,
-        known,
-        methods.count,
-        first,
-        fronts,
-        draw as usize % all,
-    )?;
+    let spot = offers.pick(draw as usize % all)?;
     Some(frame_at(run.state, spot, holds, guard_of))
 }

@@ -22,9 +22,16 @@ use Rattle.answers.specs.Says.{Is, answer_of}
 use Rattle.answers.specs.declared.Answer as code
 use Rattle.run.specs.Results.{NoRecord, Runs}
 use Rattle.run.specs.declared.Running.{Running}
-use Rattle.loader.specs.Loading.{Loads}
+use Rattle.std.specs.Prelude.{⊤, Result, Ok, Err}
+use Rattle.loader.specs.Loading.{Loads, OrRefusal}
 use Rattle.loader.specs.declared.Loaded.{Loaded}
 use Rattle.calls.specs.Results.{start_of}
+
+-- a verdict that is no refusal
+pub is_accepted : (a : code.Answer) (r : Result ⊤ code.Answer) → OrRefusal a tt r → ((b : code.Answer) → r ≡ Err b → ⊥)
+    → a.number ≡ 0
+is_accepted a (Ok u) s none = s.1
+is_accepted a (Err b) s none = absurd (none b refl)
 
 module _ (file : List ℕ) (r : code.Answer) (is : Is r (check file)) where
   pub monitor_of : r.number ≡ 0 → (m : Monitor) × (check file ≡ accepted m)

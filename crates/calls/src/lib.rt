@@ -8,14 +8,13 @@ ghost use Rattle.meaning.specs.Decide.Calls.{place};
 ghost use Rattle.meaning.specs.Points.{points_of};
 ghost use Rattle.meaning.specs.Decide.Load.{load_of};
 ghost use Rattle.demands.specs.Load.{CountFits};
-ghost use Rattle.loader.specs.Loading.{Loads};
+ghost use Rattle.loader.specs.Loading.{Loads, OrRefusal};
 ghost use Rattle.calls.specs.Results.{Places, Points, Makes, Agrees, EntriesOf, start_of};
 
 use answers::{Answer, Refusal};
 use loader::{Loaded, StateRows};
 use machine::StateNumber;
 use run::{Both, Running};
-use stepper::Slices;
 use table::TooShort;
 use waiters::PerMachine;
 
@@ -28,6 +27,18 @@ pub struct Placing {
     pub length: usize,
     pub chosen: u16,
     pub pairs: u16,
+}
+
+impl Placing {
+    // The length of the table, or the refusal.
+    pub fn placed(self) -> Result<usize, Answer>
+        ensures { OrRefusal self.answer self.length result }
+    {
+        match self.answer.number {
+            0 => Ok(self.length),
+            _ => Err(self.answer),
+        }
+    }
 }
 
 // Both machines' answers to a trace, and how many points are written.
@@ -88,16 +99,15 @@ pub fn place_loaded(loaded: Loaded, rows: &StateRows, table: &mut [u8]) -> Placi
     ensures { (file : List ℕ) → Loads file loaded rows.now.kept rows.now.holds rows.now.after
         → Places (place file table.old) result table.new }
 {
-    let verdict = loaded.answer;
-    if verdict.number != 0 {
-        return not_placed(verdict);
+    if let Err(answer) = loaded.verdict() {
+        return not_placed(answer);
     }
     let layout = loaded.layout;
     let entries = entries_of(loaded, rows);
     match table::write_table(&entries, layout.regions, layout.guards, table) {
         Err(TooShort) => not_placed(Answer::from(Refusal::BufferTooShort)),
         Ok(length) => Placing {
-            answer: verdict,
+            answer: loaded.answer,
             length,
             chosen: loaded.choice.chosen,
             pairs: loaded.pairs,
@@ -110,12 +120,11 @@ pub fn start_of(loaded: Loaded) -> usize
     ensures { (file kept holds after : List ℕ) → Loads file loaded kept holds after
         → result ≡ start_of (check file) }
 {
-    let verdict = loaded.answer;
-    if verdict.number != 0 {
-        return 0;
-    }
     let bounds = loaded.bounds;
-    usize::from(variables::number_of(bounds, bounds.starts))
+    match loaded.verdict() {
+        Ok(()) => usize::from(variables::number_of(bounds, bounds.starts)),
+        Err(_) => 0,
+    }
 }
 
 // Both machines over what was loaded of a file: its refusal, or the runs of the trace from a start state.
@@ -123,10 +132,9 @@ pub fn both_loaded(loaded: Loaded, bytes: &[u8], start: usize, rows: &StateRows)
     ensures { (file : List ℕ) → Loads file loaded rows.now.kept rows.now.holds rows.now.after
         → Agrees file bytes.now start result.plain result.table }
 {
-    let verdict = loaded.answer;
-    if verdict.number != 0 {
+    if let Err(answer) = loaded.verdict() {
         return PerMachine::alike(Running {
-            answer: verdict,
+            answer,
             record: run::no_record(),
             of_file: true,
         });
@@ -134,16 +142,8 @@ pub fn both_loaded(loaded: Loaded, bytes: &[u8], start: usize, rows: &StateRows)
     let entries = entries_of(loaded, rows);
     let bounds = loaded.bounds;
     let layout = loaded.layout;
-    run::run_from(
-        bounds,
-        layout,
-        bytes,
-        start,
-        &rows.kept,
-        &rows.holds,
-        &rows.after,
-        &entries,
-    )
+    let slices = run::slices_of(&layout, &rows.holds, &rows.after, &entries);
+    run::run_from(bounds, bytes, start, &rows.kept, &slices)
 }
 
 // One answer for both machines, and no point.
@@ -168,9 +168,8 @@ pub fn points_loaded(
     ensures { (file : List ℕ) → Loads file loaded rows.now.kept rows.now.holds rows.now.after
         → Points (points_of file bytes.now start out.old) result out.new }
 {
-    let verdict = loaded.answer;
-    if verdict.number != 0 {
-        return no_points(verdict);
+    if let Err(answer) = loaded.verdict() {
+        return no_points(answer);
     }
     if out.len() / point::POINT <= bytes.len() / trace::FRAME {
         return no_points(Answer::from(Refusal::BufferTooShort));
@@ -181,14 +180,13 @@ pub fn points_loaded(
         return no_points(Answer::from(refusal));
     }
     let entries = entries_of(loaded, rows);
+    let slices = run::slices_of(&layout, &rows.holds, &rows.after, &entries);
     let written = points::write_points(
         bounds,
-        layout,
+        layout.guards,
         bytes,
         start as StateNumber,
-        &rows.holds,
-        &rows.after,
-        &entries,
+        &slices,
         out,
     );
     Pointing {
@@ -218,24 +216,16 @@ pub fn load_loaded(
         → CountFits threads
         → Makes (load_of file seed threads wanted out.old) result out.new }
 {
-    let verdict = loaded.answer;
-    if verdict.number != 0 {
-        return not_made(verdict);
+    if let Err(answer) = loaded.verdict() {
+        return not_made(answer);
     }
     if out.len() / trace::FRAME < wanted {
         return not_made(Answer::from(Refusal::BufferTooShort));
     }
     let bounds = loaded.bounds;
     let layout = loaded.layout;
-    let slices = Slices {
-        holds: &rows.holds,
-        after: &rows.after,
-        guard_of: &layout.guard_of,
-        begins: &layout.begins,
-        goes_on: &layout.goes_on,
-        entries: &[0u8; machine::ENTRIES],
-        regions: layout.regions,
-    };
+    let no_entries = [0u8; machine::ENTRIES];
+    let slices = run::slices_of(&layout, &rows.holds, &rows.after, &no_entries);
     let count = generator::make_frames(
         seed,
         threads,
@@ -245,7 +235,7 @@ pub fn load_loaded(
         out,
     );
     Made {
-        answer: verdict,
+        answer: loaded.answer,
         count,
     }
 }

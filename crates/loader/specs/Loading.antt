@@ -18,6 +18,7 @@ use Rattle.mentions.specs.Mentioned.{TouchedSets}
 use Rattle.filling.specs.Filling.{Rows}
 use Rattle.answers.specs.Says.{Is}
 use Rattle.answers.specs.Numbered.{numbered}
+use Rattle.answers.specs.declared.Answer as code
 use Rattle.answers.specs.declared.Refusal.{Refusal}
 use Rattle.loader.specs.declared.Loaded.{Loaded}
 
@@ -60,3 +61,8 @@ LoadsOr file (Err r) kept holds after = Early (numbered r).number × (check file
 abbrev pub number_of : Result Loaded Refusal → ℕ
 number_of (Ok l) = l.answer.number
 number_of (Err r) = (numbered r).number
+
+-- what stands beside an answer where its number is 0, and else the answer, which is a refusal
+abbrev pub OrRefusal : {A : Type 0} → code.Answer → A → Result A code.Answer → Type 0
+OrRefusal a x (Ok y) = (y ≡ x) × (a.number ≡ 0)
+OrRefusal a x (Err b) = (b ≡ a) × (a.number ≡ 0 → ⊥)

@@ -8,7 +8,7 @@ ghost use Rattle.syntax.specs.Token.{Token};
 ghost use Rattle.syntax.specs.Tree.{Monitor};
 ghost use Rattle.judging.specs.Judging.{Past7};
 ghost use Rattle.filling.specs.Filling.{Leaves};
-ghost use Rattle.loader.specs.Loading.{Loads, LoadsOr, number_of};
+ghost use Rattle.loader.specs.Loading.{Loads, LoadsOr, OrRefusal, number_of};
 
 use answers::{Answer, Refusal};
 use choice::Choice;
@@ -28,6 +28,18 @@ pub struct Loaded {
     pub choice: Choice,
     pub touched: [u16; machine::REGIONS],
     pub pairs: u16,
+}
+
+impl Loaded {
+    // The verdict of the file: nothing where it is accepted, else its refusal.
+    pub fn verdict(&self) -> Result<(), Answer>
+        ensures { OrRefusal self.now.answer tt result }
+    {
+        match self.answer.number {
+            0 => Ok(()),
+            _ => Err(self.answer),
+        }
+    }
 }
 
 fn not_loaded(answer: Answer) -> Loaded

@@ -26,20 +26,21 @@ use Rattle.std.specs.Prelude.{None}
 use Rattle.run.specs.declared.frames.Going.{Going}
 use Rattle.run.specs.declared.frames.Ended.{Ended}
 use Rattle.variables.specs.declared.Bounds.{Bounds}
-use Rattle.layout.specs.declared.Layout.{Layout}
 use Rattle.points.specs.Written.{PointsAsked, PointStands, Listed, StopSays, WritesPoints}
 use Rattle.points.proofs.Shown.{at_notices}
 
-module _ {bytes : List ℕ} {s : ℕ} {bounds : Bounds} {layout : Layout} {holds after entries out : List ℕ} {m : Monitor}
-    {kept : List ℕ} {fs : List Frame} (a : PointsAsked bytes s bounds layout holds after entries out m kept fs) where
+module _ {bytes : List ℕ} {s : ℕ} {bounds : Bounds} {count_of_guards : ℕ}
+    {holds after guard_of begins going_on entries : List ℕ} {regions : ℕ} {out : List ℕ} {m : Monitor} {kept : List ℕ}
+    {fs : List Frame}
+    (a : PointsAsked bytes s bounds count_of_guards holds after guard_of begins going_on entries regions out m kept fs) where
   -- before the first point nobody is notified
-  pub stands_first : {g : Going} → Way (model m) s fs g 0 → PointStands m s fs 0 bounds layout.guards holds g 0 0
+  pub stands_first : {g : Going} → Way (model m) s fs g 0 → PointStands m s fs 0 bounds count_of_guards holds g 0 0
   unfolding run notices_at all_idle
   stands_first way = record {
     way = way;
     kept_slice = kept;
     after_slice = after;
-    guard_slice = layout.guard_of;
+    guard_slice = guard_of;
     held = a.asked.held;
     bounded = a.bounded;
     guard_count = a.guard_count;
@@ -66,7 +67,7 @@ module _ {bytes : List ℕ} {s : ℕ} {bounds : Bounds} {layout : Layout} {holds
           absurd (omega arith)
 
   pub stands_next : {g g' : Going} (k : ℕ) → Way (model m) s fs g k → Way (model m) s fs g' (k + 1)
-      → PointStands m s fs (k + 1) bounds layout.guards holds g' g.run.plain g.run.table
+      → PointStands m s fs (k + 1) bounds count_of_guards holds g' g.run.plain g.run.table
   unfolding of_machine
   stands_next {g} {g'} k way next =
       let back : k ≡ k + 1 - 1 = omega arith in
@@ -74,7 +75,7 @@ module _ {bytes : List ℕ} {s : ℕ} {bounds : Bounds} {layout : Layout} {holds
         way = next;
         kept_slice = kept;
         after_slice = after;
-        guard_slice = layout.guard_of;
+        guard_slice = guard_of;
         held = a.asked.held;
         bounded = a.bounded;
         guard_count = a.guard_count;

@@ -11,7 +11,6 @@ use Rattle.digits.specs.Written.{Writes}
 use Rattle.meaning.specs.Points.{point_at, point_count, point_size, stop_answer, notices_at}
 use Rattle.variables.specs.Bounded.{Bounded}
 use Rattle.variables.specs.declared.Bounds.{Bounds}
-use Rattle.layout.specs.declared.Layout.{Layout}
 use Rattle.stepper.specs.Shown.{of_machine}
 use Rattle.run.specs.Way.{Asked, run_of, Way, stop_number, stop_frame}
 use Rattle.run.specs.declared.frames.Going.{Going}
@@ -19,13 +18,11 @@ use Rattle.run.specs.declared.frames.Stop.{Stop}
 use Rattle.points.specs.declared.Written.{Written}
 
 -- what is asked: the slices hold the monitor of a file, the bytes are frames, and the buffer has room for their points
-pub record PointsAsked (bytes : List ℕ) (state : ℕ) (bounds : Bounds) (layout : Layout) (holds after entries out : List ℕ)
-    (m : Monitor) (kept : List ℕ) (fs : List Frame) : Type 0 where
-  pub asked :
-      Asked bytes state holds after layout.guard_of layout.begins layout.goes_on entries layout.regions
-      (model m) kept fs
+pub record PointsAsked (bytes : List ℕ) (state : ℕ) (bounds : Bounds) (count_of_guards : ℕ)
+    (holds after guard_of begins going_on entries : List ℕ) (regions : ℕ) (out : List ℕ) (m : Monitor) (kept : List ℕ) (fs : List Frame) : Type 0 where
+  pub asked : Asked bytes state holds after guard_of begins going_on entries regions (model m) kept fs
   pub bounded : Bounded (vars m) bounds
-  pub guard_count : layout.guards ≡ length (guards m)
+  pub guard_count : count_of_guards ≡ length (guards m)
   pub room : point_size * (length fs + 1) ≤ length out
 
 -- what is known where a point is written: both machines are behind the first k frames, and two sets have each machine's

@@ -11,12 +11,12 @@ ghost use Rattle.points.specs.Written.{PointsAsked, PointStands, Listed, WritesP
 ghost use Rattle.run.specs.Way.{Way};
 ghost use Rattle.meaning.specs.Model.{model};
 
-use layout::Layout;
 use machine::StateNumber;
 use point::{Notices, Point};
 use run::frames::{Going, Stop};
 use stepper::Slices;
 use variables::Bounds;
+use waiters::PerMachine;
 
 // Where each machine stops, and how many points are written.
 #[derive(Clone, Copy)]
@@ -34,11 +34,10 @@ fn write_point(
     guards: usize,
     holds: &[u16; machine::STATES],
     going: Going,
-    plain: u16,
-    table: u16,
+    before: PerMachine<u16>,
 ) -> usize
     ensures { (m : Monitor) (s : ℕ) (fs : List machine.Frame) (k : ℕ)
-        → PointStands m s fs k bounds guards holds.now going plain table
+        → PointStands m s fs k bounds guards holds.now going before.plain before.table
         → at + 49 ≤ length out.old
         → Writes (point_at m s fs k) out.old at result out.new × (length (point_at m s fs k) ≡ 49) }
 {
@@ -48,11 +47,11 @@ fn write_point(
     let turns = point::turn_bytes(run.threads.each);
     let holding = sets::below(holds[(run.state % machine::STATE_END) as usize], guards);
     let now = run.plain;
-    let told = sets::minus(now, plain);
+    let told = sets::minus(now, before.plain);
     let (there, table) = match lost {
         Some(_) => (0, Notices { now: 0, told: 0 }),
         None => {
-            let told = sets::minus(run.table, table);
+            let told = sets::minus(run.table, before.table);
             (
                 1,
                 Notices {
@@ -77,36 +76,25 @@ fn write_point(
 // The points behind the first one, from a place of the buffer on.
 fn write_rest(
     bounds: Bounds,
-    layout: Layout,
+    guards: usize,
     bytes: &[u8],
     first: Going,
-    holds: &[u16; machine::STATES],
-    after: &[StateNumber; machine::AFTER],
-    entries: &[u8; machine::ENTRIES],
+    slices: &Slices,
     out: &mut [u8],
     next: usize,
 ) -> Written
     ensures { (m : Monitor) (kept : List ℕ) (fs : List machine.Frame) (s : ℕ) (before : List ℕ)
-        → PointsAsked bytes.now s bounds layout holds.now after.now
-        entries.now before m kept fs
+        → PointsAsked bytes.now s bounds guards slices.now.holds.now slices.now.after.now slices.now.guard_of.now
+        slices.now.begins.now slices.now.goes_on.now slices.now.entries.now slices.now.regions before m kept fs
         → length before ≡ length out.old
         → Way (model m) s fs first 0 → Listed m s fs 1 before next out.old
         → WritesPoints m s fs result before out.new }
 {
-    let slices = Slices {
-        holds,
-        after,
-        guard_of: &layout.guard_of,
-        begins: &layout.begins,
-        goes_on: &layout.goes_on,
-        entries,
-        regions: layout.regions,
-    };
     let mut going = first;
     let mut to = next;
     let lines = bytes.len().div_ceil(trace::FRAME);
     for k in 0..lines {
-        let passed = run::frames::pass(going, bytes, k * trace::FRAME, k, &slices);
+        let passed = run::frames::pass(going, bytes, k * trace::FRAME, k, slices);
         if let Err(refusal) = passed.answer {
             let count = k + 1;
             return Written {
@@ -119,11 +107,13 @@ fn write_rest(
             out,
             to,
             bounds,
-            layout.guards,
-            holds,
+            guards,
+            slices.holds,
             passed.going,
-            going.run.plain,
-            going.run.table,
+            PerMachine {
+                plain: going.run.plain,
+                table: going.run.table,
+            },
         );
         going = passed.going;
     }
@@ -138,25 +128,22 @@ fn write_rest(
 // The points of a trace whose every line is a frame, from a state with all threads idle.
 pub fn write_points(
     bounds: Bounds,
-    layout: Layout,
+    guards: usize,
     bytes: &[u8],
     state: StateNumber,
-    holds: &[u16; machine::STATES],
-    after: &[StateNumber; machine::AFTER],
-    entries: &[u8; machine::ENTRIES],
+    slices: &Slices,
     out: &mut [u8],
 ) -> Written
     ensures { (m : Monitor) (kept : List ℕ) (fs : List machine.Frame)
-        → PointsAsked bytes.now state bounds layout holds.now after.now
-        entries.now out.old m kept fs
+        → PointsAsked bytes.now state bounds guards slices.now.holds.now slices.now.after.now slices.now.guard_of.now
+        slices.now.begins.now slices.now.goes_on.now slices.now.entries.now slices.now.regions out.old m kept fs
         → WritesPoints m state fs result out.old out.new }
 {
     let first = Going {
         run: stepper::start(state),
         lost: None,
     };
-    let next = write_point(out, 0, bounds, layout.guards, holds, first, 0, 0);
-    write_rest(
-        bounds, layout, bytes, first, holds, after, entries, out, next,
-    )
+    let none = PerMachine::alike(0);
+    let next = write_point(out, 0, bounds, guards, slices.holds, first, none);
+    write_rest(bounds, guards, bytes, first, slices, out, next)
 }

@@ -106,10 +106,9 @@ fn show_tries(rt: &HostRuntime, file: &[u8]) {
     let mut table = [0u8; output::OUTPUT_BYTES];
     let placed = monitor::place(file, &mut table);
     let told = survey::fates_of(file);
-    if placed.answer.number == 0 {
-        show(rt, 0, usize::from(placed.chosen), told.tries);
-    } else {
-        show_answer(rt, placed.answer);
+    match placed.placed() {
+        Ok(_) => show(rt, 0, usize::from(placed.chosen), told.tries),
+        Err(answer) => show_answer(rt, answer),
     }
     for i in 0..told.tries.min(syntax::TRIES) {
         show_fate(rt, told, i);

@@ -131,27 +131,18 @@ fn running_of(bounds: Bounds, stop: Option<Stop>, run: Run, notified: u16) -> Ru
     }
 }
 
-// 11 to 14: a run of a trace over an accepted file's slices, on both machines.
-pub fn run_from(
-    bounds: Bounds,
-    layout: Layout,
-    bytes: &[u8],
-    start: usize,
-    kept: &[u8; machine::STATES],
-    holds: &[u16; machine::STATES],
-    after: &[StateNumber; machine::AFTER],
-    entries: &[u8; machine::ENTRIES],
-) -> Both
-    ensures { (m : Monitor) → Bounded (vars m) bounds → layout.regions ≡ length (regions m)
-        → Held (model m) kept.now holds.now after.now layout.guard_of
-        → HeldPlaces (model m) layout.begins layout.goes_on
-        → HeldEntries (model m) entries.now → Checked (model m)
-        → (w : Bool) → Runs (decided.run_from m (machine_of w) start bytes.now) (of_machine w result.plain result.table) }
+// What was laid out and swept of an accepted file, as a run reads it.
+pub fn slices_of<'a>(
+    layout: &'a Layout,
+    holds: &'a [u16; machine::STATES],
+    after: &'a [StateNumber; machine::AFTER],
+    entries: &'a [u8; machine::ENTRIES],
+) -> Slices<'a>
+    ensures laid { (result.guard_of.now ≡ layout.now.guard_of) × (result.begins.now ≡ layout.now.begins)
+        × (result.goes_on.now ≡ layout.now.goes_on) × (result.regions ≡ layout.now.regions) }
+    ensures swept { (result.holds.now ≡ holds.now) × (result.after.now ≡ after.now) × (result.entries.now ≡ entries.now) }
 {
-    if let Err(refusal) = admit(bounds, bytes, start, kept) {
-        return PerMachine::alike(not_run(refusal));
-    }
-    let slices = Slices {
+    Slices {
         holds,
         after,
         guard_of: &layout.guard_of,
@@ -159,8 +150,27 @@ pub fn run_from(
         goes_on: &layout.goes_on,
         entries,
         regions: layout.regions,
-    };
-    let ended = frames::run_trace(bytes, start as StateNumber, &slices);
+    }
+}
+
+// 11 to 14: a run of a trace over an accepted file's slices, on both machines.
+pub fn run_from(
+    bounds: Bounds,
+    bytes: &[u8],
+    start: usize,
+    kept: &[u8; machine::STATES],
+    slices: &Slices,
+) -> Both
+    ensures { (m : Monitor) → Bounded (vars m) bounds → slices.now.regions ≡ length (regions m)
+        → Held (model m) kept.now slices.now.holds.now slices.now.after.now slices.now.guard_of.now
+        → HeldPlaces (model m) slices.now.begins.now slices.now.goes_on.now
+        → HeldEntries (model m) slices.now.entries.now → Checked (model m)
+        → (w : Bool) → Runs (decided.run_from m (machine_of w) start bytes.now) (of_machine w result.plain result.table) }
+{
+    if let Err(refusal) = admit(bounds, bytes, start, kept) {
+        return PerMachine::alike(not_run(refusal));
+    }
+    let ended = frames::run_trace(bytes, start as StateNumber, slices);
     let last = ended.run;
     PerMachine {
         plain: running_of(bounds, ended.plain, last, last.plain),

@@ -4,9 +4,9 @@ use mathlib.Core.Path.{◌∙◌}
 use Rattle.calls.proofs.Loaded.{no_start, start_at}
 use Rattle.calls.proofs.start_of.Goals as goal
 
-pub returns-then-verdict-ne0 : goal.returns-then-verdict-ne0
-returns-then-verdict-ne0 c file kept holds after loads = no_start loads c.if-verdict-ne0.true
+pub returns-in-Err : goal.returns-in-Err
+returns-in-Err c file kept holds after loads = no_start loads c.in-Err.ensures.1
 
-pub returns : goal.returns
-returns c file kept holds after loads =
-    c.from.ensures ∙ start_at loads c.if-verdict-ne0.false _ c.number_of.ensures.is
+pub returns-in-Ok : goal.returns-in-Ok
+returns-in-Ok c file kept holds after loads =
+    c.from.ensures ∙ start_at loads c.in-Ok.ensures.1 _ c.number_of.ensures.is

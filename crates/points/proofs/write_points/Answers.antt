@@ -18,6 +18,7 @@ returns c m kept fs a =
       table = goes_on refl refl (at_start (model m) true _ fs _ (c.start.ensures true) g);
     } in
     let fits = room a 0 (omega arith) in
-    let put = c.write_point-next.ensures m _ fs 0 (stands_first a way) (omega arith) in
+    let put = c.write_point-next.ensures m _ fs 0
+    (rw (c.alike-none.ensures.0, c.alike-none.ensures.1) (stands_first a way)) (omega arith) in
     c.write_rest.ensures m kept fs _ _ a (omega arith) way
     (listed_first a put.1 put.0)

@@ -13,6 +13,7 @@ abbrev pub invariant-loop-k : goal.invariant-loop-k
 invariant-loop-k l =
     (length l.out ≡ length l.initial.out)
     × ((m : Monitor) (kept : List ℕ) (fs : List Frame) (s : ℕ) (before : List ℕ)
-    → PointsAsked l.bytes s l.bounds l.fn.layout l.holds l.after l.entries before m kept fs → length before ≡ length l.initial.out
+    → PointsAsked l.bytes s l.bounds l.guards l.slices.holds.now l.slices.after.now l.slices.guard_of.now l.slices.begins.now
+    l.slices.goes_on.now l.slices.entries.now l.slices.regions before m kept fs → length before ≡ length l.initial.out
     → Way (model m) s fs l.initial.going 0 → Listed m s fs 1 before l.next l.initial.out
     → Way (model m) s fs l.going l.k × Listed m s fs (l.k + 1) before l.to l.out)

@@ -33,10 +33,10 @@ returns-in-Err c m b n h p t ok w =
 -- the frames, and the end of each machine's run of them
 facts : (c : goal.After-running_of-2) →
     let a = c.args in
-    (m : Monitor) → Bounded (vars m) a.bounds → a.layout.regions ≡ length (regions m)
-    → Held (model m) a.kept.now a.holds.now a.after.now a.layout.guard_of
-    → HeldPlaces (model m) a.layout.begins a.layout.goes_on
-    → HeldEntries (model m) a.entries.now → Checked (model m)
+    (m : Monitor) → Bounded (vars m) a.bounds → a.slices.now.regions ≡ length (regions m)
+    → Held (model m) a.kept.now a.slices.now.holds.now a.slices.now.after.now a.slices.now.guard_of.now
+    → HeldPlaces (model m) a.slices.now.begins.now a.slices.now.goes_on.now
+    → HeldEntries (model m) a.slices.now.entries.now → Checked (model m)
     → (fs : List Frame) × (kept m a.start ≡ true) × (frames_of a.bytes.now ≡ frames fs)
     × ((w : Bool) → StopsAs w (count (vars m)) (stop_in w c.run_trace-ended.result) c.run_trace-ended.result.run
     (run_of (model m) w a.start fs))

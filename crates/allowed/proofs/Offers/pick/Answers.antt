@@ -1,21 +1,20 @@
--- `allowed::pick` meets its contract: behind t turns the frames of the first t threads are passed over.
+-- `Offers::pick` meets its contract: behind t turns the frames of the first t threads are passed over.
 use Prim.Native.Nat.{◌-◌, ◌≤◌, ◌<◌}
 use native.Mathlib.Omega.{arith}
-use mathlib.Core.Path.{◌≡◌, refl, ◌∙◌}
+use mathlib.Core.Path.{◌≡◌, refl}
 use Rattle.threads.specs.Held.{places_of, idle_thread}
 use Rattle.allowed.specs.Offered.{sum_each, offered_at}
 use Rattle.allowed.proofs.Sums.{sum_next}
-use Rattle.allowed.proofs.pick.Goals as goal
+use Rattle.allowed.proofs.Offers.pick.Goals as goal
 
 pub returns-then-left-here : goal.returns-then-left-here
 unfolding offered_at places_of idle_thread
 returns-then-left-here c = λ _.
     let loop = c.loop-t in
     let a = c.args in
-    let f = offered_at a.each a.methods a.fronts in
-    let here : c.from-here.result ≡ f loop.t =
-    c.from-here.ensures ∙ c.offered.ensures ∙ rw (c.from.ensures, c.has.ensures, c.from-in-loop-t.ensures) in
-    let less : loop.left < c.from-here.result = c.if-left-here.true in
+    let f = offered_at a.self.now.each a.self.now.methods.count a.self.now.fronts in
+    let here : c.of-here.result ≡ f loop.t = c.of-here.ensures.offers in
+    let less : loop.left < c.of-here.result = c.if-left-here.true in
     let rest : loop.left ≡ a.index - sum_each loop.t f = omega arith in
     record {
       spot = record { thread = loop.t; region = c.region_at.result };
@@ -33,18 +32,17 @@ unfolding offered_at places_of idle_thread
 loop-t-preserved c =
     let loop = c.loop-t in
     let a = c.args in
-    let f = offered_at a.each a.methods a.fronts in
-    let here : c.from-here.result ≡ f loop.t =
-    c.from-here.ensures ∙ c.offered.ensures ∙ rw (c.from.ensures, c.has.ensures, c.from-in-loop-t.ensures) in
-    let more : c.from-here.result ≤ loop.left = c.if-left-here.false in
+    let f = offered_at a.self.now.each a.self.now.methods.count a.self.now.fronts in
+    let here : c.of-here.result ≡ f loop.t = c.of-here.ensures.offers in
+    let more : c.of-here.result ≤ loop.left = c.if-left-here.false in
     (rw (sum_next loop.t f) (omega arith), omega arith)
 
 pub returns : goal.returns
 returns c = λ h.
     let a = c.args in
-    let past : a.n ≤ c.loop-t.t = c.loop-t-test.false in
-    let e : c.loop-t.t ≡ a.n = omega arith in
-    let z : sum_each a.n (offered_at a.each a.methods a.fronts) ≤ a.index =
+    let past : a.self.now.n ≤ c.loop-t.t = c.loop-t-test.false in
+    let e : c.loop-t.t ≡ a.self.now.n = omega arith in
+    let z : sum_each a.self.now.n (offered_at a.self.now.each a.self.now.methods.count a.self.now.fronts) ≤ a.index =
     rw (← e) (omega arith) in
     absurd (omega arith)
 

@@ -1,8 +1,8 @@
 use Prim.Native.Nat.{◌+◌, ◌≤◌}
 use mathlib.Core.Path.{◌≡◌}
 use Rattle.allowed.specs.Offered.{sum_each, offered_at}
-use Rattle.allowed.proofs.pick.Given as goal
+use Rattle.allowed.proofs.Offers.pick.Given as goal
 
 abbrev pub invariant-loop-t : goal.invariant-loop-t
 invariant-loop-t l =
-    (sum_each l.t (offered_at l.each l.methods l.fronts) + l.left ≡ l.index) × (l.t ≤ l.n)
+    (sum_each l.t (offered_at l.self.each l.self.methods.count l.self.fronts) + l.left ≡ l.index) × (l.t ≤ l.self.n)
