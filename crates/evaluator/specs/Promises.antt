@@ -148,6 +148,10 @@ abbrev pub AtomSum : List ℕ → List ℕ → List ℕ → Bool → List ℕ �
 AtomSum ks values vars minus lanes at sums n =
     (get_or ks n no_kind ≡ kind_of (key k_mod) → ⊥) → TermRead ks values vars minus lanes 0 at sums 0 n
 
+-- a `mod` stands somewhere among the kinds
+abbrev pub HasMod : List ℕ → Type 0
+HasMod ks = (n : ℕ) × (get_or ks n no_kind ≡ kind_of (key k_mod))
+
 -- the test of a comparison mark's kind
 unfoldable pub test_of : ℕ → ℕ → ℕ → Bool
 test_of k a b =

@@ -7,7 +7,7 @@
 // one its comparison or assignment begins again (`compare_mod`, `assign_mod`); where truths are joined, so is a word.
 #![tactic(auto)]
 
-ghost use Rattle.std.specs.Prelude.{◌≡◌, cond, false, List, ◌∷◌, ◌++◌, IfSome, ℕ, ◌+◌, ◌-◌, ◌%◌, ◌<◌, ◌≤◌, drop, length, get_or, set, ℤ};
+ghost use Rattle.std.specs.Prelude.{◌≡◌, cond, false, List, ◌∷◌, ◌++◌, IfSome, IfNone, ℕ, ◌+◌, ◌-◌, ◌%◌, ◌<◌, ◌≤◌, drop, length, get_or, set, ℤ};
 ghost use Rattle.sets.specs.Set.{member};
 ghost use Rattle.syntax.specs.Limits.{most_vars};
 ghost use Rattle.syntax.specs.Token.{Lexeme, key, mark, rbrace, k_if};
@@ -18,7 +18,7 @@ ghost use Rattle.meaning.specs.Decide.Bodies.{run_block};
 ghost use Rattle.meaning.specs.Held.{Biased, Ranges};
 ghost use Rattle.evaluator.specs.Coding.{Codes, EndsCond, RunAs, lane};
 ghost use Rattle.evaluator.specs.Promises.{Placed, Next, Closes, Operand, AtomRead, Small, Adds};
-ghost use Rattle.evaluator.specs.Promises.{Remains, Near, Joined, TermRead, ExprRead, AtomSum, test_of};
+ghost use Rattle.evaluator.specs.Promises.{Remains, Near, Joined, TermRead, ExprRead, AtomSum, HasMod, test_of};
 ghost use Rattle.evaluator.specs.Promises.{CompareRead, CondRead, ConjRead, SimpleRead, Stored, BlockRun};
 ghost use Rattle.evaluator.specs.Promises.{StmtRun, BranchRun};
 
@@ -279,13 +279,14 @@ fn eval_atom(text: &Text<'_>, vars: &[u16; 96], lanes: [u32; 16], taken: bool, a
     }
 }
 
-// An expression, if it has no `mod`.
+// An expression, if it has no `mod`: none only where a `mod` stands.
 // Stays (speed): with one way, `eval_expr`, for both kinds a program that asks 45,000 conditions and runs 20,000 bodies
 // took 167.0 million instructions, and it takes 151.2; before the tokens were a struct it took 155.5.
 fn eval_plain(text: &Text<'_>, vars: &[u16; 96], at: usize) -> Option<Plain>
     requires { Placed text.now.kinds.now at }
-    ensures { IfSome result (λ plain. ExprRead text.now.kinds.now text.now.values.now vars.now at plain.lanes 0
+    ensures plain { IfSome result (λ plain. ExprRead text.now.kinds.now text.now.values.now vars.now at plain.lanes 0
         plain.next) }
+    ensures none { IfNone result (HasMod text.now.kinds.now) }
 {
     let mut lanes = [ZERO; 16];
     let mut taken = false;
@@ -334,11 +335,12 @@ fn compare_mod(text: &Text<'_>, vars: &[u16; 96], at: usize) -> Truth
     }
 }
 
-// A comparison, if it has no `mod`.
+// A comparison, if it has no `mod`: none only where a `mod` stands.
 fn compare_plain(text: &Text<'_>, vars: &[u16; 96], at: usize) -> Option<Truth>
     requires { Placed text.now.kinds.now at }
-    ensures { IfSome result (λ truth. CompareRead text.now.kinds.now text.now.values.now vars.now at truth.holds
+    ensures truth { IfSome result (λ truth. CompareRead text.now.kinds.now text.now.values.now vars.now at truth.holds
         truth.lacks truth.next) }
+    ensures none { IfNone result (HasMod text.now.kinds.now) }
 {
     let one = eval_plain(text, vars, at)?;
     let two = eval_plain(text, vars, text.after(one.next))?;

@@ -107,12 +107,12 @@ run_stmt-assign_mod-requires-clause-no_if t c = λ e. c.if-kind_at-eq-KEY_IF.fal
 
 pub run_stmt-store-requires-clause-near : goal.run_stmt-store-requires-clause-near
 run_stmt-store-requires-clause-near t c =
-    let expr = c.in-Some.ensures in
+    let expr = c.in-Some.ensures.plain in
     near_more expr.near (omega (arith, expr, c.requires.placed))
 
 pub run_stmt-returns : goal.run_stmt-returns
 unfolding kind_of mark_number keyword_number
 run_stmt-returns t c =
     stmt_assign (λ e. c.if-kind_at-eq-KEY_IF.false (c.kind_at.ensures ∙ e)) c.requires.at_in_bounds
-    c.after-second.ensures c.after-third.ensures c.in-Some.ensures c.after.ensures
+    c.after-second.ensures c.after-third.ensures c.in-Some.ensures.plain c.after.ensures
     (c.from-assigned.ensures ∙ c.value_at.ensures) c.store.ensures (λ j l. none_lack c.args.on c.store.result j)

@@ -20,11 +20,15 @@ eval_atom-sum-requires c =
     let inv = c.loop-taken.invariant in
     record { placed = record { within = inv.to; short = c.requires.short }; near = inv.near }
 
-pub returns-in_default : goal.returns-in_default
+pub returns-in_default-clause-plain : goal.returns-in_default-clause-plain
 unfolding kind_of mark_number keyword_number
-returns-in_default c =
+returns-in_default-clause-plain c =
     open_last c.loop-taken.invariant (c.eval_atom-sum.ensures (λ e. omega (arith, c.in_default, c.kind_at.ensures, e)))
     (λ e. omega (arith, c.in_default, c.kind_at.ensures, e)) (λ e. omega (arith, c.in_default, c.kind_at.ensures, e))
+
+pub returns-in-43-clause-none : goal.returns-in-43-clause-none
+unfolding kind_of mark_number keyword_number
+returns-in-43-clause-none c = (c.eval_atom-sum.result.next, (sym c.kind_at.ensures ∙ c.in-43.is))
 
 -- the sign behind an atom, which is then alone
 sign : (c : Joined-kind_at)
