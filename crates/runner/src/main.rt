@@ -28,10 +28,9 @@ fn run_files(rt: &HostRuntime) -> Result<(), (&'static str, io::Error)> {
         stopped.why,
     ))?;
     let mut out = [0u8; output::OUTPUT_BYTES];
-    let end = run(&file, count, &mut File::open(rt, "trace.txt"), &mut out).map_err(|why| (
-        "runner: trace.txt",
-        why,
-    ))?;
+    // Open until the lines are written: the trace may be the pipe that they are written to.
+    let mut trace = File::open(rt, "trace.txt");
+    let end = run(&file, count, &mut trace, &mut out).map_err(|why| ("runner: trace.txt", why))?;
     rt.write_all(&out[..end])
         .map_err(|why| ("runner: standard output", why))
 }
