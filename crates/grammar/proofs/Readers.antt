@@ -93,7 +93,7 @@ rest_drop zero (l ∷ ls) = refl
 rest_drop (suc n) [] = refl
 rest_drop (suc n) (l ∷ ls) = rest_drop n ls
 
-among_below : (low high at : ℕ) (ks : List ℕ) → among low high (drop at ks) ≡ true → at < length ks
+pub among_below : (low high at : ℕ) (ks : List ℕ) → among low high (drop at ks) ≡ true → at < length ks
 unfolding among
 among_below low high zero [] e = let z : ◌≡◌ {A = ℕ} 0 1 = cc in absurd (omega arith)
 among_below low high zero (k ∷ ks) e = omega arith

@@ -187,8 +187,11 @@ fn read_block(kinds: &[u8], at: usize, left: usize) -> Result<usize, Stuck>
     if sees(kinds, at, syntax::RBRACE) {
         return Ok(at);
     }
-    let stmt = read_stmt(kinds, at, less)?;
-    read_block(kinds, stmt, less)
+    // Stays (what may not change): by `?` no operand says where a block stops, so the edit of that would fail for its form alone.
+    match read_stmt(kinds, at, less) {
+        Ok(next) => read_block(kinds, next, less),
+        Err(stuck) => Err(stuck),
+    }
 }
 
 #[cycle(read_block_read_stmt)]

@@ -144,7 +144,7 @@ answered_ok (Ok u) h = refl
 answered_ok (Err r) h = absurd (h r refl)
 
 -- nothing has stopped it before
-lost_first : (lost : Option Stop) (a : Result ⊤ Refusal) (k : ℕ) → stop_number lost ≡ 0 → (answered a ≡ 0 → ⊥)
+pub lost_first : (lost : Option Stop) (a : Result ⊤ Refusal) (k : ℕ) → stop_number lost ≡ 0 → (answered a ≡ 0 → ⊥)
     → (stop_number (lost_by lost a k) ≡ answered a) × (stop_frame (lost_by lost a k) ≡ k)
 unfolding lost_by stop_number stop_frame answered
 lost_first (Some stop) a k z h = absurd (some_number stop.refusal z)
@@ -152,7 +152,7 @@ lost_first None (Ok u) k z h = absurd (h refl)
 lost_first None (Err r) k z h = (refl, refl)
 
 -- it has stopped before, or takes the frame
-lost_kept : (lost : Option Stop) (a : Result ⊤ Refusal) (k : ℕ) → (stop_number lost ≡ 0 → ⊥) → lost_by lost a k ≡ lost
+pub lost_kept : (lost : Option Stop) (a : Result ⊤ Refusal) (k : ℕ) → (stop_number lost ≡ 0 → ⊥) → lost_by lost a k ≡ lost
 unfolding lost_by stop_number
 lost_kept (Some stop) a k h = refl
 lost_kept None a k h = absurd (h refl)

@@ -1,6 +1,6 @@
 -- Blocks and statements meet their contracts: what is left falls.
 use mathlib.Core.Path.{refl}
-use Rattle.grammar.proofs.Readers.{then, stops, ends, done, yes, no, saw, missing, passed, fuelled, spent}
+use Rattle.grammar.proofs.Readers.{then, stops, halts, ends, done, yes, no, saw, missing, passed, fuelled, spent}
 use Rattle.grammar.proofs.KindTests.{by_mark, by_key, took_mark, took_key, took_name}
 use Rattle.syntax.specs.Decide.Reading.{read_block, read_stmt}
 use Rattle.syntax.specs.Token.{lbrace, rbrace, lparen, rparen, semicolon, becomes, k_if, k_else}
@@ -19,19 +19,18 @@ read_block-returns-then-sees t c =
     fuelled read_block c.in_ok-less.ensures
     (yes _ (by_mark rbrace) (rw c.if-sees.true at c.sees.ensures) (done _))
 
-pub read_block-returns-in_err-stmt : goal.read_block-returns-in_err-stmt
+pub read_block-returns-in-Err : goal.read_block-returns-in-Err
 unfolding read_block kind_of mark_number keyword_number
-read_block-returns-in_err-stmt t c =
+read_block-returns-in-Err t c =
     fuelled read_block c.in_ok-less.ensures
-    (no _ (by_mark rbrace) (rw c.if-sees.false at c.sees.ensures)
-    (stops _ c.in_err-stmt.ensures c.from_residual-in_err-stmt.ensures))
+    (no _ (by_mark rbrace) (rw c.if-sees.false at c.sees.ensures) (halts _ c.in-Err.ensures))
 
-pub read_block-returns : goal.read_block-returns
+pub read_block-returns-in-Ok : goal.read_block-returns-in-Ok
 unfolding read_block kind_of mark_number keyword_number
-read_block-returns t c =
+read_block-returns-in-Ok t c =
     fuelled read_block c.in_ok-less.ensures
     (no _ (by_mark rbrace) (rw c.if-sees.false at c.sees.ensures)
-    (then c.in_ok-stmt.ensures λ _. ends _ c.read_block.ensures))
+    (then c.in-Ok.ensures λ _. ends _ c.read_block.ensures))
 
 pub read_stmt-returns-in_err-less : goal.read_stmt-returns-in_err-less
 unfolding read_stmt
